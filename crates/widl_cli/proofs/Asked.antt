@@ -1,29 +1,44 @@
 -- Lemmas on the output of the words.
-use Rattle.std.proofs.Common.{◌≡◌, ℕ, List, ap, subst, inl, inr}
-use Rattle.std.specs.Prelude.{◌⊎◌, Option}
-use Rattle.std.specs.Io.KnownBytes.{append_known}
+use Rattle.std.proofs.Common.{◌≡◌, ℕ, List, refl, sym, subst, inl, inr}
+use Rattle.std.specs.Prelude.{◌⊎◌, ◌≢◌, Option, Some, None}
 use Rattle.widl_trace.specs.Growth.{GrewByPrefix}
 use Rattle.widl_cli.specs.Causes.{fault_of}
-use Rattle.widl_cli.specs.Outputs.{Output, request_output, output_of}
+use Rattle.widl_cli.specs.Outputs.{Output, Answers, Writes, WritesPart, IsRequestOutput, IsOutput}
 use Rattle.widl_cli.specs.Readings.{read_in_order}
 use Rattle.widl_cli.specs.Requests.{request_of, names_of}
 use Rattle.widl_cli.specs.declared.request.Request.{Request}
+use Rattle.widl_cli.specs.declared.status.Status.{Status}
+use Rattle.widl_cli.specs.declared.status.Status.TheVariants as ends
 
--- the output of what the words ask for
-pub asked : (words : List (List ℕ)) (request : Option Request) (told : List (List ℕ × List ℕ)) → request ≡ request_of words
-    → request_output request (read_in_order told (names_of request words)) ≡ output_of words told
-unfolding output_of
-asked words request told is = ap (λ r. request_output r (read_in_order told (names_of r words))) is
+-- the output of a request of the words
+abbrev pub IsAsked : List (List ℕ) → Option Request → List (List ℕ × List ℕ) → Output → Type 0
+IsAsked words request told output = IsRequestOutput request (read_in_order told (names_of request words)) output
 
-pub same_written : (a b : Option (List ℕ)) (o p : Output) → o ≡ p → b ≡ append_known a o.bytes → b ≡ append_known a p.bytes
-same_written a b o p same h = subst (λ q. b ≡ append_known a q.bytes) same h
+-- is the output of the words
+asked : (words : List (List ℕ)) (request : Option Request) (told : List (List ℕ × List ℕ)) (output : Output) → request ≡ request_of words → IsAsked words request told output → IsOutput words told output
+unfolding IsOutput
+asked words request told output is p = subst (λ r. IsAsked words r told output) is p
 
-pub same_torn : (a b : Option (List ℕ)) (o p : Output) → o ≡ p → GrewByPrefix a b o.bytes → GrewByPrefix a b p.bytes
-same_torn a b o p same h = subst (λ q. GrewByPrefix a b q.bytes) same h
+pub writes_asked : (words : List (List ℕ)) (request : Option Request) (told : List (List ℕ × List ℕ)) (a b : Option (List ℕ)) (result : Status) → request ≡ request_of words
+    → Writes (IsAsked words request told) a b result → Writes (IsOutput words told) a b result
+writes_asked words request told a b result is p = record { output = p.output; is = asked words request told p.output is p.is; status = p.status; bytes = p.bytes }
+
+pub part_asked : (words : List (List ℕ)) (request : Option Request) (told : List (List ℕ × List ℕ)) (a b : Option (List ℕ)) → request ≡ request_of words
+    → WritesPart (IsAsked words request told) a b → WritesPart (IsOutput words told) a b
+part_asked words request told a b is p = record { output = p.output; is = asked words request told p.output is p.is; part = p.part }
 
 -- a prefix of the output or of the line of a fault
-pub either_torn : (words : List (List ℕ)) (request : Option Request) (told : List (List ℕ × List ℕ)) → request ≡ request_of words → (a b : Option (List ℕ)) (started : ℕ)
-    → GrewByPrefix a b (request_output request (read_in_order told (names_of request words))).bytes ⊎ GrewByPrefix a b (fault_of (names_of request words) started)
-    → GrewByPrefix a b (output_of words told).bytes ⊎ GrewByPrefix a b (fault_of (names_of (request_of words) words) started)
-either_torn words request told is a b started (inl p) = inl (same_torn a b _ _ (asked words request told is) p)
-either_torn words request told is a b started (inr p) = inr (subst (λ r. GrewByPrefix a b (fault_of (names_of r words) started)) is p)
+pub either_asked : (words : List (List ℕ)) (request : Option Request) (told : List (List ℕ × List ℕ)) (a b : Option (List ℕ)) (started : ℕ) → request ≡ request_of words
+    → WritesPart (IsAsked words request told) a b ⊎ GrewByPrefix a b (fault_of (names_of request words) started)
+    → WritesPart (IsOutput words told) a b ⊎ GrewByPrefix a b (fault_of (names_of (request_of words) words) started)
+either_asked words request told a b started is (inl p) = inl (part_asked words request told a b is p)
+either_asked words request told a b started is (inr p) = inr (subst (λ r. GrewByPrefix a b (fault_of (names_of r words) started)) is p)
+
+-- what was answered without a file
+pub writes_output : (IsIt : Output → Type 0) (output : Output) (a b : Option (List ℕ)) (f h : ℕ) (result : Status) → IsIt output → Answers output a b f h result
+    → result ≢ ends.Memory → result ≢ ends.WriteFault → Writes IsIt a b result
+writes_output IsIt output a b f h result is p m w = record { output = output; is = is; status = p.status m w; bytes = p.wrote m w }
+
+pub writes_part : (IsIt : Output → Type 0) (output : Output) (a b : Option (List ℕ)) (f h : ℕ) (result : Status) → IsIt output → Answers output a b f h result
+    → result ≡ ends.WriteFault → WritesPart IsIt a b
+writes_part IsIt output a b f h result is p e = record { output = output; is = is; part = p.torn e }

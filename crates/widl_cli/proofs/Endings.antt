@@ -1,10 +1,9 @@
 -- Lemmas on how a call ends.
-use Rattle.std.proofs.Common.{◌≡◌, ℕ, ◌-◌, ◌<◌, ◌≤◌, List, [], ◌∷◌, refl, sym, ap, ◌∙◌, subst, arith, inl, inr, cond, true, false}
-use Rattle.std.specs.Prelude.{◌≢◌, ◌⊎◌, Option, Some, nat_lt}
+use Rattle.std.proofs.Common.{◌≡◌, ℕ, ◌-◌, ◌<◌, ◌≤◌, List, [], ◌∷◌, length, refl, sym, ap, ◌∙◌, subst, arith, inl, inr, cond, true, false}
+use Rattle.std.specs.Prelude.{◌≢◌, ◌⊎◌, ◌==◌, ◌&&◌, Option, Some, None, nat_lt, codes}
 use Rattle.std.specs.Io.KnownBytes.{append_known}
 use Rattle.widl_trace.specs.Growth.{GrewByPrefix}
 use Rattle.widl_trace.specs.Lines.{ended}
-use Rattle.widl_trace.proofs.Grows.{prefix_longer}
 use Rattle.widl_folder.specs.Folders.{Counts}
 use Rattle.widl_folder.specs.declared.whole_file.FetchError.{FetchError}
 use Rattle.widl_folder.specs.declared.whole_file.FetchError.TheVariants.{Memory, Missing, Failed, TooLong}
@@ -12,10 +11,11 @@ use Rattle.widl_first_form.specs.declared.planned.Plan.{Plan}
 use Rattle.widl_first_form.specs.declared.planned.Plan.TheVariants.{Unserved, NotScript, Run}
 use Rattle.widl_first_form.specs.declared.step.Step.{Step}
 use Rattle.widl_first_form.specs.Plans.{plan_of}
+use Rattle.widl_cli.specs.declared.finding.Finding.{Finding}
 use Rattle.widl_cli.specs.declared.status.Status.{Status}
 use Rattle.widl_cli.specs.declared.status.Status.TheVariants as ends
 use Rattle.widl_cli.specs.Causes.{Outside, Ends, CountsStarts, last_fault}
-use Rattle.widl_cli.specs.Outputs.{Output, Answers, plan_output, run_output, reading_output, unread_output, fault_line}
+use Rattle.widl_cli.specs.Outputs.{Output, Answers, Answered, last, plan_output, run_output, checked_output, is_served, found_output, IsRunOutput, IsCheckOutput, IsReadingOutput, unread_output, fault_line}
 use Rattle.widl_cli.specs.Readings.{Reading, StopsFor, IsMemory}
 use Rattle.widl_cli.specs.Runs.{end_of}
 use Rattle.widl_cli.specs.Texts.{named}
@@ -45,9 +45,25 @@ plain_plan budget Unserved = tt
 plain_plan budget NotScript = tt
 plain_plan budget (Run steps) = plain_end budget steps
 
-pub plain_run : (budget : ℕ) (texts : List (List ℕ)) → IsPlain (run_output budget texts).status
+plain_run : (budget : ℕ) (texts : List (List ℕ)) → IsPlain (run_output budget texts).status
 unfolding run_output
 plain_run budget texts = plain_plan budget (plan_of (named texts 1) (named texts 0))
+
+plain_checked : (texts : List (List ℕ)) → IsPlain (checked_output texts).status
+unfolding checked_output
+plain_checked texts =
+    elim ((length texts == 1) && is_served (plan_of (named texts 0) [])) as (λ v. IsPlain (cond v (last (codes "accepted") ends.Done) (last (codes "refused later 0 0") ends.Refused)).status)
+    [ true ↦ tt | false ↦ tt ]
+
+plain_found : (found : Option Finding) (others : Output) → IsPlain others.status → IsPlain (found_output found others).status
+plain_found None others plain = plain
+plain_found (Some finding) others plain = tt
+
+pub plain_run_output : (budget : ℕ) (texts : List (List ℕ)) (output : Output) → IsRunOutput budget texts output → IsPlain output.status
+plain_run_output budget texts output p = subst (λ o. IsPlain o.status) (sym p.output_is) (plain_found p.found (run_output budget texts) (plain_run budget texts))
+
+pub plain_check_output : (texts : List (List ℕ)) (output : Output) → IsCheckOutput texts output → IsPlain output.status
+plain_check_output texts output p = subst (λ o. IsPlain o.status) (sym p.output_is) (plain_found p.found (checked_output texts) (plain_checked texts))
 
 pub never : (bad result : Status) → (IsPlain bad → ⊥) → IsPlain result → result ≡ bad → ⊥
 never bad result h p e = h (subst IsPlain e p)
@@ -67,32 +83,48 @@ pub wrote_always : (output : Output) (a b : Option (List ℕ)) (f h : ℕ) (resu
 wrote_always output a b f h result p grew =
     elim (write_or_not result) as (λ _. result ≡ ends.WriteFault) [ inl e ↦ e | inr n ↦ absurd (omega (arith, grew, p.kept n)) ]
 
-torn_same : (a b : Option (List ℕ)) (o p : Output) → o ≡ p → GrewByPrefix a b o.bytes → GrewByPrefix a b p.bytes
-torn_same a b o p same h = subst (λ q. GrewByPrefix a b q.bytes) same h
-
-wrote_same : (a b : Option (List ℕ)) (o p : Output) → o ≡ p → b ≡ append_known a o.bytes → b ≡ append_known a p.bytes
-wrote_same a b o p same h = subst (λ q. b ≡ append_known a q.bytes) same h
-
 -- one of three answers
 three : (result status : Status) → (result ≢ ends.Memory → result ≢ ends.WriteFault → result ≡ status) → (result ≡ ends.WriteFault) ⊎ ((result ≡ status) ⊎ (result ≡ ends.Memory))
 three ends.Memory status h = inr (inr refl)
 three ends.WriteFault status h = inl refl
 three result status h = inr (inl (h (λ e. (cc)) (λ e. (cc))))
 
+-- two statuses that differ
+status_not : {result a b : Status} → result ≡ a → result ≡ b → (a ≡ b → ⊥) → ⊥
+status_not e q n = n (sym e ∙ q)
+
+-- ---- memory was short, and nothing was written
+
+pub memory_ends : (files : Option (List (List ℕ × List ℕ))) (IsIt : List (List ℕ × List ℕ) → Output → Type 0) (names : List (List ℕ)) (old new : Outside) (result : Status)
+    → result ≡ ends.Memory → new.held ≡ old.held → new.sink_faults ≡ old.sink_faults → Ends files IsIt names old new result
+memory_ends files IsIt names old new result is held kept = record {
+  written = λ told files_are m r w. absurd (m is);
+  short = λ e. held;
+  torn = λ told files_are calm e. absurd (status_not is e (λ q. (cc)));
+  torn_fault = λ told files_are counts e. absurd (status_not is e (λ q. (cc)));
+  fault_written = λ counts e. absurd (status_not is e (λ q. (cc)));
+  read_fault = λ e. absurd (status_not is e (λ q. (cc)));
+  missing = λ e. absurd (status_not is e (λ q. (cc)));
+  too_long = λ e. absurd (status_not is e (λ q. (cc)));
+  write_fault = λ e. absurd (status_not is e (λ q. (cc)));
+  write_always = λ grew. absurd (omega (arith, grew, kept));
+  fault_always = λ grew. inr (inr is);
+  miss_always = λ grew. inr (inr is);
+  long_always = λ long. inr (inr is);
+}
+
 -- ---- all files were read
 
-pub read_ends : (files : Option (List (List ℕ × List ℕ))) (output : List (List ℕ × List ℕ) → Output) (names : List (List ℕ)) (old new : Outside) (result : Status) (real : Output)
+one_ends : (files : Option (List (List ℕ × List ℕ))) (IsIt : List (List ℕ × List ℕ) → Output → Type 0) (names : List (List ℕ)) (old new : Outside) (result : Status) (real : Output)
     → Answers real old.held new.held old.sink_faults new.sink_faults result → IsPlain real.status
-    → ((told : List (List ℕ × List ℕ)) → files ≡ Some told → real ≡ output told)
-    → new.faults ≡ old.faults → new.misses ≡ old.misses → new.given ≤ 1048576 → Ends files output names old new result
-read_ends files output names old new result real p plain same faults misses given = record {
-  status = λ told is m r w. p.status m w ∙ ap (λ o. o.status) (same told is);
-  written = λ told is m r w. wrote_same old.held new.held real (output told) (same told is) (p.wrote m w);
-  short = λ told is calm e. torn_same old.held new.held real (output told) (same told is) (p.short e);
-  torn = λ told is calm e. torn_same old.held new.held real (output told) (same told is) (p.torn e);
-  torn_fault = λ told is counts e. inl (torn_same old.held new.held real (output told) (same told is) (p.torn e));
+    → ((told : List (List ℕ × List ℕ)) → files ≡ Some told → IsIt told real)
+    → new.faults ≡ old.faults → new.misses ≡ old.misses → new.given ≤ 1048576 → Ends files IsIt names old new result
+one_ends files IsIt names old new result real p plain same faults misses given = record {
+  written = λ told is m r w. record { output = real; is = same told is; status = p.status m w; bytes = p.wrote m w };
+  short = p.short;
+  torn = λ told is calm e. record { output = real; is = same told is; part = p.torn e };
+  torn_fault = λ told is counts e. inl (record { output = real; is = same told is; part = p.torn e });
   fault_written = λ counts e. absurd (answered_plain real _ _ _ _ result ends.ReadFault p plain (λ q. (cc)) (λ q. (cc)) (λ q. q) e);
-  fault_short = λ counts grew e. absurd (omega (arith, grew, faults));
   read_fault = λ e. absurd (answered_plain real _ _ _ _ result ends.ReadFault p plain (λ q. (cc)) (λ q. (cc)) (λ q. q) e);
   missing = λ e. absurd (answered_plain real _ _ _ _ result ends.Missing p plain (λ q. (cc)) (λ q. (cc)) (λ q. q) e);
   too_long = λ e. absurd (answered_plain real _ _ _ _ result ends.TooLong p plain (λ q. (cc)) (λ q. (cc)) (λ q. q) e);
@@ -103,11 +135,21 @@ read_ends files output names old new result real p plain same faults misses give
   long_always = λ long. absurd (omega (arith, long, given));
 }
 
--- ---- a file was not read
+pub read_ends : (files : Option (List (List ℕ × List ℕ))) (IsIt : List (List ℕ × List ℕ) → Output → Type 0) (names : List (List ℕ)) (old new : Outside) (result : Status) (IsReal : Output → Type 0)
+    → Answered IsReal old.held new.held old.sink_faults new.sink_faults result → ((output : Output) → IsReal output → IsPlain output.status)
+    → ((told : List (List ℕ × List ℕ)) → files ≡ Some told → (output : Output) → IsReal output → IsIt told output)
+    → new.faults ≡ old.faults → new.misses ≡ old.misses → new.given ≤ 1048576 → Ends files IsIt names old new result
+read_ends files IsIt names old new result IsReal (inl p) plain same faults misses given = memory_ends files IsIt names old new result p.0 p.1 p.2
+read_ends files IsIt names old new result IsReal (inr p) plain same faults misses given =
+    one_ends files IsIt names old new result p.0 p.2 (plain p.0 p.1) (λ told is. same told is p.0 p.1) faults misses given
 
--- two statuses that differ
-status_not : {result a b : Status} → result ≡ a → result ≡ b → (a ≡ b → ⊥) → ⊥
-status_not e q n = n (sym e ∙ q)
+-- a call that reads files and then answers them never answers usage
+pub never_usage : (IsReal : Output → Type 0) (a b : Option (List ℕ)) (f h : ℕ) (result : Status) → Answered IsReal a b f h result → ((output : Output) → IsReal output → IsPlain output.status)
+    → result ≡ ends.Usage → ⊥
+never_usage IsReal a b f h result (inl p) plain e = status_not p.0 e (λ q. (cc))
+never_usage IsReal a b f h result (inr p) plain e = answered_plain p.0 a b f h result ends.Usage p.2 (plain p.0 p.1) (λ q. (cc)) (λ q. (cc)) (λ q. q) e
+
+-- ---- a file was not read
 
 -- what is known where a file was not read
 pub record Stopped (files : Option (List (List ℕ × List ℕ))) (reading : List (List ℕ × List ℕ) → Reading) (names : List (List ℕ)) (old new : Outside) (name : List ℕ) (cause : FetchError) : Type 0 where
@@ -122,39 +164,18 @@ pub record Stopped (files : Option (List (List ℕ × List ℕ))) (reading : Lis
 fault_at : (names : List (List ℕ)) (old new : Outside) (name : List ℕ) → named names (new.starts - old.starts - 1) ≡ name → ended (fault_line name) ≡ last_fault names old new
 fault_at names old new name is = ap (λ n. ended (fault_line n)) (sym is)
 
-nothing_more : (a b : Option (List ℕ)) (bytes : List ℕ) → GrewByPrefix a b [] → GrewByPrefix a b bytes
-nothing_more a b bytes p = prefix_longer a b [] bytes p
-
-pub stopped_ends : (files : Option (List (List ℕ × List ℕ))) (go : List (List ℕ) → Output) (reading : List (List ℕ × List ℕ) → Reading) (names : List (List ℕ)) (old new : Outside)
+pub stopped_ends : (files : Option (List (List ℕ × List ℕ))) (P : List (List ℕ) → Output → Type 0) (reading : List (List ℕ × List ℕ) → Reading) (names : List (List ℕ)) (old new : Outside)
     (name : List ℕ) (cause : FetchError) (result : Status) → Stopped files reading names old new name cause
     → Answers (unread_output cause name) old.held new.held old.sink_faults new.sink_faults result → (IsMemory cause → result ≡ ends.Memory)
-    → Ends files (λ told. reading_output go (reading told)) names old new result
-stopped_ends files go reading names old new name (Memory e) result s p memory =
-    let is_memory : result ≡ ends.Memory = memory tt in record {
-      status = λ told is m r w. absurd (m is_memory);
-      written = λ told is m r w. absurd (m is_memory);
-      short = λ told is calm e. nothing_more _ _ _ (p.short is_memory);
-      torn = λ told is calm e. absurd (status_not is_memory e (λ q. (cc)));
-      torn_fault = λ told is counts e. absurd (status_not is_memory e (λ q. (cc)));
-      fault_written = λ counts e. absurd (status_not is_memory e (λ q. (cc)));
-      fault_short = λ counts grew e. nothing_more _ _ _ (p.short is_memory);
-      read_fault = λ e. absurd (status_not is_memory e (λ q. (cc)));
-      missing = λ e. absurd (status_not is_memory e (λ q. (cc)));
-      too_long = λ e. absurd (status_not is_memory e (λ q. (cc)));
-      write_fault = p.rose;
-      write_always = wrote_always _ _ _ _ _ result p;
-      fault_always = λ grew. inr (inr is_memory);
-      miss_always = λ grew. inr (inr is_memory);
-      long_always = λ long. inr (inr is_memory);
-    }
-stopped_ends files go reading names old new name Failed result s p memory = record {
-  status = λ told is m r w. absurd (r (p.status m w));
+    → Ends files (λ told. IsReadingOutput P (reading told)) names old new result
+stopped_ends files P reading names old new name (Memory e) result s p memory =
+    memory_ends files _ names old new result (memory tt) (p.short (memory tt)) (p.kept (λ w. status_not (memory tt) w (λ q. (cc))))
+stopped_ends files P reading names old new name Failed result s p memory = record {
   written = λ told is m r w. absurd (r (p.status m w));
-  short = λ told is calm e. absurd (calm (s.faults.rose refl));
+  short = p.short;
   torn = λ told is calm e. absurd (calm (s.faults.rose refl));
   torn_fault = λ told is counts e. inr (subst (GrewByPrefix old.held new.held) (fault_at names old new name (s.named counts)) (p.torn e));
   fault_written = λ counts e. subst (λ l. new.held ≡ append_known old.held l) (fault_at names old new name (s.named counts)) (p.wrote (λ q. status_not e q (λ u. (cc))) (λ q. status_not e q (λ u. (cc))));
-  fault_short = λ counts grew e. subst (GrewByPrefix old.held new.held) (fault_at names old new name (s.named counts)) (p.short e);
   read_fault = λ e. s.faults.rose refl;
   missing = λ e. absurd (status_not e (p.status (λ q. status_not e q (λ u. (cc))) (λ q. status_not e q (λ u. (cc)))) (λ u. (cc)));
   too_long = λ e. absurd (status_not e (p.status (λ q. status_not e q (λ u. (cc))) (λ q. status_not e q (λ u. (cc)))) (λ u. (cc)));
@@ -164,14 +185,12 @@ stopped_ends files go reading names old new name Failed result s p memory = reco
   miss_always = λ grew. absurd (omega (arith, grew, s.misses.kept (λ e. (cc))));
   long_always = λ long. absurd (omega (arith, long, s.not_failed refl));
 }
-stopped_ends files go reading names old new name Missing result s p memory = record {
-  status = λ told is m r w. p.status m w ∙ ap (λ o. o.status) (missing_same told is);
-  written = λ told is m r w. wrote_same _ _ _ _ (missing_same told is) (p.wrote m w);
-  short = λ told is calm e. torn_same _ _ _ _ (missing_same told is) (p.short e);
-  torn = λ told is calm e. torn_same _ _ _ _ (missing_same told is) (p.torn e);
-  torn_fault = λ told is counts e. inl (torn_same _ _ _ _ (missing_same told is) (p.torn e));
+stopped_ends files P reading names old new name Missing result s p memory = record {
+  written = λ told is m r w. record { output = unread_output Missing name; is = missing_is told is; status = p.status m w; bytes = p.wrote m w };
+  short = p.short;
+  torn = λ told is calm e. record { output = unread_output Missing name; is = missing_is told is; part = p.torn e };
+  torn_fault = λ told is counts e. inl (record { output = unread_output Missing name; is = missing_is told is; part = p.torn e });
   fault_written = λ counts e. absurd (status_not e (p.status (λ q. status_not e q (λ u. (cc))) (λ q. status_not e q (λ u. (cc)))) (λ u. (cc)));
-  fault_short = λ counts grew e. absurd (omega (arith, grew, s.faults.kept (λ q. (cc))));
   read_fault = λ e. absurd (status_not e (p.status (λ q. status_not e q (λ u. (cc))) (λ q. status_not e q (λ u. (cc)))) (λ u. (cc)));
   missing = λ e. s.misses.rose refl;
   too_long = λ e. absurd (status_not e (p.status (λ q. status_not e q (λ u. (cc))) (λ q. status_not e q (λ u. (cc)))) (λ u. (cc)));
@@ -182,16 +201,14 @@ stopped_ends files go reading names old new name Missing result s p memory = rec
   long_always = λ long. absurd (omega (arith, long, s.not_missing refl));
 }
   where
-    missing_same : (told : List (List ℕ × List ℕ)) → files ≡ Some told → unread_output Missing name ≡ reading_output go (reading told)
-    missing_same told is = ap (reading_output go) (sym (s.stops told is))
-stopped_ends files go reading names old new name TooLong result s p memory = record {
-  status = λ told is m r w. p.status m w ∙ ap (λ o. o.status) (long_same told is);
-  written = λ told is m r w. wrote_same _ _ _ _ (long_same told is) (p.wrote m w);
-  short = λ told is calm e. torn_same _ _ _ _ (long_same told is) (p.short e);
-  torn = λ told is calm e. torn_same _ _ _ _ (long_same told is) (p.torn e);
-  torn_fault = λ told is counts e. inl (torn_same _ _ _ _ (long_same told is) (p.torn e));
+    missing_is : (told : List (List ℕ × List ℕ)) → files ≡ Some told → IsReadingOutput P (reading told) (unread_output Missing name)
+    missing_is told is = subst (λ r. IsReadingOutput P r (unread_output Missing name)) (sym (s.stops told is)) refl
+stopped_ends files P reading names old new name TooLong result s p memory = record {
+  written = λ told is m r w. record { output = unread_output TooLong name; is = long_is told is; status = p.status m w; bytes = p.wrote m w };
+  short = p.short;
+  torn = λ told is calm e. record { output = unread_output TooLong name; is = long_is told is; part = p.torn e };
+  torn_fault = λ told is counts e. inl (record { output = unread_output TooLong name; is = long_is told is; part = p.torn e });
   fault_written = λ counts e. absurd (status_not e (p.status (λ q. status_not e q (λ u. (cc))) (λ q. status_not e q (λ u. (cc)))) (λ u. (cc)));
-  fault_short = λ counts grew e. absurd (omega (arith, grew, s.faults.kept (λ q. (cc))));
   read_fault = λ e. absurd (status_not e (p.status (λ q. status_not e q (λ u. (cc))) (λ q. status_not e q (λ u. (cc)))) (λ u. (cc)));
   missing = λ e. absurd (status_not e (p.status (λ q. status_not e q (λ u. (cc))) (λ q. status_not e q (λ u. (cc)))) (λ u. (cc)));
   too_long = λ e. s.long refl;
@@ -202,8 +219,8 @@ stopped_ends files go reading names old new name TooLong result s p memory = rec
   long_always = λ long. three result ends.TooLong p.status;
 }
   where
-    long_same : (told : List (List ℕ × List ℕ)) → files ≡ Some told → unread_output TooLong name ≡ reading_output go (reading told)
-    long_same told is = ap (reading_output go) (sym (s.stops told is))
+    long_is : (told : List (List ℕ × List ℕ)) → files ≡ Some told → IsReadingOutput P (reading told) (unread_output TooLong name)
+    long_is told is = subst (λ r. IsReadingOutput P r (unread_output TooLong name)) (sym (s.stops told is)) refl
 
 -- the same answer, by an equal name
 pub answers_named : (cause : FetchError) (name other : List ℕ) → name ≡ other → (a b : Option (List ℕ)) (f h : ℕ) (result : Status)

@@ -3,6 +3,7 @@ use Rattle.std.proofs.Common.{◌≡◌, ℕ, ◌+◌, ◌-◌, ◌<◌, ◌≤�
 use Rattle.std.specs.Prelude.{Option, Some, None, slice_get}
 use Rattle.std.proofs.Math.Seq.{drop-cons}
 use Rattle.std.proofs.lemmas.Bool.Decides.{nat_tests}
+use Rattle.std.proofs.lemmas.List.{length_push}
 use Rattle.std.proofs.lemmas.Option.{get_or_from_slice_get}
 use Rattle.widl_folder.specs.Files.{file_at}
 use Rattle.widl_folder.specs.Folders.{IsTooLong, next_count}
@@ -10,7 +11,7 @@ use Rattle.widl_folder.specs.declared.whole_file.FetchError.{FetchError}
 use Rattle.widl_folder.specs.declared.whole_file.FetchError.TheVariants.{Memory, Missing, Failed, TooLong}
 use Rattle.std.specs.Prelude.{IsNone, IsSome, IfSome}
 use Rattle.widl_cli.specs.Readings.{Reading, AllRead, MissingFile, LongFile, with_texts, file_then, read_in_order, StopsFor, Reads, starts_after}
-use Rattle.widl_cli.specs.Texts.{named}
+use Rattle.widl_cli.specs.Texts.{named, AreShort}
 
 -- the word at a place is its name
 pub named_here : (words : List (List ℕ)) (i : ℕ) (word : List ℕ) → slice_get words i ≡ Some word → named words i ≡ word
@@ -57,6 +58,21 @@ one_read files told words old new i whole below is reads so_far =
     so_far ∙ ap (with_texts old) (next_file told words i below ∙ reads.told told is _)
     ∙ with_more old (reads.bytes ∷ []) _ ∙ ap (λ texts. with_texts texts (read_in_order told (drop (i + 1) words))) (sym reads.added)
 
+pub one_more_counted : (old new : List (List ℕ)) (bytes : List ℕ) (i first : ℕ) → first ≤ i → new ≡ old ++ bytes ∷ [] → length old ≡ i - first → length new ≡ i + 1 - first
+one_more_counted old new bytes i first from added counted = let one = ap length added ∙ length_push old bytes in omega (arith, one, counted)
+
+pub short_none : (texts : List (List ℕ)) → texts ≡ [] → AreShort texts
+short_none texts none j = subst (λ l. length (named l j) ≤ 1048576) (sym none) (omega arith)
+
+short_pushed : (old : List (List ℕ)) (bytes : List ℕ) → AreShort old → length bytes ≤ 1048576 → AreShort (old ++ bytes ∷ [])
+short_pushed [] bytes so_far short zero = short
+short_pushed [] bytes so_far short (suc j) = omega arith
+short_pushed (text ∷ texts) bytes so_far short zero = so_far zero
+short_pushed (text ∷ texts) bytes so_far short (suc j) = short_pushed texts bytes (λ k. so_far (suc k)) short j
+
+pub short_more : (old new : List (List ℕ)) (bytes : List ℕ) → new ≡ old ++ bytes ∷ [] → AreShort old → length bytes ≤ 1048576 → AreShort new
+short_more old new bytes added so_far short = subst AreShort (sym added) (short_pushed old bytes so_far short)
+
 -- all were read
 pub all_read : (told : List (List ℕ × List ℕ)) (words texts : List (List ℕ)) (i : ℕ) (whole : Reading) → length words ≤ i
     → whole ≡ with_texts texts (read_in_order told (drop i words)) → whole ≡ AllRead texts
@@ -88,11 +104,11 @@ pub one_start_more : (before middle now i first : ℕ) → first ≤ i → middl
 one_start_more before middle now i first from is next =
     let e : i + 1 - first ≡ suc (i - first) = omega arith in next ∙ ap next_count is ∙ ap (starts_after before) (sym e)
 
--- the file that was started last
-pub last_named : (words : List (List ℕ)) (before now place : ℕ) → 2 ≤ place → place < length words → length words ≤ 66 → before < 18446744073709551000
-    → now ≡ starts_after before (place - 2 + 1) → named (drop 2 words) (now - before - 1) ≡ named words place
-last_named words before now place from within most small is =
-    let counted : starts_after before (place - 2 + 1) ≡ before + (place - 2 + 1) = starts_counted before (place - 2 + 1) (omega arith) in
-    let at : now - before - 1 ≡ place - 2 = omega (arith, is, counted) in
-    let place_is : 2 + (place - 2) ≡ place = omega arith in
-    ap (named (drop 2 words)) at ∙ get_or-drop 2 words (place - 2) [] ∙ ap (named words) place_is
+-- the file that was started last, of those whose names begin at a place
+pub last_named : (words : List (List ℕ)) (first before now place : ℕ) → first ≤ place → place < length words → length words ≤ 66 → before < 18446744073709551000
+    → now ≡ starts_after before (place - first + 1) → named (drop first words) (now - before - 1) ≡ named words place
+last_named words first before now place from within most small is =
+    let counted : starts_after before (place - first + 1) ≡ before + (place - first + 1) = starts_counted before (place - first + 1) (omega arith) in
+    let at : now - before - 1 ≡ place - first = omega (arith, is, counted) in
+    let place_is : first + (place - first) ≡ place = omega arith in
+    ap (named (drop first words)) at ∙ get_or-drop first words (place - first) [] ∙ ap (named words) place_is

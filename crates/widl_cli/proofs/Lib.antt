@@ -2,4 +2,5 @@ mod Asked
 mod Budgets
 mod Endings
 mod Fetches
+mod Found
 mod Runs

@@ -4,7 +4,7 @@ use Rattle.std.specs.Io.KnownBytes.{append_known}
 use Rattle.widl_trace.specs.Causes.{Rose}
 use Rattle.widl_trace.specs.Growth.{GrewByPrefix}
 use Rattle.widl_trace.specs.Lines.{ended}
-use Rattle.widl_cli.specs.Outputs.{Output, fault_line}
+use Rattle.widl_cli.specs.Outputs.{Output, Writes, WritesPart, fault_line}
 use Rattle.widl_cli.specs.Texts.{named}
 use Rattle.widl_cli.specs.declared.status.Status.{Status}
 use Rattle.widl_cli.specs.declared.status.Status.TheVariants as ends
@@ -30,15 +30,15 @@ abbrev pub CountsStarts : Outside → Type 0
 CountsStarts old = old.starts < 18446744073709551000
 
 -- how a call ended that read the named files and then wrote an output that they determine
-pub record Ends (files : Option (List (List ℕ × List ℕ))) (output : List (List ℕ × List ℕ) → Output) (names : List (List ℕ)) (old new : Outside) (result : Status) : Type 0 where
-  pub status : (told : List (List ℕ × List ℕ)) → files ≡ Some told → result ≢ ends.Memory → result ≢ ends.ReadFault → result ≢ ends.WriteFault → result ≡ (output told).status
-  pub written : (told : List (List ℕ × List ℕ)) → files ≡ Some told → result ≢ ends.Memory → result ≢ ends.ReadFault → result ≢ ends.WriteFault → new.held ≡ append_known old.held (output told).bytes
-  pub short : (told : List (List ℕ × List ℕ)) → files ≡ Some told → (Rose old.faults new.faults → ⊥) → result ≡ ends.Memory → GrewByPrefix old.held new.held (output told).bytes
-  pub torn : (told : List (List ℕ × List ℕ)) → files ≡ Some told → (Rose old.faults new.faults → ⊥) → result ≡ ends.WriteFault → GrewByPrefix old.held new.held (output told).bytes
+pub record Ends (files : Option (List (List ℕ × List ℕ))) (IsIt : List (List ℕ × List ℕ) → Output → Type 0) (names : List (List ℕ)) (old new : Outside) (result : Status) : Type 0 where
+  pub written : (told : List (List ℕ × List ℕ)) → files ≡ Some told → result ≢ ends.Memory → result ≢ ends.ReadFault → result ≢ ends.WriteFault
+      → Writes (IsIt told) old.held new.held result
+  pub short : result ≡ ends.Memory → new.held ≡ old.held
+  pub torn : (told : List (List ℕ × List ℕ)) → files ≡ Some told → (Rose old.faults new.faults → ⊥) → result ≡ ends.WriteFault
+      → WritesPart (IsIt told) old.held new.held
   pub torn_fault : (told : List (List ℕ × List ℕ)) → files ≡ Some told → CountsStarts old → result ≡ ends.WriteFault
-      → GrewByPrefix old.held new.held (output told).bytes ⊎ GrewByPrefix old.held new.held (last_fault names old new)
+      → WritesPart (IsIt told) old.held new.held ⊎ GrewByPrefix old.held new.held (last_fault names old new)
   pub fault_written : CountsStarts old → result ≡ ends.ReadFault → new.held ≡ append_known old.held (last_fault names old new)
-  pub fault_short : CountsStarts old → old.faults < new.faults → result ≡ ends.Memory → GrewByPrefix old.held new.held (last_fault names old new)
   pub read_fault : result ≡ ends.ReadFault → Rose old.faults new.faults
   pub missing : result ≡ ends.Missing → Rose old.misses new.misses
   pub too_long : result ≡ ends.TooLong → new.given ≡ 1048577

@@ -1,4 +1,5 @@
 pub mod Causes
+pub mod Findings
 pub mod Outputs
 pub mod Readings
 pub mod Requests

@@ -1,5 +1,5 @@
 -- What is written for the words of a command line over given files, and the status.
-use Rattle.std.specs.Prelude.{◌≡◌, ◌≢◌, ℕ, ◌≤◌, List, [], ◌++◌, Option, Some, None, codes}
+use Rattle.std.specs.Prelude.{◌≡◌, ◌≢◌, ◌⊎◌, ℕ, ◌≤◌, ◌-◌, ◌==◌, ◌&&◌, Bool, true, false, if◌then◌else◌, length, List, [], ◌++◌, Option, Some, None, codes}
 use Rattle.std.specs.Io.KnownBytes.{append_known}
 use Rattle.widl_trace.specs.Causes.{Rose}
 use Rattle.widl_trace.specs.Growth.{GrewByPrefix}
@@ -9,13 +9,15 @@ use Rattle.widl_folder.specs.declared.whole_file.FetchError.TheVariants.{Memory,
 use Rattle.widl_first_form.specs.Plans.{plan_of}
 use Rattle.widl_first_form.specs.declared.planned.Plan as plans
 use Rattle.widl_first_form.specs.declared.planned.Plan.TheVariants as plan
+use Rattle.widl_cli.specs.Findings.{IsFoundIn, finding_line}
 use Rattle.widl_cli.specs.Readings.{Reading, AllRead, MissingFile, LongFile, read_in_order}
 use Rattle.widl_cli.specs.Texts.{named}
 use Rattle.widl_cli.specs.Requests.{request_of, names_of}
 use Rattle.widl_cli.specs.Runs.{written, end_of}
+use Rattle.widl_cli.specs.declared.finding.Finding.{Finding}
 use Rattle.widl_cli.specs.declared.help.TheConstants.{HELP, VERSION}
 use Rattle.widl_cli.specs.declared.request.Request as requests
-use Rattle.widl_cli.specs.declared.request.Request.TheVariants.{Help, Version, Run}
+use Rattle.widl_cli.specs.declared.request.Request.TheVariants.{Help, Version, Check, Run}
 use Rattle.widl_cli.specs.declared.status.Status.{Status}
 use Rattle.widl_cli.specs.declared.status.Status.TheVariants as ends
 
@@ -47,21 +49,65 @@ long_line name = codes "too long " ++ name
 unfoldable pub fault_line : List ℕ → List ℕ
 fault_line name = codes "read fault " ++ name
 
+-- one fragment of the first form is accepted, and any other set is refused until more is served
+abbrev pub is_served : plans.Plan → Bool
+is_served plan.Unserved = false
+is_served plan.NotScript = true
+is_served (plan.Run steps) = true
+
+unfoldable pub checked_output : List (List ℕ) → Output
+checked_output texts =
+    if (length texts == 1) && is_served (plan_of (named texts 0) []) then last (codes "accepted") ends.Done else last (codes "refused later 0 0") ends.Refused
+
+-- the first fault is named; where there is none, other things are written
+abbrev pub found_output : Option Finding → Output → Output
+found_output None others = others
+found_output (Some finding) others = last (finding_line finding) ends.Refused
+
+-- what is written for texts of which those from a place on are the fragments
+pub record IsFoundOutput (texts : List (List ℕ)) (first : ℕ) (others output : Output) : Type 0 where
+  pub found : Option Finding
+  pub found_is : IsFoundIn texts first (length texts - first) found
+  pub output_is : output ≡ found_output found others
+
+-- the fragments are all texts
+abbrev pub IsCheckOutput : List (List ℕ) → Output → Type 0
+IsCheckOutput texts output = IsFoundOutput texts 0 (checked_output texts) output
+
+-- the first text is the script, the others are the fragments
+abbrev pub IsRunOutput : ℕ → List (List ℕ) → Output → Type 0
+IsRunOutput budget texts output = IsFoundOutput texts 1 (run_output budget texts) output
+
 -- the first file that isn't there or is too long is named
-abbrev pub reading_output : (List (List ℕ) → Output) → Reading → Output
-reading_output go (AllRead texts) = go texts
-reading_output go (MissingFile name) = last (missing_line name) ends.Missing
-reading_output go (LongFile name) = last (long_line name) ends.TooLong
+abbrev pub IsReadingOutput : (List (List ℕ) → Output → Type 0) → Reading → Output → Type 0
+IsReadingOutput P (AllRead texts) output = P texts output
+IsReadingOutput P (MissingFile name) output = output ≡ last (missing_line name) ends.Missing
+IsReadingOutput P (LongFile name) output = output ≡ last (long_line name) ends.TooLong
 
-abbrev pub request_output : Option requests.Request → Reading → Output
-request_output None reading = last (codes "usage") ends.Usage
-request_output (Some Help) reading = last HELP.now ends.Done
-request_output (Some Version) reading = last VERSION.now ends.Done
-request_output (Some (Run budget)) reading = reading_output (run_output budget) reading
+abbrev pub IsRequestOutput : Option requests.Request → Reading → Output → Type 0
+IsRequestOutput None reading output = output ≡ last (codes "usage") ends.Usage
+IsRequestOutput (Some Help) reading output = output ≡ last HELP.now ends.Done
+IsRequestOutput (Some Version) reading output = output ≡ last VERSION.now ends.Done
+IsRequestOutput (Some Check) reading output = IsReadingOutput IsCheckOutput reading output
+IsRequestOutput (Some (Run budget)) reading output = IsReadingOutput (IsRunOutput budget) reading output
 
--- the order of causes: the words; the files in the order of reading; the fragment's form; the script's form; the run
-unfoldable pub output_of : List (List ℕ) → List (List ℕ × List ℕ) → Output
-output_of words files = request_output (request_of words) (read_in_order files (names_of (request_of words) words))
+-- the order of causes: the words; the files in the order of reading; the encoding of the fragments; their
+-- grammar; the fragment's form; the script's form; the run
+unfoldable pub IsOutput : List (List ℕ) → List (List ℕ × List ℕ) → Output → Type 0
+IsOutput words files output = IsRequestOutput (request_of words) (read_in_order files (names_of (request_of words) words)) output
+
+-- an output was written whole, and this is its status
+pub record Writes (IsIt : Output → Type 0) (old new : Option (List ℕ)) (result : Status) : Type 0 where
+  pub output : Output
+  pub is : IsIt output
+  pub status : result ≡ output.status
+  pub bytes : new ≡ append_known old output.bytes
+
+-- a prefix of an output was written
+pub record WritesPart (IsIt : Output → Type 0) (old new : Option (List ℕ)) : Type 0 where
+  pub output : Output
+  pub is : IsIt output
+  pub part : GrewByPrefix old new output.bytes
 
 -- what is written where a file wasn't read
 abbrev pub unread_output : FetchError → List ℕ → Output
@@ -78,4 +124,9 @@ pub record Answers (output : Output) (old new : Option (List ℕ)) (before now :
   pub rose : result ≡ ends.WriteFault → Rose before now
   pub kept : result ≢ ends.WriteFault → now ≡ before
   pub torn : result ≡ ends.WriteFault → GrewByPrefix old new output.bytes
-  pub short : result ≡ ends.Memory → GrewByPrefix old new output.bytes
+  pub short : result ≡ ends.Memory → new ≡ old
+
+-- the same for some output, or memory was short before there was one
+abbrev pub Answered : (Output → Type 0) → (old new : Option (List ℕ)) → (before now : ℕ) → Status → Type 0
+Answered IsIt old new before now result =
+    ((result ≡ ends.Memory) × (new ≡ old) × (now ≡ before)) ⊎ ((output : Output) × IsIt output × Answers output old new before now result)

@@ -1,5 +1,5 @@
 -- What comes of reading some named files, one after the other.
-use Rattle.std.specs.Prelude.{◌≡◌, ℕ, zero, suc, nat_lt, List, [], ◌∷◌, ◌++◌, length, Option, Some, None, if◌then◌else◌}
+use Rattle.std.specs.Prelude.{◌≡◌, ℕ, ◌≤◌, zero, suc, nat_lt, List, [], ◌∷◌, ◌++◌, length, Option, Some, None, if◌then◌else◌}
 use Rattle.widl_folder.specs.Files.{file_at}
 use Rattle.widl_folder.specs.Folders.{next_count}
 use Rattle.widl_folder.specs.declared.whole_file.FetchError.{FetchError}
@@ -47,6 +47,7 @@ starts_after before (suc more) = next_count (starts_after before more)
 pub record Reads (files : Option (List (List ℕ × List ℕ))) (name : List ℕ) (old new : List (List ℕ)) : Type 0 where
   pub bytes : List ℕ
   pub added : new ≡ old ++ bytes ∷ []
+  pub short : length bytes ≤ 1048576
   pub told : (told : List (List ℕ × List ℕ)) → files ≡ Some told → (others : Reading) → file_then name (file_at told name) others ≡ with_texts (bytes ∷ []) others
 
 -- one file was not read

@@ -1,6 +1,10 @@
 -- Lists of texts: the words of a command line, or the bytes of some files.
-use Rattle.std.specs.Prelude.{ℕ, List, [], slice_index_or}
+use Rattle.std.specs.Prelude.{ℕ, ◌≤◌, List, [], length, slice_index_or}
 
 -- the text at a place, the empty one past the end
 abbrev pub named : List (List ℕ) → ℕ → List ℕ
 named texts place = slice_index_or texts place []
+
+-- none has more bytes than a file may have
+abbrev pub AreShort : List (List ℕ) → Type 0
+AreShort texts = (j : ℕ) → length (named texts j) ≤ 1048576

@@ -1,17 +1,23 @@
 //! Writing the answer of a request.
 
-ghost use Rattle.std.specs.Prelude.{◌≡◌, ◌≢◌, ◌++◌, Some, IfOk, OnOk, OnErr, length};
+ghost use Rattle.std.specs.Prelude.{◌≡◌, ◌≢◌, ◌≤◌, ◌==◌, ◌&&◌, [], ◌++◌, IfOk, OnOk, OnErr, length};
 ghost use Rattle.std.specs.Io.KnownBytes.{append_known};
 ghost use Rattle.widl_trace.specs.Causes.{HasCause};
 ghost use Rattle.widl_trace.specs.Growth.{GrewByPrefix};
 ghost use Rattle.widl_trace.specs.Lines.{ended};
-ghost use Rattle.widl_cli.specs.Outputs.{plan_output, run_output, unread_output, last, Answers};
+ghost use Rattle.widl_cli.specs.Outputs.{plan_output, run_output, checked_output, is_served, unread_output, last, Answers, Answered, IsCheckOutput, IsRunOutput};
+ghost use Rattle.widl_cli.specs.Findings.{finding_line};
+ghost use Rattle.widl_cli.specs.Texts.{named, AreShort};
+ghost use Rattle.widl_cli.specs.declared.status.Status.TheVariants as ends;
 ghost use Rattle.widl_cli.specs.Readings.{IsMemory};
 ghost use Rattle.widl_first_form.specs.Plans.{plan_of};
 ghost use Rattle.widl_first_form.specs.declared.planned.Plan.TheVariants as plans;
 ghost use Rattle.widl_folder.specs.declared.whole_file.FetchError.TheVariants as causes;
 
 use crate::Status;
+use crate::checking::find_fault;
+use crate::finding::Finding;
+use crate::finding_line::line_of;
 use crate::perform::perform_steps;
 use crate::texts::Texts;
 use std::alloc::{AllocError, Global};
@@ -19,15 +25,78 @@ use widl_first_form::{Plan, Steps, make_plan};
 use widl_folder::FetchError;
 use widl_trace::{Line, Sink, WriteFailed, Writer};
 
+/// Says of some fragments whether they are a valid set.
+pub fn answer_check<K: Sink>(alloc: Global, texts: &Texts, out: &mut K) -> Status
+    requires few { length texts.now ≤ 64 }
+    requires short { AreShort texts.now }
+    ensures { Answered (IsCheckOutput texts.now) (K.held out.old) (K.held out.new) (K.faults out.old) (K.faults out.new) result }
+{
+    match find_fault(alloc, texts, 0) {
+        Err(AllocError) => Status::Memory,
+        Ok(Some(finding)) => answer_finding(alloc, finding, out),
+        Ok(None) => answer_accepted(alloc, texts, out),
+    }
+}
+
 /// Runs a script over a fragment: the first text is the script's, the second the fragment's.
-#[tactic(auto, unfolding(crate::specs::Outputs::run_output))]
 pub fn answer_run<K: Sink>(alloc: Global, budget: u64, texts: &Texts, out: &mut K) -> Status
+    requires few { length texts.now ≤ 65 }
+    requires short { AreShort texts.now }
+    ensures { Answered (IsRunOutput budget texts.now) (K.held out.old) (K.held out.new) (K.faults out.old) (K.faults out.new) result }
+{
+    match find_fault(alloc, texts, 1) {
+        Err(AllocError) => Status::Memory,
+        Ok(Some(finding)) => answer_finding(alloc, finding, out),
+        Ok(None) => answer_script(alloc, budget, texts, out),
+    }
+}
+
+#[tactic(auto, unfolding(crate::specs::Outputs::run_output))]
+fn answer_script<K: Sink>(alloc: Global, budget: u64, texts: &Texts, out: &mut K) -> Status
     ensures { Answers (run_output budget texts.now) (K.held out.old) (K.held out.new) (K.faults out.old) (K.faults out.new) result }
 {
     answer_texts(alloc, budget, texts.named(0), texts.named(1), out)
 }
 
-#[tactic(auto, using(widl_trace::proofs::Grows::prefix_none))]
+/// Names the first fault of the files.
+fn answer_finding<K: Sink>(alloc: Global, finding: Finding, out: &mut K) -> Status
+    ensures { Answers (last (finding_line finding) ends.Refused) (K.held out.old) (K.held out.new) (K.faults out.old) (K.faults out.new) result }
+{
+    match line_of(alloc, finding) {
+        Err(AllocError) => Status::Memory,
+        Ok(line) => last_line(alloc, &line, b"", Status::Refused, out),
+    }
+}
+
+/// Accepts one fragment of the first form, and refuses any other set.
+#[tactic(auto, unfolding(crate::specs::Outputs::checked_output))]
+fn answer_accepted<K: Sink>(alloc: Global, texts: &Texts, out: &mut K) -> Status
+    ensures { Answers (checked_output texts.now) (K.held out.old) (K.held out.new) (K.faults out.old) (K.faults out.new) result }
+{
+    match is_first_form(alloc, texts) {
+        Err(AllocError) => Status::Memory,
+        Ok(true) => last_line(alloc, b"accepted", b"", Status::Done, out),
+        Ok(false) => last_line(alloc, b"refused later 0 0", b"", Status::Refused, out),
+    }
+}
+
+/// Whether the texts are one fragment of the first form.
+fn is_first_form(alloc: Global, texts: &Texts) -> Result<bool, AllocError>
+    ensures { IfOk result (λ answer. answer ≡ ((length texts.now == 1) && is_served (plan_of (named texts.now 0) []))) }
+{
+    let plan = make_plan(alloc, texts.named(0), b"")?;
+    Ok(texts.len() == 1 && is_served(&plan))
+}
+
+fn is_served(plan: &Plan) -> bool
+    ensures { result ≡ is_served plan.now }
+{
+    match plan {
+        Plan::Unserved => false,
+        Plan::NotScript | Plan::Run(_) => true,
+    }
+}
+
 fn answer_texts<K: Sink>(
     alloc: Global,
     budget: u64,
@@ -47,7 +116,6 @@ fn answer_texts<K: Sink>(
     }
 }
 
-#[tactic(auto, using(widl_trace::proofs::Grows::prefix_none))]
 fn run_steps<K: Sink>(alloc: Global, budget: u64, steps: &Steps, out: &mut K) -> Status
     ensures { Answers (plan_output budget (plans.Run steps.now)) (K.held out.old) (K.held out.new) (K.faults out.old) (K.faults out.new) result }
 {
@@ -104,7 +172,6 @@ fn long_line<K: Sink>(alloc: Global, name: &str, out: &mut K) -> Status
 }
 
 /// Writes one line, and answers the status that goes with it.
-#[tactic(auto, using(widl_trace::proofs::Grows::prefix_none))]
 pub fn last_line<K: Sink>(
     alloc: Global,
     front: &[u8],
@@ -113,6 +180,7 @@ pub fn last_line<K: Sink>(
     out: &mut K,
 ) -> Status
     requires plain { status ≢ Status.WriteFault }
+    requires known { status ≢ Status.Memory }
     ensures { Answers (last (front.now ++ name.now) status) (K.held out.old) (K.held out.new) (K.faults out.old) (K.faults out.new) result }
 {
     let Ok(line) = joined_line(alloc, front, name) else {

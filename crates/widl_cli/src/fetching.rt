@@ -3,7 +3,7 @@
 ghost use Rattle.std.specs.Prelude.{◌≡◌, ℕ, ◌+◌, ◌-◌, ◌<◌, ◌≤◌, List, length, drop, Some, IfOk, IfErr, OnOk, IsErrAnd};
 ghost use Rattle.widl_folder.specs.Folders.{Counts, next_count};
 ghost use Rattle.widl_cli.specs.Readings.{read_in_order, AllRead, StopsAt, StopsHere, Reads, starts_after};
-ghost use Rattle.widl_cli.specs.Texts.{named};
+ghost use Rattle.widl_cli.specs.Texts.{named, AreShort};
 ghost use Rattle.widl_folder.specs.declared.whole_file.FetchError.TheVariants as causes;
 
 use crate::Words;
@@ -25,6 +25,8 @@ pub fn fetch_all<F: Folder>(
 ) -> Result<Texts, Unread>
     requires { first < length words.now }
     // What is answered, where the files are told.
+    ensures count { IfOk result (λ texts. length texts ≡ length words.now - first) }
+    ensures short { IfOk result AreShort }
     ensures all { IfOk result (λ texts. (told : List (List ℕ × List ℕ)) → F.files folder.old ≡ Some told → read_in_order told (drop first words.now) ≡ AllRead texts) }
     ensures stops { IfErr result (λ unread. (told : List (List ℕ × List ℕ)) → F.files folder.old ≡ Some told → StopsAt (read_in_order told (drop first words.now)) words.now unread) }
     ensures place { IfErr result (λ unread. (first ≤ unread.place) × (unread.place < length words.now)) }

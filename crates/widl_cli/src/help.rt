@@ -4,6 +4,7 @@
 pub const HELP: &[u8] =
     b"widl reads Web IDL files and a call script, and writes the trace of the calls.
 
+  widl check FILE..            checks 1 to 64 fragments: their encoding and their grammar
   widl run BUDGET SCRIPT IDL   runs a script over a fragment; BUDGET is 1 to 2000000 units
   widl --help                  writes this text
   widl --version               writes the version

@@ -5,7 +5,10 @@
 #![tactic(auto)]
 
 mod answer;
+mod checking;
 mod fetching;
+mod finding;
+mod finding_line;
 mod help;
 mod perform;
 mod reader;

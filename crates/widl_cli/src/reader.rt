@@ -1,7 +1,7 @@
 //! Reading the words of a command line.
 
 ghost use Rattle.std.specs.Prelude.{◌≡◌, ℕ, ◌<◌, ◌≤◌, IfSome, IfNone, length};
-ghost use Rattle.widl_cli.specs.Requests.{request_of, option_of, run_of, budget_of, IsBudget, HasFiles};
+ghost use Rattle.widl_cli.specs.Requests.{request_of, option_of, budget_of, IsBudget, HasFiles};
 
 use crate::Words;
 use crate::request::Request;
@@ -10,36 +10,51 @@ use itoa::Buffer;
 /// The most units of a budget.
 const MOST_UNITS: u64 = 2_000_000;
 
+/// The most fragments that are read at once.
+const MOST_FILES: usize = 64;
+
 /// What the words ask for, if they have one of the shapes.
 #[tactic(auto, unfolding(crate::specs::Requests::request_of))]
 pub fn read_request(words: &Words) -> Option<Request>
     ensures request { result ≡ request_of words.now }
-    ensures files { IfSome result (λ request. HasFiles request → (2 < length words.now) × (length words.now ≤ 66)) }
+    ensures files { IfSome result (λ request. HasFiles request (length words.now)) }
 {
     match words.len() {
+        0 => None,
         1 => read_option(words.at(0).as_str()),
-        4 => read_run(words.at(0).as_str(), words.at(1).as_str()),
-        _ => None,
+        _ => read_command(words),
     }
 }
 
-fn read_option(word: &str) -> Option<Request>
-    ensures { result ≡ option_of word.now }
+/// What the words ask for that name files.
+#[tactic(auto, unfolding(crate::specs::Requests::request_of))]
+fn read_command(words: &Words) -> Option<Request>
+    requires { 1 < length words.now }
+    ensures request { result ≡ request_of words.now }
+    ensures files { IfSome result (λ request. HasFiles request (length words.now)) }
 {
-    if word == "--help" {
-        Some(Request::Help)
-    } else if word == "--version" {
-        Some(Request::Version)
+    let command = words.at(0).as_str();
+    if command == "check" {
+        if words.len() <= MOST_FILES + 1 {
+            Some(Request::Check)
+        } else {
+            None
+        }
+    } else if command == "run" && words.len() == 4 {
+        Some(Request::Run(read_budget(words.at(1).as_str())?))
     } else {
         None
     }
 }
 
-fn read_run(command: &str, budget: &str) -> Option<Request>
-    ensures { result ≡ run_of command.now budget.now }
+fn read_option(word: &str) -> Option<Request>
+    ensures request { result ≡ option_of word.now }
+    ensures files { IfSome result (λ request. (count : ℕ) → HasFiles request count) }
 {
-    if command == "run" {
-        Some(Request::Run(read_budget(budget)?))
+    if word == "--help" {
+        Some(Request::Help)
+    } else if word == "--version" {
+        Some(Request::Version)
     } else {
         None
     }

@@ -7,6 +7,8 @@ pub enum Request {
     Help,
     /// `--version`: the version.
     Version,
+    /// `check`, then 1 to 64 file names: whether the files are a valid set of fragments.
+    Check,
     /// `run BUDGET SCRIPT IDL`: a run of the script over the fragment, with a budget in units.
     Run(u64),
 }

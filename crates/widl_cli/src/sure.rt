@@ -1,7 +1,7 @@
 //! The top call over a folder and a sink that never fail.
 
 ghost use Rattle.std.specs.Prelude.{◌≡◌, ◌≢◌, ℕ, List, Some};
-ghost use Rattle.widl_cli.specs.Outputs.{output_of};
+ghost use Rattle.widl_cli.specs.Outputs.{Output, IsOutput};
 
 use crate::{Folder, Status, SureFolder, Words, widl};
 use std::alloc::Global;
@@ -14,7 +14,7 @@ pub fn widl_surely(
     folder: &mut SureFolder,
     out: &mut SureSink,
 ) -> Status
-    ensures { result ≢ Status.Memory → result ≡ (output_of words.now folder.old.files).status }
+    ensures { result ≢ Status.Memory → (output : Output) × IsOutput words.now folder.old.files output × (result ≡ output.status) }
 {
     widl(alloc, words, folder, out)
 }

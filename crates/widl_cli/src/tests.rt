@@ -188,6 +188,7 @@ fn the_help_names_each_shape_of_words(rt: HostRuntime) -> Result<(), Fail> {
     let text = std::str::from_utf8(out.held())?;
     for shape in [
         "widl run BUDGET SCRIPT IDL ",
+        "widl check FILE.. ",
         "widl --help ",
         "widl --version ",
         "status 0 done",
@@ -201,6 +202,101 @@ fn the_help_names_each_shape_of_words(rt: HostRuntime) -> Result<(), Fail> {
         Status::Done
     );
     Ok(())
+}
+
+/// Checks fragments, and compares the status and the bytes. The names that are missing come last.
+fn expect_check(
+    rt: &impl Abort,
+    alloc: Global,
+    fragments: &[&str],
+    status: Status,
+    text: &str,
+) -> Result<(), Fail> {
+    let names = ["a.idl", "b.idl"];
+    let mut files = Files::new(alloc);
+    for (name, fragment) in names.iter().zip(fragments) {
+        add(alloc, &mut files, name, fragment)?;
+    }
+    let mut folder = MemoryFolder::new(files, Numbers::new(alloc));
+    let mut out = MemorySink::new(alloc, 1_000, 1_000, Numbers::new(alloc))?;
+    let words = words_of(alloc, &["check", "a.idl", "b.idl"])?;
+    assert_eq!(rt; widl(alloc, &words, &mut folder, &mut out), status);
+    assert_eq!(rt; out.held(), text.as_bytes());
+    Ok(())
+}
+
+#[test]
+fn the_least_fault_of_a_set_is_named(rt: HostRuntime) -> Result<(), Fail> {
+    let alloc = rt.alloc();
+    let rows = [
+        ("", "interface I { attribute long", "refused syntax 1 28\n"),
+        (
+            "interface I { attribute long }",
+            "interface",
+            "refused syntax 0 29\n",
+        ),
+        (
+            "typedef sequence<sequence<sequence<sequence<sequence<sequence<sequence<sequence<sequence<sequence<sequence<sequence<sequence<sequence<sequence<sequence<long>>>>>>>>>>>>>>>> T;",
+            "",
+            "refused deep 0 152\n",
+        ),
+        ("", "", "refused later 0 0\n"),
+        (FRAGMENT, FRAGMENT, "refused later 0 0\n"),
+    ];
+    for (first, second, text) in rows {
+        expect_check(&rt, alloc, &[first, second], Status::Refused, text)?;
+    }
+    expect_check(
+        &rt,
+        alloc,
+        &["interface"],
+        Status::Missing,
+        "missing b.idl\n",
+    )
+}
+
+#[test]
+fn the_encoding_of_all_files_comes_before_their_grammar(rt: HostRuntime) -> Result<(), Fail> {
+    let alloc = rt.alloc();
+    let mut files = Files::new(alloc);
+    add(alloc, &mut files, "a.idl", "namespace")?;
+    let bytes = Vec::from_slice(alloc, b"\x80")?;
+    files.push(NamedFile::new(String::from_str(alloc, "b.idl")?, bytes))?;
+    let mut folder = SureFolder::new(files);
+    let mut out = MemorySink::new(alloc, 1_000, 1_000, Numbers::new(alloc))?;
+    let words = words_of(alloc, &["check", "a.idl", "b.idl"])?;
+    assert_eq!(rt; widl(alloc, &words, &mut folder, &mut out), Status::Refused);
+    assert_eq!(rt; out.held(), b"refused utf8 1 0\n".as_slice());
+    let words = words_of(alloc, &["check", "a.idl"])?;
+    let mut out = MemorySink::new(alloc, 1_000, 1_000, Numbers::new(alloc))?;
+    assert_eq!(rt; widl(alloc, &words, &mut folder, &mut out), Status::Refused);
+    assert_eq!(rt; out.held(), b"refused syntax 0 9\n".as_slice());
+    Ok(())
+}
+
+#[test]
+fn one_fragment_of_the_first_form_is_accepted(rt: HostRuntime) -> Result<(), Fail> {
+    let alloc = rt.alloc();
+    let mut folder = SureFolder::new(files_of(alloc, "", FRAGMENT)?);
+    let mut out = MemorySink::new(alloc, 1_000, 1_000, Numbers::new(alloc))?;
+    let words = words_of(alloc, &["check", "n.idl"])?;
+    assert_eq!(rt; widl(alloc, &words, &mut folder, &mut out), Status::Done);
+    assert_eq!(rt; out.held(), b"accepted\n".as_slice());
+    Ok(())
+}
+
+#[test]
+fn a_run_names_the_fault_of_its_fragment(rt: HostRuntime) -> Result<(), Fail> {
+    let text = "refused syntax 0 14\n";
+    expect_run(
+        &rt,
+        rt.alloc(),
+        "5",
+        "namespace N { ] };",
+        "",
+        Status::Refused,
+        text,
+    )
 }
 
 /// The answer and the held bytes of the first run, with one call of the folder that fails.

@@ -4,12 +4,12 @@ ghost use Rattle.std.specs.Prelude.{◌≡◌, ◌≢◌, [], ◌-◌, ◌<◌, 
 ghost use Rattle.std.specs.Io.KnownBytes.{append_known};
 ghost use Rattle.widl_trace.specs.Causes.{Rose};
 ghost use Rattle.widl_trace.specs.Growth.{GrewByPrefix};
-ghost use Rattle.widl_cli.specs.Outputs.{output_of, reading_output, run_output};
+ghost use Rattle.widl_cli.specs.Outputs.{IsOutput, IsReadingOutput, IsCheckOutput, IsRunOutput, Writes, WritesPart};
 ghost use Rattle.widl_cli.specs.Requests.{request_of, names_of};
 ghost use Rattle.widl_cli.specs.Readings.{read_in_order};
 ghost use Rattle.widl_cli.specs.Causes.{Ends, fault_of};
 
-use crate::answer::{answer_run, answer_unread, last_line};
+use crate::answer::{answer_check, answer_run, answer_unread, last_line};
 use crate::fetching::fetch_all;
 use crate::help::{HELP, VERSION};
 use crate::reader::read_request;
@@ -22,11 +22,8 @@ use widl_trace::Sink;
 /// ended.
 pub fn widl<F: Folder, K: Sink>(alloc: Global, words: &Words, folder: &mut F, out: &mut K) -> Status
     // What is answered and written, where the files are told: the defined output.
-    ensures output { (told : List (List ℕ × List ℕ)) → F.files folder.old ≡ Some told
-        → result ≢ Status.Memory → result ≢ Status.ReadFault → result ≢ Status.WriteFault → result ≡ (output_of words.now told).status }
-    ensures written { (told : List (List ℕ × List ℕ)) → F.files folder.old ≡ Some told
-        → result ≢ Status.Memory → result ≢ Status.ReadFault → result ≢ Status.WriteFault
-        → K.held out.new ≡ append_known (K.held out.old) (output_of words.now told).bytes }
+    ensures output { (told : List (List ℕ × List ℕ)) → F.files folder.old ≡ Some told → result ≢ Status.Memory → result ≢ Status.ReadFault → result ≢ Status.WriteFault
+        → Writes (IsOutput words.now told) (K.held out.old) (K.held out.new) result }
 
     // `Usage` comes exactly where the words have no shape.
     ensures usage { result ≡ Status.Usage → request_of words.now ≡ None }
@@ -45,25 +42,47 @@ pub fn widl<F: Folder, K: Sink>(alloc: Global, words: &Words, folder: &mut F, ou
     ensures long_always { names_of (request_of words.now) words.now ≢ [] → F.given folder.new ≡ 1048577
         → (result ≡ Status.WriteFault) ⊎ ((result ≡ Status.TooLong) ⊎ (result ≡ Status.Memory)) }
 
-    // What the sink holds after a failure: a prefix of the defined output, or of the line that names
-    // the file that was started last.
-    ensures short { (told : List (List ℕ × List ℕ)) → F.files folder.old ≡ Some told → (Rose (F.faults folder.old) (F.faults folder.new) → ⊥)
-        → result ≡ Status.Memory → GrewByPrefix (K.held out.old) (K.held out.new) (output_of words.now told).bytes }
+    // What the sink holds after a failure: nothing more after want of memory; else a prefix of the
+    // defined output, or of the line that names the file that was started last.
+    ensures short { result ≡ Status.Memory → K.held out.new ≡ K.held out.old }
     ensures torn { (told : List (List ℕ × List ℕ)) → F.files folder.old ≡ Some told → (Rose (F.faults folder.old) (F.faults folder.new) → ⊥)
-        → result ≡ Status.WriteFault → GrewByPrefix (K.held out.old) (K.held out.new) (output_of words.now told).bytes }
+        → result ≡ Status.WriteFault → WritesPart (IsOutput words.now told) (K.held out.old) (K.held out.new) }
     ensures torn_fault { (told : List (List ℕ × List ℕ)) → F.files folder.old ≡ Some told → F.starts folder.old < 18446744073709551000
-        → result ≡ Status.WriteFault → GrewByPrefix (K.held out.old) (K.held out.new) (output_of words.now told).bytes
+        → result ≡ Status.WriteFault → WritesPart (IsOutput words.now told) (K.held out.old) (K.held out.new)
         ⊎ GrewByPrefix (K.held out.old) (K.held out.new) (fault_of (names_of (request_of words.now) words.now) (F.starts folder.new - F.starts folder.old)) }
     ensures fault_written { F.starts folder.old < 18446744073709551000 → result ≡ Status.ReadFault
         → K.held out.new ≡ append_known (K.held out.old) (fault_of (names_of (request_of words.now) words.now) (F.starts folder.new - F.starts folder.old)) }
-    ensures fault_short { F.starts folder.old < 18446744073709551000 → F.faults folder.old < F.faults folder.new → result ≡ Status.Memory
-        → GrewByPrefix (K.held out.old) (K.held out.new) (fault_of (names_of (request_of words.now) words.now) (F.starts folder.new - F.starts folder.old)) }
 {
     match read_request(words) {
         None => last_line(alloc, b"usage", b"", Status::Usage, out),
         Some(Request::Help) => last_line(alloc, HELP, b"", Status::Done, out),
         Some(Request::Version) => last_line(alloc, VERSION, b"", Status::Done, out),
+        Some(Request::Check) => check_files(alloc, words, folder, out),
         Some(Request::Run(budget)) => run_files(alloc, budget, words, folder, out),
+    }
+}
+
+/// Reads the files of a check, and checks them.
+fn check_files<F: Folder, K: Sink>(
+    alloc: Global,
+    words: &Words,
+    folder: &mut F,
+    out: &mut K,
+) -> Status
+    requires some { 1 < length words.now }
+    requires most { length words.now ≤ 65 }
+    ensures ends { Ends (F.files folder.old) (λ told. IsReadingOutput IsCheckOutput (read_in_order told (drop 1 words.now))) (drop 1 words.now)
+        (record { held = K.held out.old; sink_faults = K.faults out.old; faults = F.faults folder.old; misses = F.misses folder.old; given = F.given folder.old; starts = F.starts folder.old })
+        (record { held = K.held out.new; sink_faults = K.faults out.new; faults = F.faults folder.new; misses = F.misses folder.new; given = F.given folder.new; starts = F.starts folder.new })
+        result }
+    ensures usage { result ≡ Status.Usage → ⊥ }
+{
+    match fetch_all(alloc, folder, words, 1) {
+        Ok(texts) => answer_check(alloc, &texts, out),
+        Err(unread) => {
+            let name = words.at(unread.place).as_str();
+            answer_unread(alloc, unread.cause, name, out)
+        }
     }
 }
 
@@ -75,9 +94,8 @@ fn run_files<F: Folder, K: Sink>(
     folder: &mut F,
     out: &mut K,
 ) -> Status
-    requires some { 2 < length words.now }
-    requires most { length words.now ≤ 66 }
-    ensures ends { Ends (F.files folder.old) (λ told. reading_output (run_output budget) (read_in_order told (drop 2 words.now))) (drop 2 words.now)
+    requires { length words.now ≡ 4 }
+    ensures ends { Ends (F.files folder.old) (λ told. IsReadingOutput (IsRunOutput budget) (read_in_order told (drop 2 words.now))) (drop 2 words.now)
         (record { held = K.held out.old; sink_faults = K.faults out.old; faults = F.faults folder.old; misses = F.misses folder.old; given = F.given folder.old; starts = F.starts folder.old })
         (record { held = K.held out.new; sink_faults = K.faults out.new; faults = F.faults folder.new; misses = F.misses folder.new; given = F.given folder.new; starts = F.starts folder.new })
         result }

@@ -1,4 +1,5 @@
 -- The form of a fragment that is served: one namespace with operations on integers.
+-- Source: Web IDL, "Namespaces", "Operations" and "Integer types".
 use Rattle.std.specs.Prelude.{ℕ, ◌==◌, List, [], ◌∷◌, Bool, true, not, Option, Some, None, ◌&&◌, if◌then◌else◌, option_and_then, map, codes}
 use Rattle.std.specs.List.{list_any, slice_split}
 use Rattle.widl_idl.specs.declared.int_kind.IntKind.{IntKind}

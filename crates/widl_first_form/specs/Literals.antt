@@ -1,4 +1,5 @@
 -- The literals of a script: whole numbers in decimal, of at most 2^53 - 1 in magnitude.
+-- Source: ECMA-262, "Number.MAX_SAFE_INTEGER".
 use Rattle.std.specs.Prelude.{codes, ℕ, ◌+◌, ◌-◌, ◌*◌, ◌==◌, nat_le, List, [], ◌∷◌, Option, Some, None, ◌&&◌, if◌then◌else◌, ℤ, pos, neg_ℤ, option_and_then}
 use Rattle.std.specs.Char.{is_ascii_digit}
 use Rattle.std.specs.List.{slice_split, enumerate_from}

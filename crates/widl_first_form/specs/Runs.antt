@@ -1,4 +1,5 @@
 -- The steps of a run: what each call takes and writes, and the end.
+-- Source: Web IDL, "ConvertToInt", for the values that an operation gets.
 use Rattle.std.specs.Prelude.{ℕ, ◌+◌, List, [], ◌∷◌, ◌++◌, Option, Some, None, codes, map, slice_get, ℤ}
 use Rattle.std.specs.Fmt.{decimal, signed_decimal}
 use Rattle.std.specs.List.{zip}

@@ -1,4 +1,5 @@
 -- Words, names and signs in front of a text, and signs at its end.
+-- Source: Web IDL, "IDL grammar": white space may stand between any two tokens.
 use Rattle.std.specs.Prelude.{ℕ, ◌==◌, List, [], ◌∷◌, Bool, true, not, Option, Some, None, ◌&&◌, ◌||◌, if◌then◌else◌, option_and_then, take, drop, length}
 use Rattle.std.specs.Char.{is_ascii_alphabetic}
 use Rattle.std.specs.List.{list_all}

@@ -75,6 +75,8 @@ pub fn after_sign(text: &[u8], sign: u8) -> Option<&[u8]>
 }
 
 /// What stands before a sign behind which there is nothing but white space.
+///
+/// Behind a sign only the white space that follows is passed, so the time is linear.
 #[tactic(auto, unfolding(crate::specs::Words::before_end_of))]
 pub fn before_end(text: &[u8], sign: u8) -> Option<&[u8]>
     ensures { option_copied result ≡ before_end_of sign text.now }

@@ -1,0 +1,48 @@
+//! The line of a refusal.
+
+ghost use Rattle.std.specs.Prelude.{◌≡◌, IfOk};
+ghost use Rattle.widl_cli.specs.Findings.{finding_line, rule_of, place_of};
+
+use crate::finding::Finding;
+use itoa::Buffer;
+use std::alloc::{AllocError, Global};
+use widl_text::Place;
+
+/// The line `refused RULE FILE OFFSET` of a finding, without its line feed.
+///
+/// # Errors
+///
+/// `AllocError` where there is no memory.
+#[tactic(auto, unfolding(crate::specs::Findings::finding_line))]
+pub fn line_of(alloc: Global, finding: Finding) -> Result<Vec<u8>, AllocError>
+    ensures { IfOk result (λ line. line.items ≡ finding_line finding) }
+{
+    let place = place_of(finding);
+    let mut file = Buffer::new();
+    let mut at = Buffer::new();
+    let mut bytes = Vec::from_slice(alloc, b"refused ")?;
+    bytes.extend_from_slice(rule_of(finding))?;
+    bytes.extend_from_slice(b" ")?;
+    bytes.extend_from_slice(file.format(place.file).as_bytes())?;
+    bytes.extend_from_slice(b" ")?;
+    bytes.extend_from_slice(at.format(place.at).as_bytes())?;
+    Ok(bytes)
+}
+
+fn rule_of(finding: Finding) -> &'static [u8]
+    ensures { result.now ≡ rule_of finding }
+{
+    match finding {
+        Finding::Encoding(_) => b"utf8",
+        Finding::Syntax(_) => b"syntax",
+        Finding::Deep(_) => b"deep",
+    }
+}
+
+fn place_of(finding: Finding) -> Place
+    ensures { result ≡ place_of finding }
+{
+    match finding {
+        Finding::Encoding(place) | Finding::Syntax(place) | Finding::Deep(place) => place,
+    }
+}
