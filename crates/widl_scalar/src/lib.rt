@@ -4,5 +4,8 @@
 #![tactic(auto)]
 
 mod int;
+mod number_to_text;
+mod shortest_digits;
 
 pub use int::{NotInRange, to_int};
+pub use number_to_text::number_text;
