@@ -6,6 +6,8 @@
 mod int;
 mod number_to_text;
 mod shortest_digits;
+mod unit_texts;
 
 pub use int::{NotInRange, to_int};
 pub use number_to_text::number_text;
+pub use unit_texts::{is_byte_text, scalar_text};
