@@ -3,6 +3,7 @@
 //! conversion is its definition in `specs/`.
 #![tactic(auto)]
 
+mod decimal_scale;
 mod int;
 mod number_to_text;
 mod shortest_digits;

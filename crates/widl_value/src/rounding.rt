@@ -64,6 +64,15 @@ pub fn rounds_up(whole: u128, rest: u128, step: u128) -> bool
 mod tests {
     use super::*;
 
+    /// The nearest Number of a v of magnitude at most 2^64.
+    fn rounded(v: i128) -> Option<Number> {
+        if v < -(1 << 64) || v > 1 << 64 {
+            None
+        } else {
+            Some(nearest(v))
+        }
+    }
+
     #[test]
     fn rounds_to_the_nearest_number(rt: HostRuntime) {
         let rows = [
@@ -80,34 +89,36 @@ mod tests {
             (-18_446_744_073_709_551_616, -18_446_744_073_709_551_616),
         ];
         for (v, want) in rows {
-            assert_eq!(rt; nearest(v), Number::Whole(want), "nearest of {v}");
+            assert_eq!(rt; rounded(v), Some(Number::Whole(want)), "nearest of {v}");
         }
     }
 
     #[test]
     fn rounds_the_neighbours_of_powers(rt: HostRuntime) {
+        let mut power: i128 = 1;
         for bits in 0..65 {
-            let power: i128 = 1 << bits;
-            let (below, above) = if bits > 53 {
-                (power, power)
-            } else if bits == 53 {
-                (power - 1, power)
-            } else {
-                (power - 1, power + 1)
-            };
+            let below = power.wrapping_sub(1);
+            let above = power.wrapping_add(1);
+            let rounded_below = if bits > 53 { power } else { below };
+            let rounded_above = if bits >= 53 { power } else { above };
             assert_eq!(rt;
-                nearest(power - 1),
-                Number::Whole(below),
+                rounded(below),
+                Some(Number::Whole(rounded_below)),
                 "below the power {bits}"
             );
-            assert_eq!(rt; nearest(power), Number::Whole(power), "at the power {bits}");
+            assert_eq!(rt;
+                rounded(power),
+                Some(Number::Whole(power)),
+                "at the power {bits}"
+            );
             if bits < 64 {
                 assert_eq!(rt;
-                    nearest(power + 1),
-                    Number::Whole(above),
+                    rounded(above),
+                    Some(Number::Whole(rounded_above)),
                     "above the power {bits}"
                 );
             }
+            power = power.wrapping_mul(2);
         }
     }
 }
