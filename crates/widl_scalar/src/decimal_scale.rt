@@ -1,6 +1,6 @@
 //! The exact values of decimal digits with a power of ten.
 
-ghost use Rattle.std.specs.Prelude.{◌≡◌, ℕ, ◌+◌, ◌*◌, ◌^◌, ◌<◌, ◌≤◌, ◌++◌, min, length};
+ghost use Rattle.std.specs.Prelude.{◌≡◌, ℕ, ◌+◌, ◌*◌, ◌^◌, ◌<◌, ◌≤◌, ◌++◌, min, length, IfSome};
 ghost use Rattle.std.specs.Str.Parse.{AllDigits, digits_value, digits_value_after};
 ghost use Rattle.widl_scalar.specs.DecimalScales.{Scales, Stands, Shift, ExponentMeans};
 
@@ -34,7 +34,8 @@ pub(crate) fn exact_value(whole: &[u16], fraction: &[u16], exponent: Exponent) -
     requires whole { AllDigits 10 whole.now }
     requires fraction { AllDigits 10 fraction.now }
     requires size { exponent.size ≤ 2 ^ 100 }
-    ensures { (up over : ℕ) → ExponentMeans exponent up over → Scales (digits_value 10 (whole.now ++ fraction.now)) up (length fraction.now + over) result }
+    ensures most { IfSome result (λ v. v ≤ 2 ^ 64) }
+    ensures scales { (up over : ℕ) → ExponentMeans exponent up over → Scales (digits_value 10 (whole.now ++ fraction.now)) up (length fraction.now + over) result }
 {
     let start = with_digits(Stripped { kept: 0, zeros: 0 }, whole);
     scaled(
@@ -108,7 +109,8 @@ fn scaled(number: Stripped, tens: u128, exponent: Exponent) -> Option<u128>
     requires zeros { number.zeros ≤ 2 ^ 66 }
     requires tens { tens < 2 ^ 64 }
     requires size { exponent.size ≤ 2 ^ 100 }
-    ensures { (n up over : ℕ) → Stands n number.kept number.zeros → ExponentMeans exponent up over → Scales n up (tens + over) result }
+    ensures most { IfSome result (λ v. v ≤ 2 ^ 64) }
+    ensures scales { (n up over : ℕ) → Stands n number.kept number.zeros → ExponentMeans exponent up over → Scales n up (tens + over) result }
 {
     if number.kept == 0 {
         return Some(0);
