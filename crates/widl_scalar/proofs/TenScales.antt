@@ -42,7 +42,7 @@ ten_some : (e : ℕ) → 1 ≤ 10 ^ e
 ten_some e = one-le-pow e 10 (omega arith)
 
 -- a cut number times a power, cut again
-cut_times : (number kept p : ℕ) → 1 ≤ p → kept ≡ min number (2 ^ 64 + 1) → min (kept * p) (2 ^ 64 + 1) ≡ min (number * p) (2 ^ 64 + 1)
+pub cut_times : (number kept p : ℕ) → 1 ≤ p → kept ≡ min number (2 ^ 64 + 1) → min (kept * p) (2 ^ 64 + 1) ≡ min (number * p) (2 ^ 64 + 1)
 cut_times number kept p some cut = by (cases_lt (2 ^ 64) number)
   where
     by : (2 ^ 64 < number) ⊎ (number ≤ 2 ^ 64) → min (kept * p) (2 ^ 64 + 1) ≡ min (number * p) (2 ^ 64 + 1)

@@ -1,10 +1,10 @@
 //! Texts to numbers.
 
-ghost use Rattle.std.specs.Prelude.{◌≡◌, ℕ, ◌+◌, ◌^◌, ◌<◌, ◌≤◌, length, min, IfSome, IfNone, IsOkAnd, Option, Some, None, codes};
+ghost use Rattle.std.specs.Prelude.{◌≡◌, ℕ, ◌+◌, ◌^◌, ◌<◌, ◌≤◌, length, min, IfSome, IfNone, IsOkAnd, List};
 ghost use Rattle.std.specs.Option.{ForSome};
 ghost use Rattle.std.specs.Str.Parse.{AllDigits, digits_value};
 ghost use Rattle.widl_scalar.specs.DecimalScales.{Scales};
-ghost use Rattle.widl_scalar.specs.Numerals.{Answers, IsUnsigned, Reads, base_of};
+ghost use Rattle.widl_scalar.specs.Numerals.{Answers, Reads, base_of};
 ghost use Rattle.widl_scalar.specs.WhiteSpace.{trimmed};
 ghost use Rattle.widl_scalar.specs.RadixTexts.{IsPrefixCut, ReadsRadix, ReadsUnsigned};
 
@@ -96,8 +96,16 @@ fn radix_number(base: u16, digits: &[u16]) -> Read
     }
     match number_in(base, digits) {
         None => Read::Number(Number::NaN),
-        Some(number) => finite(false, if number > 1 << 64 { None } else { Some(number) }),
+        Some(number) => finite(false, whole_value(number)),
     }
+}
+
+/// The number itself, where it is at most 2^64.
+fn whole_value(number: u128) -> Option<u128>
+    ensures most { IfSome result (λ v. v ≤ 2 ^ 64) }
+    ensures scales { (n : ℕ) → number ≡ min n (2 ^ 64 + 1) → Scales n 0 0 result }
+{
+    if number > 1 << 64 { None } else { Some(number) }
 }
 
 /// The number of these digits, up to one more than 2^64, where all are digits of the base.
