@@ -1,6 +1,5 @@
 -- What is read of a numeral follows from its parts.
-use Rattle.std.proofs.Common.{◌≡◌, ◌≢◌, ℕ, suc, zero, ◌+◌, ◌-◌, ◌*◌, ◌^◌, ◌<◌, ◌≤◌, ◌⊎◌, inl, inr, Bool, true, false, List, [], ◌∷◌, ◌++◌, length, get_or, take, drop, min, Some, None, refl, sym, ap, subst, ◌∙◌, arith}
-use Rattle.std.proofs.lemmas.Bool.{cases_eq, cases_lt}
+use Rattle.std.proofs.Common.{◌≡◌, ◌≢◌, ℕ, suc, zero, ◌+◌, ◌*◌, ◌^◌, ◌<◌, ◌≤◌, ◌⊎◌, inl, inr, Bool, false, List, [], ◌∷◌, ◌++◌, length, get_or, take, drop, min, refl, sym, ap, subst, ◌∙◌, arith}
 use Rattle.std.proofs.lemmas.Int.Digits.{digits_value_more}
 use Rattle.std.proofs.lemmas.List.{length-append}
 use Rattle.std.specs.Char.{digit_value}
@@ -8,9 +7,8 @@ use Rattle.std.specs.Str.Parse.{AllDigits, digits_value}
 use Rattle.widl_value.specs.declared.number.Number.TheVariants as numbers
 use Rattle.widl_scalar.specs.declared.numerals.Read.{Read}
 use Rattle.widl_scalar.specs.declared.numerals.Read.TheVariants as reads
-use Rattle.widl_scalar.specs.DecimalScales.{IsScaled, Scales}
-use Rattle.widl_scalar.specs.NumeralParts.{IsDigitCut, IsFractionCut, IsSignCut, NoDigitFirst}
-use Rattle.widl_scalar.specs.Numerals.{Answers, IsExponent, IsSign, IsTail, IsUnsigned}
+use Rattle.widl_scalar.specs.NumeralParts.{IsDigitCut, IsFractionCut, NoDigitFirst}
+use Rattle.widl_scalar.specs.Numerals.{Answers, IsTail, IsUnsigned}
 use Rattle.widl_scalar.specs.RadixTexts.{ReadsRadix, ReadsUnsigned}
 use Rattle.widl_scalar.proofs.NumeralCuts.{same_run}
 use Rattle.widl_scalar.proofs.TenScales.{cut_times}

@@ -1,9 +1,8 @@
 -- Products with powers of ten.
-use Rattle.std.proofs.Common.{◌≡◌, ℕ, suc, zero, ◌+◌, ◌-◌, ◌*◌, ◌/◌, ◌%◌, ◌^◌, ◌<◌, ◌≤◌, ◌⊎◌, ◌≢◌, inl, inr, min, Bool, true, false, List, [], length, get_or, drop, ◌∷◌, ◌++◌, refl, sym, ap, subst, ◌∙◌, arith}
+use Rattle.std.proofs.Common.{◌≡◌, ℕ, suc, zero, ◌+◌, ◌-◌, ◌*◌, ◌/◌, ◌^◌, ◌<◌, ◌≤◌, ◌⊎◌, ◌≢◌, inl, inr, min, Bool, true, false, List, [], length, get_or, drop, ◌∷◌, ◌++◌, refl, sym, ap, subst, ◌∙◌, arith}
 use Rattle.std.proofs.lemmas.Bool.{cases_lt}
 use Rattle.std.proofs.lemmas.Nat.{pow-add}
 use Rattle.std.proofs.Math.Nat.{mul-le-mul_left, mul-le-mul_right, mul_assoc, mul_comm, mul-div_cancel, pow-suc, pow-le-pow_right, one-le-pow}
-use Rattle.std.proofs.lemmas.Int.Digits.{digits_value_is}
 use Rattle.std.proofs.lemmas.List.{at_drop_all, at_drop_more}
 use Rattle.std.proofs.lemmas.Str.Parse.{digit_at}
 use Rattle.std.specs.Char.{digit_value}

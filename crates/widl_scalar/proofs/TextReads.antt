@@ -1,5 +1,5 @@
 -- What is read of a whole text follows from its front.
-use Rattle.std.proofs.Common.{◌≡◌, ◌≢◌, ℕ, suc, zero, ◌+◌, ◌-◌, ◌*◌, ◌^◌, ◌<◌, ◌≤◌, ◌⊎◌, inl, inr, Bool, true, false, List, [], ◌∷◌, ◌++◌, length, get_or, take, drop, Option, Some, None, refl, sym, ap, subst, ◌∙◌, arith}
+use Rattle.std.proofs.Common.{◌≡◌, ◌≢◌, ℕ, ◌+◌, ◌<◌, ◌≤◌, ◌⊎◌, inl, inr, Bool, true, false, List, [], ◌∷◌, ◌++◌, length, get_or, drop, Option, Some, None, refl, sym, ap, subst, ◌∙◌, arith}
 use Rattle.std.specs.Prelude.{codes, if◌then◌else◌}
 use Rattle.std.proofs.lemmas.Bool.{cases_lt}
 use Rattle.std.proofs.lemmas.Bool.Decides.{nat_tests}
@@ -11,7 +11,7 @@ use Rattle.std.specs.Str.Parse.{AllDigits, digits_value}
 use Rattle.widl_value.specs.declared.number.Number.TheVariants as numbers
 use Rattle.widl_scalar.specs.declared.numerals.Read.{Read}
 use Rattle.widl_scalar.specs.declared.numerals.Read.TheVariants as reads
-use Rattle.widl_scalar.specs.NumeralParts.{IsDigitCut, IsFractionCut, IsSignCut, NoDigitFirst}
+use Rattle.widl_scalar.specs.NumeralParts.{IsDigitCut, IsFractionCut, IsSignCut}
 use Rattle.widl_scalar.specs.Numerals.{Answers, IsDecimal, IsInfinity, IsRadix, IsSign, IsTail, IsUnsigned, Reads, base_of}
 use Rattle.widl_scalar.specs.RadixTexts.{IsPrefixCut, ReadsRadix, ReadsUnsigned}
 use Rattle.widl_scalar.proofs.NumeralCuts.{same_sign, sign_found}

@@ -1,11 +1,11 @@
 -- The texts of whole Numbers.
-use Rattle.std.proofs.Common.{◌≡◌, ℕ, suc, zero, ◌-◌, ◌+◌, ◌*◌, ◌^◌, ◌<◌, ◌≤◌, ◌⊎◌, inl, inr, ℤ, pos, negsuc, refl, sym, ap, subst, ◌∙◌, arith, lit<}
+use Rattle.std.proofs.Common.{◌≡◌, ℕ, suc, zero, ◌^◌, ◌<◌, ◌≤◌, ◌⊎◌, inl, inr, ℤ, pos, negsuc, refl, subst, arith, lit<}
 use Rattle.std.specs.Prelude.{neg_ℤ, unsigned_abs, ◌<ℤ◌}
 use Rattle.std.specs.Fmt.{decimal, signed_decimal}
 use Rattle.std.proofs.lemmas.Bool.{cases_lt}
 use Rattle.std.proofs.lemmas.Fmt.{decimal_digit}
 use Rattle.std.proofs.lemmas.Int.{ints}
-use Rattle.widl_value.specs.Near.{Short, Near, apart}
+use Rattle.widl_value.specs.Near.{Short, Near}
 use Rattle.widl_value.proofs.NearUnique.{near_self, near_unique}
 use Rattle.widl_scalar.specs.ShortestDigits.{Shortest}
 use Rattle.widl_scalar.specs.NumberTexts.{IsSizeText, IsWholeText}

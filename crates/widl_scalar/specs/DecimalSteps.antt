@@ -1,5 +1,5 @@
 -- How the shortest text is found.
-use Rattle.std.specs.Prelude.{◌≡◌, ℕ, suc, ◌+◌, ◌*◌, ◌%◌, ◌^◌, ◌<◌, ◌≤◌, ◌⊎◌}
+use Rattle.std.specs.Prelude.{◌≡◌, ℕ, suc, ◌*◌, ◌^◌, ◌<◌, ◌≤◌, ◌⊎◌}
 use Rattle.widl_value.specs.Near.{Near}
 use Rattle.widl_scalar.specs.ShortestDigits.{Digits}
 

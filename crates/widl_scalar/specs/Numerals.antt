@@ -1,6 +1,6 @@
 -- The numerals of texts, and what is read of each.
 -- Source: ECMA-262, StringNumericLiteral and StringToNumber.
-use Rattle.std.specs.Prelude.{◌≡◌, ◌≢◌, ℕ, ◌+◌, ◌*◌, ◌^◌, ◌<◌, ◌≤◌, ◌⊎◌, ◌==◌, ◌||◌, Bool, true, false, if◌then◌else◌, List, [], ◌∷◌, ◌++◌, length, codes, Option, Some, None, ℤ, pos, neg_ℤ}
+use Rattle.std.specs.Prelude.{◌≡◌, ◌≢◌, ℕ, ◌+◌, ◌^◌, ◌<◌, ◌≤◌, ◌⊎◌, ◌==◌, ◌||◌, Bool, true, false, if◌then◌else◌, List, [], ◌∷◌, ◌++◌, length, codes, Option, Some, None, ℤ, pos, neg_ℤ}
 use Rattle.std.specs.Str.Parse.{AllDigits, digits_value}
 use Rattle.widl_value.specs.declared.number.Number as the
 use Rattle.widl_value.specs.declared.number.Number.TheVariants as numbers

@@ -1,5 +1,5 @@
 -- The shortest decimal text of a short number.
-use Rattle.std.specs.Prelude.{◌≡◌, ◌≢◌, ℕ, suc, ◌+◌, ◌*◌, ◌%◌, ◌^◌, ◌<◌, ◌≤◌}
+use Rattle.std.specs.Prelude.{◌≡◌, ◌≢◌, ℕ, ◌*◌, ◌%◌, ◌^◌, ◌<◌, ◌≤◌}
 use Rattle.widl_value.specs.Near.{Near, apart}
 
 -- w is written with at most n digits and then zeros

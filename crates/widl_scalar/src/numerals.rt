@@ -150,3 +150,200 @@ fn finite(negative: bool, value: Option<u128>) -> Read
         Some(v) => Read::Number(nearest(if negative { -(v as i128) } else { v as i128 })),
     }
 }
+
+#[cfg(test)]
+mod tests {
+    use super::*;
+    use crate::number_to_text::number_text;
+
+    const TOP: i128 = 1 << 64;
+
+    #[test]
+    fn reads_numerals(rt: HostRuntime) -> Result<(), AllocError> {
+        let rows = [
+            ("", 0),
+            (" \t\r\n ", 0),
+            ("0", 0),
+            ("-0", 0),
+            (" 0x1F\n", 31),
+            ("0Xff", 255),
+            ("0o17", 15),
+            ("0B101", 5),
+            ("1e3", 1000),
+            ("1E+2", 100),
+            ("10e-1", 1),
+            ("100000000000000000000000e-22", 10),
+            ("5.", 5),
+            (".5e1", 5),
+            ("+7", 7),
+            ("-12.50e1", -125),
+            ("0e999", 0),
+            ("0.00e-99999999999999999999999999999999999999", 0),
+            ("9007199254740993", 9_007_199_254_740_992),
+            ("0x20000000000003", 9_007_199_254_740_996),
+            ("18446744073709551615", TOP),
+            ("18446744073709551616", TOP),
+            ("-1844674407370955161600e-2", -TOP),
+        ];
+        for (text, want) in rows {
+            let text = Units::of_str(rt.alloc(), text)?;
+            assert_eq!(rt;
+                number_of(rt.alloc(), &text)?,
+                Read::Number(Number::Whole(want)),
+                "{text:?}"
+            );
+        }
+        Ok(())
+    }
+
+    #[test]
+    fn refuses_what_is_outside_the_profile(rt: HostRuntime) -> Result<(), AllocError> {
+        let rows = [
+            "1.5",
+            "-0.1",
+            "1e400",
+            "1e-1",
+            "1e-400",
+            "18446744073709551617",
+            "-18446744073709551617",
+            "0x10000000000000001",
+            "1e99999999999999999999999999999999999999999",
+            "1e-99999999999999999999999999999999999999999",
+        ];
+        for text in rows {
+            let text = Units::of_str(rt.alloc(), text)?;
+            assert_eq!(rt;
+                number_of(rt.alloc(), &text)?,
+                Read::OutOfProfile,
+                "{text:?}"
+            );
+        }
+        Ok(())
+    }
+
+    #[test]
+    fn tells_words(rt: HostRuntime) -> Result<(), AllocError> {
+        let rows = [
+            ("Infinity", Number::PosInf),
+            ("+Infinity", Number::PosInf),
+            (" -Infinity ", Number::NegInf),
+            ("infinity", Number::NaN),
+            ("Infinityx", Number::NaN),
+            ("NaN", Number::NaN),
+            ("0b12", Number::NaN),
+            ("0x", Number::NaN),
+            ("-0x1", Number::NaN),
+            ("1_000", Number::NaN),
+            (".", Number::NaN),
+            ("+", Number::NaN),
+            ("--1", Number::NaN),
+            ("e5", Number::NaN),
+            ("1e", Number::NaN),
+            ("1e+", Number::NaN),
+            ("1e5.", Number::NaN),
+            ("1.2.3", Number::NaN),
+            ("12 34", Number::NaN),
+            ("1n", Number::NaN),
+        ];
+        for (text, want) in rows {
+            let text = Units::of_str(rt.alloc(), text)?;
+            assert_eq!(rt;
+                number_of(rt.alloc(), &text)?,
+                Read::Number(want),
+                "{text:?}"
+            );
+        }
+        Ok(())
+    }
+
+    #[test]
+    fn trims_white_space_of_every_kind(rt: HostRuntime) -> Result<(), AllocError> {
+        let white =
+            "\u{9}\u{A}\u{B}\u{C}\u{D} \u{A0}\u{1680}\u{2000}\u{2001}\u{2002}\u{2003}\u{2004}\u{2005}\u{2006}\u{2007}\u{2008}\u{2009}\u{200A}\u{2028}\u{2029}\u{202F}\u{205F}\u{3000}\u{FEFF}";
+        let text = Units::of_str(
+            rt.alloc(),
+            format!(in rt.alloc(); "{white}7{white}")?.as_str(),
+        )?;
+        assert_eq!(rt;
+            number_of(rt.alloc(), &text)?,
+            Read::Number(Number::Whole(7))
+        );
+        for none in ["\u{180E}7", "7\u{200B}", "\u{85}7", "7\u{8}"] {
+            let text = Units::of_str(rt.alloc(), none)?;
+            assert_eq!(rt;
+                number_of(rt.alloc(), &text)?,
+                Read::Number(Number::NaN),
+                "{text:?}"
+            );
+        }
+        Ok(())
+    }
+
+    /// What is read of the text of the Number nearest to v, which is of magnitude at most 2^64.
+    fn read_back(alloc: Global, v: i128) -> Result<Option<Read>, AllocError> {
+        if v < -TOP || v > TOP {
+            return Ok(None);
+        }
+        let text = number_text(alloc, nearest(v))?;
+        Ok(Some(number_of(alloc, &text)?))
+    }
+
+    #[test]
+    fn reads_back_the_powers_and_their_neighbours(rt: HostRuntime) -> Result<(), AllocError> {
+        let mut power: i128 = 1;
+        for bits in 0..65 {
+            let below = if bits > 53 {
+                power
+            } else {
+                power.wrapping_sub(1)
+            };
+            let above = if bits >= 53 {
+                power
+            } else {
+                power.wrapping_add(1)
+            };
+            for (v, want) in [
+                (power.wrapping_sub(1), below),
+                (power, power),
+                (power.wrapping_add(1), above),
+            ] {
+                if v <= TOP {
+                    let read = read_back(rt.alloc(), v)?;
+                    // The text of 2^64 names a number above it.
+                    let same = if want == TOP {
+                        Read::OutOfProfile
+                    } else {
+                        Read::Number(Number::Whole(want))
+                    };
+                    assert_eq!(rt; read, Some(same), "{v}");
+                }
+            }
+            power = power.wrapping_mul(2);
+        }
+        Ok(())
+    }
+
+    #[test]
+    fn reads_long_texts(rt: HostRuntime) -> Result<(), AllocError> {
+        let mut text = Units::new(rt.alloc());
+        for _ in 0..100_000 {
+            text.push(48)?;
+        }
+        text.push(49)?;
+        assert_eq!(rt;
+            number_of(rt.alloc(), &text)?,
+            Read::Number(Number::Whole(1))
+        );
+        for _ in 0..100_000 {
+            text.push(48)?;
+        }
+        for unit in [101, 45, 57, 57, 57, 57, 57] {
+            text.push(unit)?;
+        }
+        assert_eq!(rt;
+            number_of(rt.alloc(), &text)?,
+            Read::Number(Number::Whole(10))
+        );
+        Ok(())
+    }
+}

@@ -1,8 +1,8 @@
 -- The nearest Number on both sides of 0.
-use Rattle.std.proofs.Common.{◌≡◌, ℕ, suc, zero, ◌-◌, ◌+◌, ◌*◌, ◌^◌, ◌<◌, ◌≤◌, ℤ, pos, negsuc, refl, sym, ap, subst, ◌∙◌, arith, lit<}
+use Rattle.std.proofs.Common.{◌≡◌, ℕ, suc, zero, ◌^◌, ◌≤◌, ℤ, pos, negsuc, refl, sym, ap, subst, ◌∙◌, arith, lit<}
 use Rattle.std.specs.Prelude.{neg_ℤ, unsigned_abs, ◌<ℤ◌, ◌≤ℤ◌}
 use Rattle.std.proofs.lemmas.Int.{ints}
-use Rattle.widl_value.specs.Near.{Short, Near, NearInt, IsWholeNumber, apart}
+use Rattle.widl_value.specs.Near.{Short, Near, NearInt, IsWholeNumber}
 use Rattle.widl_value.proofs.NearUnique.{near_unique}
 
 top_short : Short (2 ^ 64)

@@ -1,7 +1,7 @@
 //! The Number that is nearest to a whole number.
 
 ghost use Rattle.std.specs.Prelude.{◌≡◌, ℕ, ℤ, ◌+◌, ◌*◌, ◌^◌, ◌<◌, ◌≤◌, IsTrue, false, pos, neg_ℤ, ◌≤ℤ◌};
-ghost use Rattle.widl_value.specs.Near.{Near, NearInt, Nearest};
+ghost use Rattle.widl_value.specs.Near.{IsNumber, Near, NearInt, Nearest};
 ghost use Rattle.widl_value.specs.Steps.{Steps, IsUp, IsDown};
 
 use crate::number::Number;
@@ -11,7 +11,8 @@ use crate::number::Number;
 pub fn nearest(v: i128) -> Number
     requires low { neg_ℤ (pos (2 ^ 64)) ≤ℤ v }
     requires high { v ≤ℤ pos (2 ^ 64) }
-    ensures { Nearest v result }
+    ensures nearest { Nearest v result }
+    ensures number { IsNumber result }
 {
     let size = near(v.unsigned_abs()) as i128;
     Number::Whole(if v < 0 { -size } else { size })

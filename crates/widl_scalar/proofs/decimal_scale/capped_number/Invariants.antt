@@ -1,5 +1,4 @@
-use Rattle.std.proofs.Common.{◌≡◌, ℕ, ◌+◌, ◌*◌, ◌^◌, ◌≤◌, length, min}
-use Rattle.std.specs.Str.Parse.{AllDigits, digits_value, digits_value_after}
+use Rattle.std.proofs.Common.{length}
 use Rattle.widl_scalar.proofs.TenScales.{Counted}
 use Rattle.widl_scalar.proofs.decimal_scale.capped_number.Given as goal
 

@@ -1,5 +1,4 @@
-use Rattle.std.proofs.Common.{◌+◌, ◌++◌, arith, length, refl, subst, sym}
-use Rattle.std.specs.Str.Parse.{digits_value}
+use Rattle.std.proofs.Common.{◌+◌, length, subst, sym}
 use Rattle.widl_scalar.specs.DecimalScales.{Scales}
 use Rattle.widl_scalar.proofs.TenScales.{stands_start, value_append}
 use Rattle.widl_scalar.proofs.decimal_scale.exact_value.Goals as goal

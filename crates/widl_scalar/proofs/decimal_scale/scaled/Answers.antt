@@ -1,5 +1,5 @@
 use Rattle.std.proofs.Common.{arith}
-use Rattle.widl_scalar.proofs.TenScales.{none_below, none_past, some_value, zero_value}
+use Rattle.widl_scalar.proofs.TenScales.{none_below, none_past, some_value}
 use Rattle.widl_scalar.proofs.decimal_scale.scaled.Goals as goal
 
 pub returns-then-rise-fall-clause-scales : goal.returns-then-rise-fall-clause-scales

@@ -1,6 +1,6 @@
 use Rattle.std.proofs.Common.{arith}
 use Rattle.std.proofs.lemmas.Str.Parse.{digit_at}
-use Rattle.widl_scalar.proofs.TenScales.{reached_first, reached_last, reached_more}
+use Rattle.widl_scalar.proofs.TenScales.{reached_more}
 use Rattle.widl_scalar.proofs.decimal_scale.with_digits.Goals as goal
 
 pub overflow_sub-unit : goal.overflow_sub-unit

@@ -1,5 +1,5 @@
-use Rattle.std.proofs.Common.{◌≡◌, ◌<◌, ◌≤◌, ◌^◌, ap, ◌∙◌, arith, to_z, of_z}
-use Rattle.std.specs.Prelude.{pos, neg_ℤ, unsigned_abs}
+use Rattle.std.proofs.Common.{◌≡◌, ap, ◌∙◌, arith}
+use Rattle.std.specs.Prelude.{unsigned_abs}
 use mir.Syntax.{w128}
 use Rattle.std.proofs.lemmas.Int.{ints, to_z-of_z}
 use Rattle.widl_scalar.proofs.WholeTexts.{shortest_room, text_above, text_below, text_of_zero}

@@ -1,6 +1,5 @@
 use Rattle.std.proofs.Common.{arith}
 use Rattle.std.proofs.lemmas.Int.Digits.{digits_more}
-use Rattle.widl_scalar.proofs.NumeralCuts.{same_run}
 use Rattle.widl_scalar.proofs.numeral_parts.digits_len.Goals as goal
 
 pub loop-place-preserved : goal.loop-place-preserved

@@ -1,5 +1,4 @@
 use Rattle.std.proofs.Common.{◌≡◌, ◌<◌, ◌⊎◌, arith, drop, get_or, inl, inr, length, subst}
-use Rattle.std.proofs.lemmas.Bool.Decides.{nat_tests}
 use Rattle.std.proofs.lemmas.List.{take_rest}
 use Rattle.widl_scalar.specs.NumeralParts.{IsSignCut}
 use Rattle.widl_scalar.proofs.NumeralCuts.{empty, exponent_found, exponent_means, exponent_none, not_empty}

@@ -1,4 +1,4 @@
-use Rattle.std.proofs.Common.{rules, arith, ◌≡◌, ◌<◌, ◌+◌, ◌*◌, ◌/◌, ◌%◌, sym}
+use Rattle.std.proofs.Common.{sym}
 use Rattle.std.proofs.lemmas.Nat.{div-add-mod', mod_below}
 use Rattle.widl_scalar.proofs.DecimalMultiples.{high_taken, low_taken, none_taken}
 use Rattle.widl_scalar.proofs.shortest_digits.round_at.Goals as goal

@@ -1,4 +1,3 @@
-use Rattle.std.proofs.Common.{rules, arith, ◌≡◌, ◌<◌, ◌+◌, ◌*◌, ◌/◌, ◌%◌, sym}
 use Rattle.widl_scalar.proofs.DecimalMultiples.{digit_first, digit_next, digit_smaller}
 use Rattle.widl_scalar.proofs.shortest_digits.shortest.Goals as goal
 

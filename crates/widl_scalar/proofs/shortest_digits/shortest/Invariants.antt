@@ -1,4 +1,4 @@
-use Rattle.std.proofs.Common.{◌≡◌, ℕ, suc, ◌+◌, ◌*◌, ◌^◌, ◌<◌, ◌≤◌, ◌-◌}
+use Rattle.std.proofs.Common.{◌^◌, ◌-◌}
 use Rattle.widl_scalar.proofs.DecimalMultiples.{Digit}
 use Rattle.widl_scalar.proofs.shortest_digits.shortest.Given as goal
 

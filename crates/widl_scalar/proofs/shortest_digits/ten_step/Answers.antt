@@ -1,4 +1,4 @@
-use Rattle.std.proofs.Common.{rules, arith, ◌≡◌, ◌<◌, ◌+◌, ◌*◌, ◌/◌, ◌%◌, sym}
+use Rattle.std.proofs.Common.{arith}
 use Rattle.widl_scalar.proofs.DecimalMultiples.{tenth_next, tens_of}
 use Rattle.widl_scalar.proofs.shortest_digits.ten_step.Goals as goal
 

@@ -1,4 +1,4 @@
-use Rattle.std.proofs.Common.{◌≡◌, ℕ, ◌+◌, ◌*◌, ◌^◌, ◌<◌, ◌≤◌, ◌-◌}
+use Rattle.std.proofs.Common.{◌^◌, ◌-◌}
 use Rattle.widl_scalar.proofs.DecimalMultiples.{Tenth}
 use Rattle.widl_scalar.proofs.shortest_digits.ten_step.Given as goal
 

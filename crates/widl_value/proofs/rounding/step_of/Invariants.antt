@@ -1,4 +1,4 @@
-use Rattle.std.proofs.Common.{◌≡◌, ℕ, ◌+◌, ◌*◌, ◌^◌, ◌<◌, ◌≤◌, ◌-◌}
+use Rattle.std.proofs.Common.{◌-◌}
 use Rattle.widl_value.proofs.ShortNumbers.{Half}
 use Rattle.widl_value.proofs.rounding.step_of.Given as goal
 
