@@ -3,6 +3,16 @@
 //! conversion is its definition in `specs/`.
 #![tactic(auto)]
 
+mod decimal_scale;
 mod int;
+mod number_to_text;
+mod numeral_parts;
+mod numerals;
+mod shortest_digits;
+mod unit_texts;
+mod white_space;
 
 pub use int::{NotInRange, to_int};
+pub use number_to_text::number_text;
+pub use numerals::{Read, number_of};
+pub use unit_texts::{is_byte_text, scalar_text};

@@ -1,6 +1,6 @@
 -- Which texts and keys are array indices.
 -- Source: ECMA-262, "array index".
-use Rattle.std.specs.Prelude.{◌≡◌, ℕ, ◌≤◌, Bool, ◌&&◌, if◌then◌else◌, nat_le, bytes_eq, List, Option, None, Some, decimal}
+use Rattle.std.specs.Prelude.{◌≡◌, ℕ, ◌≤◌, ◌&&◌, if◌then◌else◌, nat_le, bytes_eq, List, Option, None, Some, decimal}
 use Rattle.std.specs.Str.Parse.{digits_value}
 use Rattle.widl_text.specs.declared.key.Key.{Key}
 use Rattle.widl_text.specs.declared.key.Key.TheVariants.{Name, Sym}

@@ -6,7 +6,7 @@ ghost use Rattle.std.specs.Hash as fed;
 ghost use Rattle.std.specs.Cmp.{on_equiv, on_per, partial_equiv_from_equiv};
 ghost use Rattle.std.specs.Cmp.Lexicographic.{pointwise, nat_list_eq_equiv};
 ghost use Rattle.std.specs.Cmp.Rules.{comparing, hashing};
-ghost use Rattle.std.specs.Str.{chars};
+ghost use Rattle.std.specs.Str.{IsAscii, chars};
 ghost use Rattle.widl_text.specs.Utf16.{utf16_of};
 ghost use Rattle.std.specs.Char.Escape.{encode_utf16};
 
@@ -109,6 +109,20 @@ impl Units {
             push_character(&mut items, character)?;
         }
         Ok(Units { items })
+    }
+
+    /// The text of these ASCII characters, each of which is a unit.
+    ///
+    /// # Errors
+    ///
+    /// `AllocError` where there is no memory.
+    #[tactic(auto, using(crate::proofs::AsciiTexts::units_of_ascii))]
+    pub fn of_ascii(alloc: Global, text: &str) -> Result<Units, AllocError>
+        requires { IsAscii text.now }
+        ensures { IfOk result (λ units. units ≡ text.now) }
+    {
+        let units = Units::of_str(alloc, text)?;
+        Ok(units)
     }
 
     /// A text with the same units.

@@ -1,0 +1,3 @@
+pub mod Classes
+pub mod Near
+pub mod Steps

@@ -1,4 +1,4 @@
-use Rattle.std.proofs.Common.{◌+◌, ◌<◌, ◌≤◌, ◌⊎◌, inl, inr, arith, get_or, refl}
+use Rattle.std.proofs.Common.{◌+◌, ◌<◌, ◌⊎◌, inl, inr, arith, get_or}
 use Rattle.std.proofs.lemmas.Str.Parse.{digits_value-take-le}
 use Rattle.widl_text.proofs.Decimals.{no_digit, one_more_digit, one_more_value}
 use Rattle.widl_text.proofs.index.digits_number.Goals as goal

@@ -1,0 +1,20 @@
+use Rattle.std.proofs.Common.{ap, sym, ◌∙◌}
+use Rattle.std.proofs.lemmas.Bool.{cond-false, cond-true, false≢true}
+use Rattle.std.proofs.lemmas.Slice.Eq.{bytes_eq-Decides}
+use Rattle.widl_scalar.proofs.NumeralCuts.{not_empty}
+use Rattle.widl_scalar.proofs.TextReads.{decimal_reads, infinite_reads, prefix_reads}
+use Rattle.widl_value.specs.declared.number.Number.TheVariants as numbers
+use Rattle.widl_scalar.specs.declared.numerals.Read.TheVariants as reads
+use Rattle.widl_scalar.proofs.numerals.read_trimmed.Goals as goal
+
+pub returns-in-Some : goal.returns-in-Some
+returns-in-Some c = prefix_reads _ _ _ c.in-Some.ensures.some _ c.radix_number.ensures
+
+pub returns-then-negative : goal.returns-then-negative
+returns-then-negative c = infinite_reads _ _ _ c.split_sign-negative.ensures c.in_default.ensures.none ((bytes_eq-Decides _ _).0 (sym c.if-eq.ensures)) _ (ap reads.Number (sym (cond-true _ numbers.NegInf numbers.PosInf c.if-negative.true)))
+
+pub returns-else-negative : goal.returns-else-negative
+returns-else-negative c = infinite_reads _ _ _ c.split_sign-negative.ensures c.in_default.ensures.none ((bytes_eq-Decides _ _).0 (sym c.if-eq.ensures)) _ (ap reads.Number (sym (cond-false _ numbers.NegInf numbers.PosInf c.if-negative.false)))
+
+pub returns : goal.returns
+returns c = decimal_reads _ _ _ c.split_sign-negative.ensures c.in_default.ensures.none (not_empty _ c.if-is_empty.ensures) (λ e. false≢true (c.if-eq.ensures ∙ (bytes_eq-Decides _ _).1 e)) _ c.decimal_number.ensures

@@ -1,0 +1,103 @@
+//! Numbers to texts.
+
+ghost use Rattle.std.specs.Prelude.{◌≡◌, ◌<◌, ℤ, pos, IfOk};
+ghost use Rattle.std.specs.Fmt.{signed_decimal};
+ghost use Rattle.widl_value.specs.Near.{IsNumber, IsWholeNumber};
+ghost use Rattle.widl_scalar.specs.NumberTexts.{IsNumberText, IsWholeText};
+
+use crate::shortest_digits::shortest;
+use itoa::Buffer;
+use std::alloc::{AllocError, Global};
+use widl_text::Units;
+use widl_value::Number;
+
+/// The text of a Number (ECMA-262, "Number::toString"): `NaN`, `Infinity`, `-Infinity`, or the
+/// shortest digits that round to the number, of these the closest, on a tie even, filled with zeros.
+///
+/// # Errors
+///
+/// `AllocError` where there is no memory.
+pub fn number_text(alloc: Global, x: Number) -> Result<Units, AllocError>
+    requires { IsNumber x }
+    ensures { IfOk result (IsNumberText x) }
+{
+    match x {
+        Number::NaN => Units::of_ascii(alloc, "NaN"),
+        Number::PosInf => Units::of_ascii(alloc, "Infinity"),
+        Number::NegInf => Units::of_ascii(alloc, "-Infinity"),
+        Number::Whole(v) => decimal_text(alloc, shortest_signed(v)),
+    }
+}
+
+/// The number that the text of v names.
+fn shortest_signed(v: i128) -> i128
+    requires { IsWholeNumber v }
+    ensures { IsWholeText v (signed_decimal result) }
+{
+    if v == 0 {
+        return 0;
+    }
+    let digits = shortest(v.unsigned_abs()) as i128;
+    if v < 0 { -digits } else { digits }
+}
+
+/// The digits of v, behind a minus sign where it is below 0.
+fn decimal_text(alloc: Global, v: i128) -> Result<Units, AllocError>
+    ensures { IfOk result (λ text. text ≡ signed_decimal v) }
+{
+    let mut buffer = Buffer::new();
+    let text = Units::of_ascii(alloc, buffer.format(v))?;
+    Ok(text)
+}
+
+#[cfg(test)]
+mod tests {
+    use super::*;
+    use widl_value::nearest;
+
+    /// The text of the Number nearest to v, which is of magnitude at most 2^64.
+    fn text_of(alloc: Global, v: i128) -> Result<Option<Units>, AllocError> {
+        if v < -(1 << 64) || v > 1 << 64 {
+            return Ok(None);
+        }
+        Ok(Some(number_text(alloc, nearest(v))?))
+    }
+
+    #[test]
+    fn writes_the_fewest_digits(rt: HostRuntime) -> Result<(), AllocError> {
+        let rows = [
+            (0, "0"),
+            (-1, "-1"),
+            (255, "255"),
+            (9_007_199_254_740_994, "9007199254740994"),
+            (36_028_797_018_963_968, "36028797018963970"),
+            (9_223_372_036_854_775_807, "9223372036854776000"),
+            (-9_223_372_036_854_775_808, "-9223372036854776000"),
+            (10_000_000_000_000_000_000, "10000000000000000000"),
+            (18_446_744_073_709_551_615, "18446744073709552000"),
+            (-18_446_744_073_709_551_616, "-18446744073709552000"),
+        ];
+        for (v, want) in rows {
+            let want = Units::of_str(rt.alloc(), want)?;
+            assert_eq!(rt; text_of(rt.alloc(), v)?, Some(want), "the text of {v}");
+        }
+        Ok(())
+    }
+
+    #[test]
+    fn writes_words(rt: HostRuntime) -> Result<(), AllocError> {
+        assert_eq!(rt;
+            number_text(rt.alloc(), Number::NaN)?,
+            Units::of_str(rt.alloc(), "NaN")?
+        );
+        assert_eq!(rt;
+            number_text(rt.alloc(), Number::PosInf)?,
+            Units::of_str(rt.alloc(), "Infinity")?
+        );
+        assert_eq!(rt;
+            number_text(rt.alloc(), Number::NegInf)?,
+            Units::of_str(rt.alloc(), "-Infinity")?
+        );
+        Ok(())
+    }
+}

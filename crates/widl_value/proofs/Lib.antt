@@ -1,0 +1,3 @@
+pub mod NearSigned
+pub mod NearUnique
+pub mod ShortNumbers

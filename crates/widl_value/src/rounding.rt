@@ -1,0 +1,125 @@
+//! The Number that is nearest to a whole number.
+
+ghost use Rattle.std.specs.Prelude.{◌≡◌, ℕ, ℤ, ◌+◌, ◌*◌, ◌^◌, ◌<◌, ◌≤◌, IsTrue, false, pos, neg_ℤ, ◌≤ℤ◌};
+ghost use Rattle.widl_value.specs.Near.{IsNumber, Near, NearInt, Nearest};
+ghost use Rattle.widl_value.specs.Steps.{Steps, IsUp, IsDown};
+
+use crate::number::Number;
+
+/// The Number nearest to a whole number of magnitude at most 2^64: the one of least distance, and
+/// on a tie the one whose significand is even (ECMA-262, "the Number value for").
+pub fn nearest(v: i128) -> Number
+    requires low { neg_ℤ (pos (2 ^ 64)) ≤ℤ v }
+    requires high { v ≤ℤ pos (2 ^ 64) }
+    ensures nearest { Nearest v result }
+    ensures number { IsNumber result }
+{
+    let size = near(v.unsigned_abs()) as i128;
+    Number::Whole(if v < 0 { -size } else { size })
+}
+
+/// That there is one such Number at most, and so exactly one: a law, which takes no step.
+pub fn nearest_is_unique()
+    ensures { (v a b : ℤ) → NearInt v a → NearInt v b → a ≡ b }
+{}
+
+/// The number of at most 53 significant bits that is nearest to v, on a tie the one with the even
+/// significand. It may be greater than 2^64.
+pub fn near(v: u128) -> u128
+    requires { v < 2 ^ 120 }
+    ensures { Near v result }
+{
+    let step = step_of(v);
+    let whole = v / step;
+    let rest = v % step;
+    if rounds_up(whole, rest, step) {
+        whole * step + step
+    } else {
+        whole * step
+    }
+}
+
+/// The distance between the numbers of at most 53 significant bits around v: the last bit's worth.
+fn step_of(v: u128) -> u128
+    requires { v < 2 ^ 120 }
+    ensures { Steps v result }
+{
+    let mut step = 1;
+    while v >= (1 << 53) * step {
+        step *= 2;
+    }
+    step
+}
+
+/// Whether of the two multiples of the step around `whole * step + rest` the one above is nearer, or
+/// as near and even.
+pub fn rounds_up(whole: u128, rest: u128, step: u128) -> bool
+    requires { rest < 2 ^ 120 }
+    ensures up { IsTrue result → IsUp whole rest step }
+    ensures down { result ≡ false → IsDown whole rest step }
+{
+    2 * rest > step || (2 * rest == step && whole % 2 == 1)
+}
+
+#[cfg(test)]
+mod tests {
+    use super::*;
+
+    /// The nearest Number of a v of magnitude at most 2^64.
+    fn rounded(v: i128) -> Option<Number> {
+        if v < -(1 << 64) || v > 1 << 64 {
+            None
+        } else {
+            Some(nearest(v))
+        }
+    }
+
+    #[test]
+    fn rounds_to_the_nearest_number(rt: HostRuntime) {
+        let rows = [
+            (0, 0),
+            (9_007_199_254_740_993, 9_007_199_254_740_992),
+            (9_007_199_254_740_995, 9_007_199_254_740_996),
+            (-9_007_199_254_740_993, -9_007_199_254_740_992),
+            (-9_007_199_254_740_995, -9_007_199_254_740_996),
+            (36_028_797_018_963_972, 36_028_797_018_963_968),
+            (36_028_797_018_963_973, 36_028_797_018_963_976),
+            (18_446_744_073_709_550_591, 18_446_744_073_709_549_568),
+            (18_446_744_073_709_550_592, 18_446_744_073_709_551_616),
+            (18_446_744_073_709_551_615, 18_446_744_073_709_551_616),
+            (-18_446_744_073_709_551_616, -18_446_744_073_709_551_616),
+        ];
+        for (v, want) in rows {
+            assert_eq!(rt; rounded(v), Some(Number::Whole(want)), "nearest of {v}");
+        }
+    }
+
+    #[test]
+    fn rounds_the_neighbours_of_powers(rt: HostRuntime) {
+        let mut power: i128 = 1;
+        for bits in 0..65 {
+            let below = power.wrapping_sub(1);
+            let above = power.wrapping_add(1);
+            let rounded_below = if bits > 53 { power } else { below };
+            let rounded_above = if bits >= 53 { power } else { above };
+            assert_eq!(rt;
+                rounded(below),
+                Some(Number::Whole(rounded_below)),
+                "below the power {bits}"
+            );
+            assert_eq!(rt;
+                rounded(power),
+                Some(Number::Whole(power)),
+                "at the power {bits}"
+            );
+            if bits < 64 {
+                assert_eq!(rt;
+                    rounded(above),
+                    Some(Number::Whole(rounded_above)),
+                    "above the power {bits}"
+                );
+            }
+            power = power.wrapping_mul(2);
+        }
+    }
+}
