@@ -1,0 +1,13 @@
+//! The tokens of a file: exactly its cut into longest pieces without the gaps. It stands on the places of
+//! `widl_text`. The one contract that is used above: [`Tokens::read`] answers the tokens of the file's cut.
+#![tactic(auto)]
+
+mod longest;
+mod quoted;
+mod tables;
+mod token;
+mod tokens;
+mod utf8;
+
+pub use token::{PieceKind, Token, TokenKind};
+pub use tokens::{LexFault, Tokens};
