@@ -1,2 +1,5 @@
+pub mod Derivative
 pub mod Labels
+pub mod Table
+pub mod Tests
 pub mod Utf8Table

@@ -3,14 +3,14 @@
 ghost use Rattle.std.specs.Prelude.{◌≡◌, ◌<◌, MatchOption};
 ghost use Rattle.widl_lex.specs.Walk.{next_of, better_of, NoScan, IsLongestScan};
 
-use crate::tables::{CLASSES, DEAD, ENDS, NEXT};
+use crate::tables::{CLASSES, DEAD, ENDS, NEXT, STATES};
 use crate::token::PieceKind;
 
 /// The state after a byte.
 fn next_state(state: usize, byte: u8) -> usize
-    requires { state < 38 }
+    requires { state < STATES }
     ensures next { result ≡ next_of state byte }
-    ensures small { result < 38 }
+    ensures small { result < STATES }
 {
     NEXT[state][CLASSES[byte as usize] as usize] as usize
 }

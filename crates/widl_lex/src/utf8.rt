@@ -4,13 +4,13 @@ ghost use Rattle.std.specs.Prelude.{◌≡◌, ◌<◌, IsUtf8, MatchOption};
 ghost use Rattle.widl_lex.specs.Walk.{utf8_next_of};
 ghost use Rattle.widl_lex.specs.Utf8.{IsUtf8Fault};
 
-use crate::tables::{UTF8_CLASSES, UTF8_DEAD, UTF8_NEXT};
+use crate::tables::{UTF8_CLASSES, UTF8_DEAD, UTF8_NEXT, UTF8_STATES};
 
 /// The state of UTF-8 after a byte.
 fn next_state(state: usize, byte: u8) -> usize
-    requires { state < 9 }
+    requires { state < UTF8_STATES }
     ensures next { result ≡ utf8_next_of state byte }
-    ensures small { result < 9 }
+    ensures small { result < UTF8_STATES }
 {
     UTF8_NEXT[state][UTF8_CLASSES[byte as usize] as usize] as usize
 }
