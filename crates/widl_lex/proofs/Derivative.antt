@@ -21,7 +21,7 @@ empties_matches (Cat p q) e = let a = and_cases (empties p) (empties q) e in cat
 empties_matches (Alt p q) e = elim (or_cases (empties p) (empties q) e) [ inl a ↦ left (empties_matches p a) | inr a ↦ right (empties_matches q a) ]
 empties_matches (Star p) e = stop
 
-both : (a b : Bool) → a ≡ true → b ≡ true → (a && b) ≡ true
+pub both : (a b : Bool) → a ≡ true → b ≡ true → (a && b) ≡ true
 both true b g h = h
 both false b g h = cc
 
@@ -101,10 +101,10 @@ alts_right Never q w m = m
 alts_right p Never w m = absurd (never m)
 alts_right p q w m = right m
 
-cat_parts : {p q : Pattern} {w : List ℕ} → Matches (Cat p q) w → (u : List ℕ) × (v : List ℕ) × Matches p u × Matches q v × (w ≡ u ++ v)
+pub cat_parts : {p q : Pattern} {w : List ℕ} → Matches (Cat p q) w → (u : List ℕ) × (v : List ℕ) × Matches p u × Matches q v × (w ≡ u ++ v)
 cat_parts (cat u v m n e) = (u, v, m, n, e)
 
-alt_parts : {p q : Pattern} {w : List ℕ} → Matches (Alt p q) w → Matches p w ⊎ Matches q w
+pub alt_parts : {p q : Pattern} {w : List ℕ} → Matches (Alt p q) w → Matches p w ⊎ Matches q w
 alt_parts (left m) = inl m
 alt_parts (right m) = inr m
 
