@@ -1,5 +1,6 @@
 pub mod Derivative
 pub mod Labels
+pub mod QuotedTable
 pub mod Table
 pub mod Tests
 pub mod Characters

@@ -1,6 +1,6 @@
 -- The walk through the table of states, and what its patterns match.
-use Rattle.std.specs.Prelude.{◌≡◌, ℕ, ◌<◌, ◌≤◌, List, [], ◌∷◌, Option, Some, None, slice_index_or, length, take, codes}
-use Rattle.widl_lex.specs.declared.tables.TheConstants.{CLASSES, NEXT, ENDS, UTF8_CLASSES, UTF8_NEXT}
+use Rattle.std.specs.Prelude.{◌≡◌, ℕ, ◌<◌, ◌≤◌, List, [], ◌∷◌, Option, Some, None, ◌+◌, ◌-◌, map, slice_index, slice_index_or, slice_range, length, take, codes}
+use Rattle.widl_lex.specs.declared.tables.TheConstants.{CLASSES, NEXT, ENDS, UTF8_CLASSES, UTF8_NEXT, QUOTED, QUOTED_FROM}
 use Rattle.widl_lex.specs.declared.token.PieceKind.{PieceKind}
 use Rattle.widl_lex.specs.declared.token.PieceKind.TheVariants.{Token, Gap}
 use Rattle.widl_lex.specs.declared.token.TokenKind.TheVariants.{Quoted, Integer, Decimal, Identifier, Text, Other}
@@ -44,3 +44,7 @@ NoScan text = (m : ℕ) (kind : PieceKind) → 0 < m → m ≤ length text → M
 abbrev pub better_of : Option (ℕ × PieceKind) → ℕ → Option PieceKind → Option (ℕ × PieceKind)
 better_of best place (Some kind) = Some (place, kind)
 better_of best place None = best
+
+-- the quoted terminals in the table that begin with a byte
+abbrev pub quoted_with : ℕ → List (List ℕ)
+quoted_with first = map (λ word. word.now) (slice_range QUOTED (slice_index QUOTED_FROM first) (slice_index QUOTED_FROM (first + 1)))
