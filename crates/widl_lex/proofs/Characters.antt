@@ -217,7 +217,7 @@ from_four a b d f c e lc hc lb hb ld hd lf hf =
     let fourth : 128 + c % 64 ≡ f = omega arith in
     subst IsUtf8 (encode_four c lc ∙ ap (λ x. x ∷ (128 + c / 4096 % 64) ∷ (128 + c / 64 % 64) ∷ (128 + c % 64) ∷ []) first ∙ ap (λ x. a ∷ x ∷ (128 + c / 64 % 64) ∷ (128 + c % 64) ∷ []) second ∙ ap (λ x. a ∷ b ∷ x ∷ (128 + c % 64) ∷ []) third ∙ ap (λ x. a ∷ b ∷ d ∷ x ∷ []) fourth) (IsUtf8-encode c (is_scalar c (inr (omega arith, hc))))
 
-range_byte : {low high : ℕ} {w : List ℕ} → Matches (Range low high) w → (b : ℕ) × (w ≡ b ∷ []) × (low ≤ b) × (b ≤ high)
+pub range_byte : {low high : ℕ} {w : List ℕ} → Matches (Range low high) w → (b : ℕ) × (w ≡ b ∷ []) × (low ≤ b) × (b ≤ high)
 range_byte (range {b} le ge) = (b, refl, le, ge)
 
 two_parts : {low high l h : ℕ} {w : List ℕ} → Matches (Cat (Range low high) (Range l h)) w → (a : ℕ) × (b : ℕ) × (w ≡ a ∷ b ∷ []) × (low ≤ a) × (a ≤ high) × (l ≤ b) × (b ≤ h)

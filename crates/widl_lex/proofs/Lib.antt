@@ -1,7 +1,11 @@
+pub mod Characters
+pub mod Cuts
 pub mod Derivative
 pub mod Labels
 pub mod QuotedTable
+pub mod Scans
 pub mod Table
 pub mod Tests
-pub mod Characters
 pub mod Utf8Table
+pub mod Unclosed
+pub mod Whole

@@ -37,7 +37,7 @@ has_contains (y ∷ ys) x e = elim (or_cases (pointwise eqb y x) (has ys x) e) [
 ]
 
 -- each text of a list passes
-passes : (List ℕ → Bool) → List (List ℕ) → Bool
+unfoldable pub passes : (List ℕ → Bool) → List (List ℕ) → Bool
 passes p [] = true
 passes p (x ∷ xs) = p x && passes p xs
 
@@ -47,7 +47,7 @@ passes_at p [] e k d lt = absurd (omega arith)
 passes_at p (x ∷ xs) e zero d lt = (and_cases (p x) (passes p xs) e).0
 passes_at p (x ∷ xs) e (suc k) d lt = passes_at p xs (and_cases (p x) (passes p xs) e).1 k d (omega arith)
 
-passes_contained : (p : List ℕ → Bool) (xs : List (List ℕ)) (x : List ℕ) → passes p xs ≡ true → Contains xs x → p x ≡ true
+pub passes_contained : (p : List ℕ → Bool) (xs : List (List ℕ)) (x : List ℕ) → passes p xs ≡ true → Contains xs x → p x ≡ true
 passes_contained p xs x e c = sym (ap p c.2) ∙ passes_at p xs e c.0 x c.1
 
 table_sound : all_below 256 (λ b. passes (has quoted_terminals) (quoted_with b)) ≡ true

@@ -1,7 +1,7 @@
 -- Why a file has no tokens.
 use Rattle.std.specs.Prelude.{◌≡◌, ℕ, List, IsUtf8}
-use Rattle.widl_lex.specs.declared.tokens.LexFault.{LexFault}
-use Rattle.widl_lex.specs.declared.tokens.LexFault.TheVariants.{NotUtf8, Memory}
+use Rattle.widl_lex.specs.declared.fault.LexFault.{LexFault}
+use Rattle.widl_lex.specs.declared.fault.LexFault.TheVariants.{NotUtf8, Memory}
 use Rattle.widl_lex.specs.Utf8.{IsUtf8Fault}
 
 -- the place where the file stops being UTF-8; memory may be wanting for a UTF-8 file alone

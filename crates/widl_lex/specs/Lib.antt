@@ -1,3 +1,4 @@
+pub mod Comments
 pub mod Cut
 pub mod Faults
 pub mod Lexical

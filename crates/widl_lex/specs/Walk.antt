@@ -1,5 +1,5 @@
 -- The walk through the table of states, and what its patterns match.
-use Rattle.std.specs.Prelude.{◌≡◌, ℕ, ◌<◌, ◌≤◌, List, [], ◌∷◌, Option, Some, None, ◌+◌, ◌-◌, map, slice_index, slice_index_or, slice_range, length, take, codes}
+use Rattle.std.specs.Prelude.{◌≡◌, ℕ, ◌<◌, ◌≤◌, List, [], ◌∷◌, Bool, true, false, Option, Some, None, ◌+◌, ◌-◌, map, slice_index, slice_index_or, slice_range, length, take, codes}
 use Rattle.widl_lex.specs.declared.tables.TheConstants.{CLASSES, NEXT, ENDS, UTF8_CLASSES, UTF8_NEXT, QUOTED, QUOTED_FROM}
 use Rattle.widl_lex.specs.declared.token.PieceKind.{PieceKind}
 use Rattle.widl_lex.specs.declared.token.PieceKind.TheVariants.{Token, Gap}
@@ -39,6 +39,13 @@ pub record IsLongestScan (kind : PieceKind) (n : ℕ) (text : List ℕ) : Type 0
 -- no bytes at the front match
 abbrev pub NoScan : List ℕ → Type 0
 NoScan text = (m : ℕ) (kind : PieceKind) → 0 < m → m ≤ length text → Matches (scanned kind) (take m text) → ⊥
+
+-- whether a quoted terminal may be scanned as the kind
+abbrev pub may_be_quoted : PieceKind → Bool
+may_be_quoted (Token Quoted) = true
+may_be_quoted (Token Identifier) = true
+may_be_quoted (Token Other) = true
+may_be_quoted _ = false
 
 -- what ends at a place, or else the best so far
 abbrev pub better_of : Option (ℕ × PieceKind) → ℕ → Option PieceKind → Option (ℕ × PieceKind)

@@ -2,6 +2,8 @@
 //! `widl_text`. The one contract that is used above: [`Tokens::read`] answers the tokens of the file's cut.
 #![tactic(auto)]
 
+mod cut;
+mod fault;
 mod longest;
 mod quoted;
 mod tables;
@@ -9,5 +11,6 @@ mod token;
 mod tokens;
 mod utf8;
 
+pub use fault::LexFault;
 pub use token::{PieceKind, Token, TokenKind};
-pub use tokens::{LexFault, Tokens};
+pub use tokens::Tokens;

@@ -1,35 +1,14 @@
 //! The tokens of a file.
 
-use std::alloc::{AllocFailed, Global};
+use std::alloc::Global;
 use std::marker::Model;
 
 use widl_text::Place;
 
-use crate::longest::longest;
-use crate::quoted::is_quoted;
-use crate::token::{PieceKind, Token, TokenKind};
+use crate::cut::{longest_piece, push_piece, still_closes};
+use crate::fault::LexFault;
+use crate::token::Token;
 use crate::utf8::utf8_fault;
-
-/// Why a file has no tokens.
-#[derive(Debug, Drop)]
-pub enum LexFault {
-    /// The file is not UTF-8: the first byte that no UTF-8 text continues, or the file's length where it ends
-    /// inside a character.
-    NotUtf8(Place),
-    /// There is no memory for the list.
-    Memory,
-}
-
-impl<T: Drop> From<AllocFailed<T>> for LexFault {
-    ghost use Rattle.std.specs.Prelude.{◌≡◌};
-    ghost use Rattle.widl_lex.specs.declared.tokens.LexFault.TheVariants.{Memory};
-
-    ghost from_gives = { λ _ fault. fault ≡ Memory };
-
-    fn from(_error: AllocFailed<T>) -> LexFault {
-        LexFault::Memory
-    }
-}
 
 /// The tokens of a file in order, without white space and comments.
 #[derive(Drop)]
@@ -74,16 +53,13 @@ impl<'a> Tokens<'a> {
         }
         let mut items = Vec::new(alloc);
         let mut rest = bytes;
+        let mut closes = true;
         while !rest.is_empty() {
             let at = Place { file, at: (bytes.len() - rest.len()) as u32 };
-            let Some((len, scanned)) = longest(rest) else {
-                unreachable!();
-            };
+            let (len, kind) = longest_piece(rest, closes);
+            closes = still_closes(rest, len, kind, closes);
             let (text, after) = rest.split_at(len);
-            if let PieceKind::Token(kind) = scanned {
-                let kind = if is_quoted(text) { TokenKind::Quoted } else { kind };
-                items.push(Token { kind, at, text })?;
-            }
+            push_piece(&mut items, kind, at, text)?;
             rest = after;
         }
         Ok(Tokens { file, end: bytes.len() as u32, items })
