@@ -28,7 +28,7 @@ cancel : (u v w : List ℕ) → u ++ v ≡ u ++ w → v ≡ w
 cancel [] v w e = e
 cancel (x ∷ u) v w e = cancel u v w (let f : u ++ v ≡ u ++ w = cc in f)
 
-rest_is : (n : ℕ) (text rest : List ℕ) → text ≡ take n text ++ rest → rest ≡ drop n text
+pub rest_is : (n : ℕ) (text rest : List ℕ) → text ≡ take n text ++ rest → rest ≡ drop n text
 rest_is n text rest e = cancel (take n text) rest (drop n text) (sym e ∙ sym (take-append-drop n text))
 
 -- what holds of the tokens of a cut

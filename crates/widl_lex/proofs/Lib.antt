@@ -2,6 +2,7 @@ pub mod Characters
 pub mod Cuts
 pub mod Derivative
 pub mod Labels
+pub mod OneCut
 pub mod QuotedTable
 pub mod Scans
 pub mod Table

@@ -123,3 +123,25 @@ found_quoted b (a ∷ text) words r e lt same d =
 pub empty_not : (text : List ℕ) → None ≡ slice_get text 0 → IsQuoted text → ⊥
 empty_not [] e q = empty_not_quoted q
 empty_not (a ∷ text) e q = none_some e
+
+-- whether a text is quoted can be told
+has_not : (ys : List (List ℕ)) (x : List ℕ) → has ys x ≡ false → (k : ℕ) → k < length ys → slice_index_or ys k x ≡ x → ⊥
+unfolding has
+has_not [] x e k lt f = omega arith
+has_not (y ∷ ys) x e zero lt f = differ (sym (either_true (pointwise eqb y x) (has ys x) ((bytes_decides y x).1 f)) ∙ e)
+  where
+    either_true : (a b : Bool) → a ≡ true → (a || b) ≡ true
+    either_true true b g = refl
+    either_true false b g = cc
+has_not (y ∷ ys) x e (suc k) lt f = has_not ys x (second_false (pointwise eqb y x) (has ys x) e) k (omega arith) f
+  where
+    second_false : (a b : Bool) → (a || b) ≡ false → b ≡ false
+    second_false true b g = absurd (differ g)
+    second_false false b g = g
+
+pub quoted_or_not : (text : List ℕ) → IsQuoted text ⊎ (IsQuoted text → ⊥)
+quoted_or_not text = go (has quoted_terminals text) refl
+  where
+    go : (c : Bool) → has quoted_terminals text ≡ c → IsQuoted text ⊎ (IsQuoted text → ⊥)
+    go true e = inl (has_contains quoted_terminals text e)
+    go false e = inr (λ q. has_not quoted_terminals text e q.0 q.1 q.2)

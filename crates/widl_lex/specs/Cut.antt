@@ -23,3 +23,9 @@ Piece = PieceKind × List ℕ
 pub data Cut : List ℕ → List Piece → Type 0 where
   none : Cut [] []
   next : {text : List ℕ} {more : List Piece} (kind : PieceKind) (n : ℕ) (rest : List ℕ) → Longest kind n text → text ≡ take n text ++ rest → Cut rest more → Cut text ((kind, take n text) ∷ more)
+
+-- the text has a cut, and every cut of it is that one
+pub record HasOneCut (text : List ℕ) : Type 0 where
+  pub pieces : List Piece
+  pub cut : Cut text pieces
+  pub only : (others : List Piece) → Cut text others → others ≡ pieces

@@ -4,6 +4,7 @@
 
 mod cut;
 mod fault;
+mod law;
 mod longest;
 mod quoted;
 mod tables;
@@ -12,5 +13,6 @@ mod tokens;
 mod utf8;
 
 pub use fault::LexFault;
+pub use law::each_text_has_one_cut;
 pub use token::{PieceKind, Token, TokenKind};
 pub use tokens::Tokens;
