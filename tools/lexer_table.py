@@ -282,22 +282,22 @@ pub const STATES: usize = {len(states)};
 pub const DEAD: usize = {dead};
 
 /// The class of each byte: bytes of one class lead to the same states.
-pub const CLASSES: [u8; 256] = {rust_list(classes)};
+pub static CLASSES: [u8; 256] = {rust_list(classes)};
 
 /// The state after a byte of each class, for each state. It begins in the state 0.
-pub const NEXT: [[u8; {len(members)}]; STATES] = [
+pub static NEXT: [[u8; {len(members)}]; STATES] = [
 {"".join(f"    {rust_list(row[byte] for byte in members)},{chr(10)}" for row in rows)}];
 
 /// The kind of piece that ends in each state, if any.
-pub const ENDS: [Option<PieceKind>; STATES] = [
+pub static ENDS: [Option<PieceKind>; STATES] = [
 {"".join(f"    {rust_kind(kind)},{chr(10)}" for kind in ends)}];
 
 /// The quoted terminals in the order of their bytes.
-pub const QUOTED: [&[u8]; {len(QUOTED)}] = [
+pub static QUOTED: [&[u8]; {len(QUOTED)}] = [
 {"".join(f'    b"{text}",{chr(10)}' for text in QUOTED)}];
 
 /// For each first byte, how many quoted terminals stand before those that begin with it.
-pub const QUOTED_FROM: [u8; 257] = {rust_list(sum(ord(text[0]) < byte for text in QUOTED) for byte in range(257))};
+pub static QUOTED_FROM: [u8; 257] = {rust_list(sum(ord(text[0]) < byte for text in QUOTED) for byte in range(257))};
 
 /// How many states of UTF-8 there are.
 pub const UTF8_STATES: usize = {len(utf8_states)};
@@ -306,10 +306,10 @@ pub const UTF8_STATES: usize = {len(utf8_states)};
 pub const UTF8_DEAD: usize = {utf8_dead};
 
 /// The class of each byte in UTF-8.
-pub const UTF8_CLASSES: [u8; 256] = {rust_list(utf8_classes)};
+pub static UTF8_CLASSES: [u8; 256] = {rust_list(utf8_classes)};
 
 /// The state of UTF-8 after a byte of each class. It begins in the state 0, between two characters.
-pub const UTF8_NEXT: [[u8; {len(utf8_members)}]; UTF8_STATES] = [
+pub static UTF8_NEXT: [[u8; {len(utf8_members)}]; UTF8_STATES] = [
 {"".join(f"    {rust_list(row[byte] for byte in utf8_members)},{chr(10)}" for row in utf8_rows)}];
 """
         )

@@ -1,25 +1,22 @@
-//! Reads the files that are named and prints how many bytes and tokens they have.
+//! Reads the tokens of each file that is named, and prints how many bytes and tokens they have. It stands on
+//! `widl_lex`, and serves to measure it: `bench/lex.py` runs it.
 #![tactic(auto)]
 
 use anyhow::{Result, bail};
-use std::rt::{Clock, Env, Files};
-use std::time::Instant;
+use std::rt::{Env, Files};
 use std::{env, fs};
 use widl_lex::Tokens;
 
-fn count<R: Files + AllocGlobal + Clock + Print>(rt: &R, name: &str) -> Result<(usize, usize)> {
+/// How many bytes and tokens a file has.
+fn count<R: Files + AllocGlobal>(rt: &R, name: &str) -> Result<(usize, usize)> {
     let bytes = fs::read(rt, name)?;
     if bytes.len() > 4_294_967_295 {
-        bail!("the file is too long");
+        bail!("{name} is too long");
     }
-    let start = Instant::now(rt)?;
-    let tokens = match Tokens::read(rt.alloc(), 0, bytes.as_slice()) {
-        Ok(tokens) => tokens.len(),
-        Err(fault) => bail!("{fault:?}"),
-    };
-    let took = start.elapsed(rt)?;
-    rt.println(format_args!("{name} {took:?}"))?;
-    Ok((bytes.len(), tokens))
+    match Tokens::read(rt.alloc(), 0, bytes.as_slice()) {
+        Ok(tokens) => Ok((bytes.len(), tokens.len())),
+        Err(fault) => bail!("{name}: {fault:?}"),
+    }
 }
 
 fn main(rt: HostRuntime) -> Result<()> {

@@ -85,7 +85,7 @@ cut_within (suc fuel) (b ∷ w) le u =
     let r = some_longest (b ∷ w) u (omega arith) in
     let len : length (drop r.1 (b ∷ w)) ≤ fuel = omega (arith, length-drop r.1 (b ∷ w), r.2.some) in
     let rest = cut_within fuel (drop r.1 (b ∷ w)) len (piece_utf8 (b ∷ w) r.0 r.1 u r.2).1 in
-    ((r.0, take r.1 (b ∷ w)) ∷ rest.0, next r.0 r.1 (drop r.1 (b ∷ w)) r.2 (sym (take-append-drop r.1 (b ∷ w))) rest.1)
+    ((r.0, take r.1 (b ∷ w)) ∷ rest.0, next {more = rest.0} r.0 r.1 (drop r.1 (b ∷ w)) r.2 (sym (take-append-drop r.1 (b ∷ w))) rest.1)
 
 pub one_cut : (text : List ℕ) → IsUtf8 text → HasOneCut text
 one_cut text u =
