@@ -13,12 +13,11 @@ ghost use Rattle.widl_lex.specs.Quoted.{IsQuoted};
 ghost use Rattle.widl_lex.specs.Lexical.{IsPiece};
 ghost use Rattle.widl_lex.specs.Walk.{may_be_quoted, scanned};
 
-use widl_text::Place;
-
 use crate::fault::LexFault;
 use crate::longest::longest;
 use crate::quoted::is_quoted;
 use crate::token::{PieceKind, Token, TokenKind};
+use widl_text::Place;
 
 /// Whether the text begins with `/*`.
 fn opens_comment(text: &[u8]) -> bool
@@ -83,7 +82,12 @@ pub fn still_closes(text: &[u8], len: usize, kind: PieceKind, closes: bool) -> b
 }
 
 /// Adds the token of a piece, if it is no gap.
-pub fn push_piece<'a>(items: &mut Vec<Token<'a>>, kind: PieceKind, at: Place, text: &'a [u8]) -> Result<(), LexFault>
+pub fn push_piece<'a>(
+    items: &mut Vec<Token<'a>>,
+    kind: PieceKind,
+    at: Place,
+    text: &'a [u8],
+) -> Result<(), LexFault>
     ensures ok { OnOk result (map lexeme_of items.new.items ≡ map lexeme_of items.old.items ++ lexemes_of at kind text.now) }
     ensures err { IfErr result (λ fault. fault ≡ Memory) }
 {

@@ -1,7 +1,7 @@
-use Rattle.std.proofs.Common.{◌≡◌, ℕ, sym, subst, arith, drop}
+use Rattle.std.proofs.Common.{sym, subst, arith, drop}
 use Rattle.widl_lex.specs.Comments.{NeverCloses}
 use Rattle.widl_lex.specs.Cut.{Longest}
-use Rattle.widl_lex.proofs.Tests.{all_bytes}
+use Rattle.widl_lex.proofs.Computed.{all_bytes}
 use Rattle.widl_lex.proofs.Unclosed.{one_byte_never}
 use Rattle.widl_lex.proofs.cut.still_closes.Goals as goal
 
