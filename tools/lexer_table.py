@@ -1,14 +1,15 @@
 #!/usr/bin/env python3
 """Writes the tables of the lexer from the patterns of the tokens.
 
-Run at the top of the repository: `python3 tools/lexer_table.py`. It writes
+Run at the top of the repository: `python3 tools/lexer_table.py`, then `rt fmt` in crates/widl_lex. It writes
 
     crates/widl_lex/src/tables.rt          the tables that the program reads
     crates/widl_lex/proofs/Labels.antt     what each state still wants, for each kind of piece
     crates/widl_lex/proofs/Utf8Table.antt  the same for the pattern of UTF-8, and which states may stand beside each other
 
 Nothing of it is trusted: the checker computes that the tables follow the patterns of
-crates/widl_lex/specs/Lexical.antt and specs/Utf8.antt, of which the patterns below are a copy.
+crates/widl_lex/specs/Lexical.antt and specs/Utf8.antt, and hold the terminals of specs/Quoted.antt, of which
+those below are a copy.
 """
 
 NEVER, NOTHING = ("never",), ("nothing",)
@@ -349,7 +350,7 @@ pub static UTF8_NEXT: [[u8; {len(utf8_members)}]; UTF8_STATES] = [
     with open(crate + "proofs/Utf8Table.antt", "w") as out:
         out.write(
             "-- What each state of UTF-8 still wants, and the token states beside it. Written by\n"
-            "-- tools/lexer_table.py; Utf8.antt and Whole.antt compute that it serves.\n"
+            "-- tools/lexer_table.py; Characters.antt and Whole.antt compute that it serves.\n"
             "use Rattle.std.specs.Prelude.{ℕ, List, [], ◌∷◌}\n"
             "use Rattle.widl_lex.specs.Pattern.{Pattern, Never, Nothing, Range, Cat, Alt, Star}\n\n"
             "abbrev pub utf8_labels : List Pattern\nutf8_labels ="
