@@ -61,7 +61,7 @@ impl<'a> Tokens<'a> {
                 at: (bytes.len() - rest.len()) as u32,
             };
             let (len, kind) = longest_piece(rest, closes);
-            closes = still_closes(rest, len, kind, closes);
+            closes = still_closes(rest, len, closes);
             let (text, after) = rest.split_at(len);
             push_piece(&mut items, kind, at, text)?;
             rest = after;
