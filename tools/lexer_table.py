@@ -352,7 +352,7 @@ pub static UTF8_NEXT: [[u8; {len(utf8_members)}]; UTF8_STATES] = [
             "-- What each state of UTF-8 still wants, and the token states beside it. Written by\n"
             "-- tools/lexer_table.py; Characters.antt and Whole.antt compute that it serves.\n"
             "use Rattle.std.specs.Prelude.{ℕ, List, [], ◌∷◌}\n"
-            "use Rattle.widl_lex.specs.Pattern.{Pattern, Never, Nothing, Range, Cat, Alt, Star}\n\n"
+            "use Rattle.widl_lex.specs.Pattern.{Pattern, Never, Range, Cat, Alt, Star}\n\n"
             "abbrev pub utf8_labels : List Pattern\nutf8_labels ="
         )
         out.write(antt_list(term(state[0]) for state in utf8_states) + "\n\n")
