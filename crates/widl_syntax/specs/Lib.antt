@@ -1,0 +1,5 @@
+pub mod Terminals
+pub mod Rules
+pub mod Rows
+pub mod Tables
+pub mod Owed
