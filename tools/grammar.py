@@ -11,6 +11,7 @@ crate computes that the tables serve the rows, and that both grammars have the s
 
 import os
 import re
+import textwrap
 
 HERE = os.path.dirname(os.path.abspath(__file__))
 CRATE = os.path.join(HERE, "..", "crates", "widl_syntax")
@@ -189,8 +190,24 @@ class Printed:
             self.parts[name] = self.parse(words_of(text))
         self.inlined = [n for n in self.rules if n not in rows.rows or n in self.parts]
         self.parts = {n: self.expand(e) for n, e in self.parts.items()}
+        self.find_ranks()
         missing = [n for n in rows.rules if n not in self.parts and n not in self.rules]
         assert not missing, missing
+
+    def find_ranks(self):
+        self.ranks = {n: 0 for n in self.rows.rules}
+        changed = True
+        while changed:
+            changed = False
+            for name in self.rows.rules:
+                for row in self.rows.rows[name]:
+                    for symbol in row:
+                        plain = symbol.lstrip("^")
+                        if plain in self.parts and self.ranks[plain] >= self.ranks[name]:
+                            self.ranks[name], changed = self.ranks[plain] + 1, True
+                            assert self.ranks[name] < 16, name
+                        if not self.rows.is_rule(symbol) or plain not in self.rows.nullable:
+                            break
 
     def parse(self, words):
         expression, rest = self.choice(words)
@@ -483,18 +500,100 @@ sets = sets_of table
 """)
 
 
+def wrapped(text):
+    joined = re.sub(r"\b(token|rule|maybe|many) ", "\\1~", text)
+    lines = textwrap.wrap(joined, 110, subsequent_indent="      ", break_long_words=False)
+    return "\n".join(lines).replace("~", " ") + "\n"
+
+
+def equation(printed, name, subject, expression):
+    kind, inside = expression
+    if kind != "choice":
+        return wrapped(f"{subject} {name} = {printed.text(expression)}")
+    first, *others = (printed.text(part, 1) for part in inside)
+    return wrapped(f"{subject} {name} = {first}") + "".join(wrapped(f"    ∣ {part}") for part in others)
+
+
 def write_printed(rows, printed):
     names = list(printed.rules)
-    write("specs/Printed.antt", f"""-- The grammar of Web IDL as it is printed. Written by tools/grammar.py.
-use Rattle.widl_syntax.specs.declared.terminal.Terminal.{{Terminal}}
-use Rattle.widl_syntax.specs.declared.terminal.Terminal.TheVariants as word
-use Rattle.widl_predictive.specs.Expression.{{Expression, token, rule, ◌·◌, ◌∣◌, maybe, many}}
+    terminal_use = (
+        "use Rattle.widl_syntax.specs.declared.terminal.Terminal.{Terminal}\n"
+        "use Rattle.widl_syntax.specs.declared.terminal.Terminal.TheVariants as word\n")
+    write("specs/Printed.antt", f"""-- The grammar of Web IDL as it is printed, with choices, options and repetitions. Written by tools/grammar.py.
+use Rattle.std.specs.Prelude.{{List}}
+{terminal_use}use Rattle.widl_predictive.specs.Expression.{{Expression, token, rule, ◌·◌, ◌∣◌, maybe, many, Spells}}
 
 pub data Nonterminal : Type 0 where
-  {" ".join(names)} : Nonterminal
-
+{"".join(f"  {n} : Nonterminal{chr(10)}" for n in names)}
 abbrev pub printed : Nonterminal → Expression Terminal Nonterminal
-{"".join(f"printed {n} = {printed.text(e)}{chr(10)}" for n, e in printed.rules.items())}""")
+{"".join(equation(printed, n, "printed", e) for n, e in printed.rules.items())}
+-- a file of Web IDL
+abbrev pub PrintedSentence : List Terminal → Type 0
+PrintedSentence w = Spells printed (rule {START}) w
+""")
+    number = {n: i for i, n in enumerate(names)}
+    write("proofs/Names.antt", f"""-- The printed rules by their numbers. Written by tools/grammar.py.
+use Rattle.std.proofs.Common.{{◌≡◌, ◌<◌, ℕ, List, [], ◌∷◌, length, get_or, refl, lit<}}
+use Rattle.widl_predictive.specs.Coded.{{Coded}}
+use Rattle.widl_syntax.specs.Printed.{variants(["Nonterminal"] + names)}
+
+abbrev all_names : List Nonterminal
+all_names = {" ∷ ".join(names)} ∷ []
+
+abbrev name_code : Nonterminal → ℕ
+{"".join(f"name_code {n} = {number[n]}{chr(10)}" for n in names)}
+pub name_at : (p d : Nonterminal) → get_or all_names (name_code p) d ≡ p
+{"".join(f"name_at {n} d = refl{chr(10)}" for n in names)}
+pub name_below : (p : Nonterminal) → name_code p < length all_names
+{"".join(f"name_below {n} = lit< tt{chr(10)}" for n in names)}
+abbrev pub names : Coded Nonterminal
+names = record {{ all = all_names; code = name_code; at = name_at; below = name_below }}
+""")
+    ruled = [n for n in names if n not in printed.inlined]
+    parted = [n for n in rows.rules if n not in ruled]
+    part = "".join(equation(printed, n, "part", printed.parts[n]) for n in parted)
+    write("proofs/Parts.antt", f"""-- What the rules stand for that the printed grammar lacks. Written by tools/grammar.py.
+{terminal_use}use Rattle.widl_syntax.specs.declared.rule.Rule.{{Rule}}
+use Rattle.widl_syntax.specs.declared.rule.Rule.TheVariants.{variants(parted)}
+use Rattle.widl_syntax.specs.Printed.{{Nonterminal}}
+use Rattle.widl_syntax.specs.Printed as printing
+use Rattle.widl_predictive.specs.Expression.{{Expression, token, rule, ◌·◌, ◌∣◌, maybe, many}}
+
+-- of the rules that the printed grammar has nothing is asked
+abbrev pub part : Rule → Expression Terminal Nonterminal
+{part.replace("rule ", "rule printing.")}part _ = token word.Other
+""")
+    ranked = [n for n in rows.rules if printed.ranks[n]]
+    write("proofs/Ranks.antt", f"""-- An order of the rules. Written by tools/grammar.py.
+use Rattle.std.proofs.Common.{{ℕ}}
+use Rattle.widl_syntax.specs.declared.rule.Rule.{{Rule}}
+use Rattle.widl_syntax.specs.declared.rule.Rule.TheVariants.{variants(ranked)}
+
+-- a rule that the printed grammar lacks is below those in whose rows it stands where nothing before it takes
+-- a token
+abbrev pub rank : Rule → ℕ
+{"".join(f"rank {n} = {printed.ranks[n]}{chr(10)}" for n in ranked)}rank _ = 0
+""")
+    write("proofs/Prints.antt", f"""-- The rules that both grammars have. Written by tools/grammar.py.
+use Rattle.std.proofs.Common.{{Option, Some, None}}
+use Rattle.widl_syntax.specs.declared.rule.Rule.{{Rule}}
+use Rattle.widl_syntax.specs.declared.rule.Rule.TheVariants.{variants(ruled)}
+use Rattle.widl_syntax.specs.Printed.{{Nonterminal}}
+use Rattle.widl_syntax.specs.Printed as printing
+
+abbrev pub prints : Rule → Option Nonterminal
+{"".join(f"prints {n} = Some printing.{n}{chr(10)}" for n in ruled)}prints _ = None
+""")
+    write("proofs/RuleOf.antt", f"""-- The rules that both grammars have. Written by tools/grammar.py.
+use Rattle.std.proofs.Common.{{Option, Some, None}}
+use Rattle.widl_syntax.specs.declared.rule.Rule.{{Rule}}
+use Rattle.widl_syntax.specs.declared.rule.Rule.TheVariants as row
+use Rattle.widl_syntax.specs.Printed.{variants(["Nonterminal"] + ruled)}
+
+-- none where the printed rule is put in place of its name
+abbrev pub rule_of : Nonterminal → Option Rule
+{"".join(f"rule_of {n} = Some row.{n}{chr(10)}" for n in ruled)}rule_of _ = None
+""")
 
 
 def main():
@@ -504,6 +603,7 @@ def main():
     write_rows(rows)
     write_tables(rows)
     write_specs(rows)
+    write_printed(rows, printed)
     print(len(rows.rules), "rules,", sum(map(len, rows.rows.values())), "rows,", len(rows.terminals), "terminals")
     print("inlined:", printed.inlined)
 

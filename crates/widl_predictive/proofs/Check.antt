@@ -15,11 +15,11 @@ use Rattle.widl_predictive.specs.Predictive as theory
 use Rattle.widl_predictive.proofs.Theory
 use Rattle.widl_predictive.proofs.Booleans.{and_cases}
 
-abbrev imp : Bool → Bool → Bool
+abbrev pub imp : Bool → Bool → Bool
 imp true b = b
 imp false b = true
 
-imp_holds : (a b : Bool) → imp a b ≡ true → a ≡ true → b ≡ true
+pub imp_holds : (a b : Bool) → imp a b ≡ true → a ≡ true → b ≡ true
 imp_holds true b h g = h
 imp_holds false b h g = cc
 
@@ -28,13 +28,13 @@ unfoldable pub each : {X : Type 0} → (X → Bool) → List X → Bool
 each p [] = true
 each p (x ∷ xs) = p x && each p xs
 
-each_at : {X : Type 0} (p : X → Bool) (xs : List X) → each p xs ≡ true → (i : ℕ) → i < length xs → (d : X) → p (get_or xs i d) ≡ true
+pub each_at : {X : Type 0} (p : X → Bool) (xs : List X) → each p xs ≡ true → (i : ℕ) → i < length xs → (d : X) → p (get_or xs i d) ≡ true
 unfolding each
 each_at p [] h i lt d = absurd (omega arith)
 each_at p (x ∷ xs) h zero lt d = (and_cases (p x) _ h).0
 each_at p (x ∷ xs) h (suc i) lt d = each_at p xs (and_cases (p x) _ h).1 i (omega arith) d
 
-each_coded : {X : Type 0} (c : Coded X) (p : X → Bool) → each p c.all ≡ true → (x : X) → p x ≡ true
+pub each_coded : {X : Type 0} (c : Coded X) (p : X → Bool) → each p c.all ≡ true → (x : X) → p x ≡ true
 each_coded c p h x = subst (λ y. p y ≡ true) (c.at x x) (each_at p c.all h (c.code x) (c.below x) x)
 
 nth_some : {X : Type 0} (xs : List X) (k : ℕ) (x : X) → k < length xs → get_or xs k x ≡ x → nth xs k ≡ Some x

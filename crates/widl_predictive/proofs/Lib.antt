@@ -5,3 +5,5 @@ pub mod Places
 pub mod Unique
 pub mod Running
 pub mod Check
+pub mod Alternatives
+pub mod Comparison

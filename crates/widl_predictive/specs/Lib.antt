@@ -6,3 +6,4 @@ pub mod Machine
 pub mod Coded
 pub mod Table
 pub mod Runs
+pub mod Expression

@@ -1,0 +1,6 @@
+pub mod Names
+pub mod Parts
+pub mod Ranks
+pub mod Prints
+pub mod RuleOf
+pub mod SameSentences

@@ -3,3 +3,4 @@ pub mod Rules
 pub mod Rows
 pub mod Tables
 pub mod Owed
+pub mod Printed
