@@ -304,6 +304,71 @@ pub enum Rule {{
 """)
 
 
+def quoted(rows):
+    return [s for s in rows.terminals if s.startswith('"')]
+
+
+def write_words(rows):
+    words = quoted(rows)
+    arms = "".join(f"        Terminal::{rows.terminal[s]} => Some({s}),\n" for s in words)
+    write("src/spelling.rt", f"""//! The words and signs that the grammar quotes.
+
+{GENERATED}ghost use Rattle.std.specs.Prelude.{{◌≡◌, None, Some, MatchOption}};
+ghost use Rattle.widl_syntax.specs.Words.{{spelling}};
+
+use crate::Terminal;
+
+/// The terminals that are quoted words and signs.
+pub const QUOTED: [Terminal; {len(words)}] = [{", ".join("Terminal::" + rows.terminal[s] for s in words)}];
+
+/// The word or sign that a quoted terminal is; `None` for a class of tokens.
+pub fn spelling(terminal: Terminal) -> Option<&'static str>
+    ensures {{ MatchOption result (spelling terminal ≡ None) (λ text. spelling terminal ≡ Some text.now) }}
+{{
+    match terminal {{
+{arms}        _ => None,
+    }}
+}}
+""")
+    names = [rows.terminal[s] for s in words]
+    cases = "".join(f"spelling {rows.terminal[s]} = Some (codes {s})\n" for s in words)
+    write("specs/Words.antt", f"""-- The words and signs that the grammar quotes. Written by tools/grammar.py.
+use Rattle.std.specs.Prelude.{{ℕ, Bool, false, Option, Some, None, List, [], ◌∷◌, find, codes}}
+use Rattle.std.specs.Str.{{bytes_eq}}
+use Rattle.widl_syntax.specs.declared.terminal.Terminal.{{Terminal}}
+use Rattle.widl_syntax.specs.declared.terminal.Terminal.TheVariants.{variants(names)}
+use Rattle.widl_syntax.specs.declared.spelling.TheConstants.{{QUOTED}}
+
+-- the bytes of a quoted terminal
+abbrev pub spelling : Terminal → Option (List ℕ)
+{cases}spelling _ = None
+
+abbrev pub is_spelled : Option (List ℕ) → List ℕ → Bool
+is_spelled None text = false
+is_spelled (Some x) text = bytes_eq x text
+
+-- the one of the terminals that is spelled so
+abbrev pub quoted_among : List Terminal → List ℕ → Option Terminal
+quoted_among terminals text = find (λ t. is_spelled (spelling t) text) terminals
+
+abbrev pub quoted : List ℕ → Option Terminal
+quoted text = quoted_among QUOTED text
+""")
+    cases = "".join(f"quoted_is {n} text e = subst (λ x. quoted x ≡ Some {n}) (told e) refl\n" for n in names)
+    write("proofs/Spellings.antt", f"""-- Each quoted terminal is the one that is spelled so. Written by tools/grammar.py.
+use Rattle.std.proofs.Common.{{◌≡◌, ℕ, Option, Some, None, List, refl, subst}}
+use Rattle.widl_syntax.specs.declared.terminal.Terminal.{{Terminal}}
+use Rattle.widl_syntax.specs.declared.terminal.Terminal.TheVariants.{variants(names)}
+use Rattle.widl_syntax.specs.Words.{{spelling, quoted}}
+
+told : {{X : Type 0}} {{x y : X}} → Some x ≡ Some y → x ≡ y
+told e = cc
+
+pub quoted_is : (t : Terminal) (text : List ℕ) → spelling t ≡ Some text → quoted text ≡ Some t
+{cases}quoted_is _ text e = cc
+""")
+
+
 def write_rows(rows):
     for group, names in rows.groups:
         used = {word for n in names for row in rows.rows[n] for word in (
@@ -600,6 +665,7 @@ def main():
     rows = Rows()
     printed = Printed(rows)
     write_enums(rows)
+    write_words(rows)
     write_rows(rows)
     write_tables(rows)
     write_specs(rows)

@@ -4,3 +4,4 @@ pub mod Ranks
 pub mod Prints
 pub mod RuleOf
 pub mod SameSentences
+pub mod Spellings

@@ -4,3 +4,4 @@ pub mod Rows
 pub mod Tables
 pub mod Owed
 pub mod Printed
+pub mod Words

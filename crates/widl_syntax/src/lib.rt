@@ -7,13 +7,17 @@
 #![tactic(auto)]
 
 mod grammar;
+pub mod laws;
+mod lookup;
 mod picks;
 mod rows;
 mod rule;
 mod sentence;
+mod spelling;
 mod table;
 mod terminal;
 
+pub use lookup::quoted;
 pub use rule::Rule;
 pub use sentence::read_definitions;
 pub use terminal::Terminal;

@@ -1,0 +1,107 @@
+-- The words and signs that the grammar quotes. Written by tools/grammar.py.
+use Rattle.std.specs.Prelude.{ℕ, Bool, false, Option, Some, None, List, [], ◌∷◌, find, codes}
+use Rattle.std.specs.Str.{bytes_eq}
+use Rattle.widl_syntax.specs.declared.terminal.Terminal.{Terminal}
+use Rattle.widl_syntax.specs.declared.terminal.Terminal.TheVariants.{Equals, OpenParen, CloseParen, Semicolon, OpenBrace, CloseBrace, Comma, Colon, MinusInfinity, Less, Greater, Ellipsis, OpenBracket, CloseBracket, Asterisk, Question, Any, ArrayBuffer, Async, AsyncIterable, AsyncSequence, Attribute, BigInt64Array, BigUint64Array, Bigint, Boolean, Byte, ByteString, Callback, Const, Constructor, DataView, Deleter, Dictionary, DomString, Double, Enum, False, Float, Float16Array, Float32Array, Float64Array, FrozenArray, Getter, Includes, Infinity, Inherit, Int16Array, Int32Array, Int8Array, Interface, Iterable, Long, Maplike, Mixin, Namespace, Nan, Null, Object, ObservableArray, Octet, Optional, Or, Partial, Promise, Readonly, Record, Required, Sequence, Setlike, Setter, SharedArrayBuffer, Short, Static, Stringifier, Symbol, True, Typedef, Uint16Array, Uint32Array, Uint8Array, Uint8ClampedArray, Undefined, Unrestricted, Unsigned, UsvString}
+use Rattle.widl_syntax.specs.declared.spelling.TheConstants.{QUOTED}
+
+-- the bytes of a quoted terminal
+abbrev pub spelling : Terminal → Option (List ℕ)
+spelling Equals = Some (codes "=")
+spelling OpenParen = Some (codes "(")
+spelling CloseParen = Some (codes ")")
+spelling Semicolon = Some (codes ";")
+spelling OpenBrace = Some (codes "{")
+spelling CloseBrace = Some (codes "}")
+spelling Comma = Some (codes ",")
+spelling Colon = Some (codes ":")
+spelling MinusInfinity = Some (codes "-Infinity")
+spelling Less = Some (codes "<")
+spelling Greater = Some (codes ">")
+spelling Ellipsis = Some (codes "...")
+spelling OpenBracket = Some (codes "[")
+spelling CloseBracket = Some (codes "]")
+spelling Asterisk = Some (codes "*")
+spelling Question = Some (codes "?")
+spelling Any = Some (codes "any")
+spelling ArrayBuffer = Some (codes "ArrayBuffer")
+spelling Async = Some (codes "async")
+spelling AsyncIterable = Some (codes "async_iterable")
+spelling AsyncSequence = Some (codes "async_sequence")
+spelling Attribute = Some (codes "attribute")
+spelling BigInt64Array = Some (codes "BigInt64Array")
+spelling BigUint64Array = Some (codes "BigUint64Array")
+spelling Bigint = Some (codes "bigint")
+spelling Boolean = Some (codes "boolean")
+spelling Byte = Some (codes "byte")
+spelling ByteString = Some (codes "ByteString")
+spelling Callback = Some (codes "callback")
+spelling Const = Some (codes "const")
+spelling Constructor = Some (codes "constructor")
+spelling DataView = Some (codes "DataView")
+spelling Deleter = Some (codes "deleter")
+spelling Dictionary = Some (codes "dictionary")
+spelling DomString = Some (codes "DOMString")
+spelling Double = Some (codes "double")
+spelling Enum = Some (codes "enum")
+spelling False = Some (codes "false")
+spelling Float = Some (codes "float")
+spelling Float16Array = Some (codes "Float16Array")
+spelling Float32Array = Some (codes "Float32Array")
+spelling Float64Array = Some (codes "Float64Array")
+spelling FrozenArray = Some (codes "FrozenArray")
+spelling Getter = Some (codes "getter")
+spelling Includes = Some (codes "includes")
+spelling Infinity = Some (codes "Infinity")
+spelling Inherit = Some (codes "inherit")
+spelling Int16Array = Some (codes "Int16Array")
+spelling Int32Array = Some (codes "Int32Array")
+spelling Int8Array = Some (codes "Int8Array")
+spelling Interface = Some (codes "interface")
+spelling Iterable = Some (codes "iterable")
+spelling Long = Some (codes "long")
+spelling Maplike = Some (codes "maplike")
+spelling Mixin = Some (codes "mixin")
+spelling Namespace = Some (codes "namespace")
+spelling Nan = Some (codes "NaN")
+spelling Null = Some (codes "null")
+spelling Object = Some (codes "object")
+spelling ObservableArray = Some (codes "ObservableArray")
+spelling Octet = Some (codes "octet")
+spelling Optional = Some (codes "optional")
+spelling Or = Some (codes "or")
+spelling Partial = Some (codes "partial")
+spelling Promise = Some (codes "Promise")
+spelling Readonly = Some (codes "readonly")
+spelling Record = Some (codes "record")
+spelling Required = Some (codes "required")
+spelling Sequence = Some (codes "sequence")
+spelling Setlike = Some (codes "setlike")
+spelling Setter = Some (codes "setter")
+spelling SharedArrayBuffer = Some (codes "SharedArrayBuffer")
+spelling Short = Some (codes "short")
+spelling Static = Some (codes "static")
+spelling Stringifier = Some (codes "stringifier")
+spelling Symbol = Some (codes "symbol")
+spelling True = Some (codes "true")
+spelling Typedef = Some (codes "typedef")
+spelling Uint16Array = Some (codes "Uint16Array")
+spelling Uint32Array = Some (codes "Uint32Array")
+spelling Uint8Array = Some (codes "Uint8Array")
+spelling Uint8ClampedArray = Some (codes "Uint8ClampedArray")
+spelling Undefined = Some (codes "undefined")
+spelling Unrestricted = Some (codes "unrestricted")
+spelling Unsigned = Some (codes "unsigned")
+spelling UsvString = Some (codes "USVString")
+spelling _ = None
+
+abbrev pub is_spelled : Option (List ℕ) → List ℕ → Bool
+is_spelled None text = false
+is_spelled (Some x) text = bytes_eq x text
+
+-- the one of the terminals that is spelled so
+abbrev pub quoted_among : List Terminal → List ℕ → Option Terminal
+quoted_among terminals text = find (λ t. is_spelled (spelling t) text) terminals
+
+abbrev pub quoted : List ℕ → Option Terminal
+quoted text = quoted_among QUOTED text
