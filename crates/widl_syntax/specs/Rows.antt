@@ -1,5 +1,5 @@
 -- The grammar, as the constants of the source have it. Written by tools/grammar.py.
-use Rattle.std.specs.Prelude.{List, ℕ, [], ◌∷◌, Bool, true, false}
+use Rattle.std.specs.Prelude.{List, [], ◌∷◌, Bool, true, false}
 use Rattle.widl_syntax.specs.declared.rule.Rule.{Rule}
 use Rattle.widl_syntax.specs.declared.rule.Rule.TheVariants.{Definitions, Definition, CallbackRest, InterfaceRest, MixinRest, Namespace, PartialRest, PartialInterfaceRest, Dictionary, Enum, EnumMore, EnumNext, Typedef, Includes, Parent, CallbackMembers, CallbackMember, InterfaceMembers, InterfaceMember, MixinMembers, NamespaceMembers, NamespaceMember, PartialMembers, DictionaryMembers, DictionaryMember, DictionaryMemberRest, Member, ReadonlyRest, MixinMember, Constructor, Const, ConstType, ConstValue, Attribute, AttributeName, Operation, OperationName, Special, SpecialWord, Stringifier, StringifierRest, Static, StaticRest, Iterable, SecondType, AsyncIterable, AsyncWord, AsyncArguments, Maplike, Setlike, ArgumentList, MoreArguments, Argument, ArgumentRest, Ellipsis, ArgumentName, Default, DefaultValue, ExtendedAttributeList, MoreExtendedAttributes, ExtendedAttribute, ExtendedAttributeRest, ExtendedAttributeValue, ExtendedAttributeArguments, MoreWords, Word, WholeType, Nullable, Union, MoreUnionMembers, UnionMember, MemberDistinguishable, MemberUnion, Distinguishable, DistinguishableBase, Container, Primitive, IntegerWord, SecondLong, FloatWord, StringType, Buffer}
 use Rattle.widl_syntax.specs.declared.terminal.Terminal.{Terminal}

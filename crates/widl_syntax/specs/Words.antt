@@ -1,5 +1,5 @@
 -- The words and signs that the grammar quotes. Written by tools/grammar.py.
-use Rattle.std.specs.Prelude.{ℕ, Bool, false, Option, Some, None, List, [], ◌∷◌, find, codes}
+use Rattle.std.specs.Prelude.{ℕ, Bool, false, Option, Some, None, List, find, codes}
 use Rattle.std.specs.Str.{bytes_eq}
 use Rattle.widl_syntax.specs.declared.terminal.Terminal.{Terminal}
 use Rattle.widl_syntax.specs.declared.terminal.Terminal.TheVariants.{Equals, OpenParen, CloseParen, Semicolon, OpenBrace, CloseBrace, Comma, Colon, MinusInfinity, Less, Greater, Ellipsis, OpenBracket, CloseBracket, Asterisk, Question, Any, ArrayBuffer, Async, AsyncIterable, AsyncSequence, Attribute, BigInt64Array, BigUint64Array, Bigint, Boolean, Byte, ByteString, Callback, Const, Constructor, DataView, Deleter, Dictionary, DomString, Double, Enum, False, Float, Float16Array, Float32Array, Float64Array, FrozenArray, Getter, Includes, Infinity, Inherit, Int16Array, Int32Array, Int8Array, Interface, Iterable, Long, Maplike, Mixin, Namespace, Nan, Null, Object, ObservableArray, Octet, Optional, Or, Partial, Promise, Readonly, Record, Required, Sequence, Setlike, Setter, SharedArrayBuffer, Short, Static, Stringifier, Symbol, True, Typedef, Uint16Array, Uint32Array, Uint8Array, Uint8ClampedArray, Undefined, Unrestricted, Unsigned, UsvString}

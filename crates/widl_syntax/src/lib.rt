@@ -21,3 +21,6 @@ pub use lookup::quoted;
 pub use rule::Rule;
 pub use sentence::read_definitions;
 pub use terminal::Terminal;
+
+#[cfg(test)]
+mod tests;
