@@ -1,0 +1,12 @@
+pub mod Characters
+pub mod Cuts
+pub mod Derivative
+pub mod Labels
+pub mod OneCut
+pub mod QuotedTable
+pub mod Scans
+pub mod Table
+pub mod Tests
+pub mod Utf8Table
+pub mod Unclosed
+pub mod Whole

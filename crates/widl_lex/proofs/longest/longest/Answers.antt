@@ -1,0 +1,21 @@
+use Rattle.std.proofs.Common.{◌+◌, refl, arith, subst, sym, ap, ◌∙◌}
+use Rattle.widl_lex.proofs.Tests.{all_bytes}
+use Rattle.widl_lex.specs.Walk.{end_of}
+use Rattle.widl_lex.proofs.Table.{Best, run_more, better_kept, best_done, dead_no}
+use Rattle.widl_lex.proofs.longest.longest.Goals as goal
+
+pub returns-then-state-eq-DEAD : goal.returns-then-state-eq-DEAD
+returns-then-state-eq-DEAD c =
+    let all = all_bytes c.args.text.now (λ i. omega (arith, c.type_inv.text i)) in
+    let at = run_more c.args.text.now all c.loop-place.place c.loop-place.state c.next_state-state.result c.loop-place-test.true c.loop-place.invariant.state c.next_state-state.ensures.next in
+    best_done c.args.text.now all c.loop-place.best c.loop-place.place (omega arith) (dead_no c.args.text.now all c.loop-place.place c.next_state-state.result at c.if-state-eq-DEAD.true) c.loop-place.invariant.best
+
+pub loop-place-preserved : goal.loop-place-preserved
+loop-place-preserved c =
+    let all = all_bytes c.args.text.now (λ i. omega (arith, c.type_inv.text i)) in
+    let at = run_more c.args.text.now all c.loop-place.place c.loop-place.state c.next_state-state.result c.loop-place-test.true c.loop-place.invariant.state c.next_state-state.ensures.next in
+    record {
+      small = c.next_state-state.ensures.small;
+      state = at;
+      best = subst (λ x. Best x (c.loop-place.place + 1) c.args.text.now) (sym c.better-best.ensures) (better_kept c.args.text.now all c.loop-place.best c.loop-place.place (end_of c.next_state-state.result) (ap end_of at) c.loop-place.invariant.best);
+    }

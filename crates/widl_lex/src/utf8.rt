@@ -1,0 +1,31 @@
+//! Where a file stops being UTF-8.
+
+ghost use Rattle.std.specs.Prelude.{◌≡◌, ◌<◌, IsUtf8, MatchOption};
+ghost use Rattle.widl_lex.specs.Walk.{utf8_next_of};
+ghost use Rattle.widl_lex.specs.Utf8.{IsUtf8Fault};
+
+use crate::tables::{UTF8_CLASSES, UTF8_DEAD, UTF8_NEXT, UTF8_STATES};
+
+/// The state of UTF-8 after a byte.
+fn next_state(state: usize, byte: u8) -> usize
+    requires { state < UTF8_STATES }
+    ensures next { result ≡ utf8_next_of state byte }
+    ensures small { result < UTF8_STATES }
+{
+    UTF8_NEXT[state][UTF8_CLASSES[byte as usize] as usize] as usize
+}
+
+/// The first byte that no UTF-8 text continues, or the length where the bytes end inside a character; none
+/// where they are UTF-8.
+pub fn utf8_fault(bytes: &[u8]) -> Option<usize>
+    ensures { MatchOption result (IsUtf8 bytes.now) (IsUtf8Fault bytes.now) }
+{
+    let mut state = 0;
+    for (place, byte) in bytes.iter().enumerate() {
+        state = next_state(state, *byte);
+        if state == UTF8_DEAD {
+            return Some(place);
+        }
+    }
+    if state == 0 { None } else { Some(bytes.len()) }
+}
