@@ -333,7 +333,7 @@ pub fn spelling(terminal: Terminal) -> Option<&'static str>
     names = [rows.terminal[s] for s in words]
     cases = "".join(f"spelling {rows.terminal[s]} = Some (codes {s})\n" for s in words)
     write("specs/Words.antt", f"""-- The words and signs that the grammar quotes. Written by tools/grammar.py.
-use Rattle.std.specs.Prelude.{{ℕ, Bool, false, Option, Some, None, List, [], ◌∷◌, find, codes}}
+use Rattle.std.specs.Prelude.{{ℕ, Bool, false, Option, Some, None, List, find, codes}}
 use Rattle.std.specs.Str.{{bytes_eq}}
 use Rattle.widl_syntax.specs.declared.terminal.Terminal.{{Terminal}}
 use Rattle.widl_syntax.specs.declared.terminal.Terminal.TheVariants.{variants(names)}
@@ -356,7 +356,7 @@ quoted text = quoted_among QUOTED text
 """)
     cases = "".join(f"quoted_is {n} text e = subst (λ x. quoted x ≡ Some {n}) (told e) refl\n" for n in names)
     write("proofs/Spellings.antt", f"""-- Each quoted terminal is the one that is spelled so. Written by tools/grammar.py.
-use Rattle.std.proofs.Common.{{◌≡◌, ℕ, Option, Some, None, List, refl, subst}}
+use Rattle.std.proofs.Common.{{◌≡◌, ℕ, Some, List, refl, subst}}
 use Rattle.widl_syntax.specs.declared.terminal.Terminal.{{Terminal}}
 use Rattle.widl_syntax.specs.declared.terminal.Terminal.TheVariants.{variants(names)}
 use Rattle.widl_syntax.specs.Words.{{spelling, quoted}}
@@ -499,7 +499,7 @@ rules = record {{ all = all_rules; code = rule_code; at = rule_at; below = rule_
         f"use Rattle.widl_syntax.specs.declared.picks.{group}.TheConstants."
         f"{variants(constant(n) + '_PICKS' for n in names)}\n" for group, names in rows.groups)
     write("specs/Rows.antt", f"""-- The grammar, as the constants of the source have it. Written by tools/grammar.py.
-use Rattle.std.specs.Prelude.{{List, ℕ, [], ◌∷◌, Bool, true, false}}
+use Rattle.std.specs.Prelude.{{List, [], ◌∷◌, Bool, true, false}}
 {rule_use}use Rattle.widl_syntax.specs.declared.terminal.Terminal.{{Terminal}}
 use Rattle.widl_predictive.specs.declared.grammar.Symbol.{{Symbol}}
 use Rattle.widl_predictive.specs.Grammar.{{Grammar}}

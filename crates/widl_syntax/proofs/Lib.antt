@@ -5,3 +5,4 @@ pub mod Prints
 pub mod RuleOf
 pub mod SameSentences
 pub mod Spellings
+pub mod FaultPlaces

@@ -5,3 +5,4 @@ pub mod Tables
 pub mod Owed
 pub mod Printed
 pub mod Words
+pub mod Source
