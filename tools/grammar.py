@@ -305,7 +305,7 @@ pub enum Rule {{
 
 
 def quoted(rows):
-    return [s for s in rows.terminals if s.startswith('"')]
+    return sorted((s for s in rows.terminals if s.startswith('"')), key=lambda s: s.strip('"'))
 
 
 def write_words(rows):
@@ -318,8 +318,11 @@ ghost use Rattle.widl_syntax.specs.Words.{{spelling}};
 
 use crate::Terminal;
 
-/// The terminals that are quoted words and signs.
-pub const QUOTED: [Terminal; {len(words)}] = [{", ".join("Terminal::" + rows.terminal[s] for s in words)}];
+/// The terminals that are quoted words and signs, in the order of their spellings.
+pub static QUOTED: [Terminal; {len(words)}] = [{", ".join("Terminal::" + rows.terminal[s] for s in words)}];
+
+/// How many of them begin with a lower byte than this one.
+pub static QUOTED_FROM: [u8; 257] = [{", ".join(str(sum(ord(s[1]) < b for s in words)) for b in range(257))}];
 
 /// The word or sign that a quoted terminal is; `None` for a class of tokens.
 pub fn spelling(terminal: Terminal) -> Option<&'static str>
@@ -333,11 +336,11 @@ pub fn spelling(terminal: Terminal) -> Option<&'static str>
     names = [rows.terminal[s] for s in words]
     cases = "".join(f"spelling {rows.terminal[s]} = Some (codes {s})\n" for s in words)
     write("specs/Words.antt", f"""-- The words and signs that the grammar quotes. Written by tools/grammar.py.
-use Rattle.std.specs.Prelude.{{ℕ, Bool, false, Option, Some, None, List, find, codes}}
+use Rattle.std.specs.Prelude.{{ℕ, Bool, false, Option, Some, None, List, [], ◌∷◌, ◌+◌, find, codes, slice_range, slice_index}}
 use Rattle.std.specs.Str.{{bytes_eq}}
 use Rattle.widl_syntax.specs.declared.terminal.Terminal.{{Terminal}}
 use Rattle.widl_syntax.specs.declared.terminal.Terminal.TheVariants.{variants(names)}
-use Rattle.widl_syntax.specs.declared.spelling.TheConstants.{{QUOTED}}
+use Rattle.widl_syntax.specs.declared.spelling.TheConstants.{{QUOTED, QUOTED_FROM}}
 
 -- the bytes of a quoted terminal
 abbrev pub spelling : Terminal → Option (List ℕ)
@@ -351,8 +354,14 @@ is_spelled (Some x) text = bytes_eq x text
 abbrev pub quoted_among : List Terminal → List ℕ → Option Terminal
 quoted_among terminals text = find (λ t. is_spelled (spelling t) text) terminals
 
+-- the terminals whose spellings begin with the byte
+abbrev pub beginning : ℕ → List Terminal
+beginning byte = slice_range QUOTED (slice_index QUOTED_FROM byte) (slice_index QUOTED_FROM (byte + 1))
+
+-- the terminal that is spelled so
 abbrev pub quoted : List ℕ → Option Terminal
-quoted text = quoted_among QUOTED text
+quoted [] = None
+quoted (byte ∷ more) = quoted_among (beginning byte) (byte ∷ more)
 """)
     cases = "".join(f"quoted_is {n} text e = subst (λ x. quoted x ≡ Some {n}) (told e) refl\n" for n in names)
     write("proofs/Spellings.antt", f"""-- Each quoted terminal is the one that is spelled so. Written by tools/grammar.py.
