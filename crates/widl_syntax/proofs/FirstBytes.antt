@@ -1,5 +1,5 @@
 -- The table of quoted terminals by their first bytes: its bounds, by tests that the checker computes.
-use Rattle.std.proofs.Common.{◌≡◌, ℕ, ◌+◌, ◌<◌, ◌≤◌, true, refl, leb, leb-true, ap, sym, ◌∙◌, List}
+use Rattle.std.proofs.Common.{◌≡◌, ℕ, ◌+◌, ◌<◌, ◌≤◌, true, refl, leb, leb-true, ap, ◌∙◌, List}
 use Rattle.std.specs.Prelude.{slice_index, slice_range}
 use Rattle.widl_lex.proofs.Tests.{all_below, all_at}
 use Rattle.widl_syntax.specs.declared.spelling.TheConstants.{QUOTED_FROM}
