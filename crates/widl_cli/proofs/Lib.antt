@@ -1,0 +1,5 @@
+mod Asked
+mod Budgets
+mod Endings
+mod Fetches
+mod Runs

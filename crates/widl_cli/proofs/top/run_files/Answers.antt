@@ -1,0 +1,33 @@
+use Rattle.std.proofs.Common.{ap, sym, ◌∙◌}
+use Rattle.widl_cli.specs.Outputs.{reading_output, run_output}
+use Rattle.widl_cli.specs.declared.status.Status.TheVariants as ends
+use Rattle.widl_cli.specs.Texts.{named}
+use Rattle.widl_cli.proofs.Endings.{answered_plain, plain_run, read_ends, stopped_ends, answers_named}
+use Rattle.widl_cli.proofs.Fetches.{named_here, last_named}
+use Rattle.widl_cli.proofs.top.run_files.Goals as goal
+
+pub returns-in-Ok-clause-ends : goal.returns-in-Ok-clause-ends
+returns-in-Ok-clause-ends g c =
+    read_ends _ _ _ _ _ _ (run_output c.args.budget c.in-Ok.texts) c.answer_run.ensures (plain_run _ _)
+    (λ told is. sym (ap (reading_output (run_output c.args.budget)) (c.in-Ok.ensures.all told is)))
+    (c.in-Ok.ensures.failed.kept (λ e. e)) (c.in-Ok.ensures.missing.kept (λ e. e)) c.in-Ok.ensures.given_ok
+
+pub returns-in-Ok-clause-usage : goal.returns-in-Ok-clause-usage
+returns-in-Ok-clause-usage g c e =
+    answered_plain _ _ _ _ _ _ ends.Usage c.answer_run.ensures (plain_run _ _) (λ q. (cc)) (λ q. (cc)) (λ q. q) e
+
+pub returns-in-Err-clause-ends : goal.returns-in-Err-clause-ends
+returns-in-Err-clause-ends g c =
+    let e = c.in-Err.ensures in
+    let name = named_here c.args.words.now c.in-Err.unread.place _ c.at.ensures in
+    stopped_ends _ (run_output c.args.budget) _ _ _ _ (named c.args.words.now c.in-Err.unread.place) c.in-Err.unread.cause _
+    (record {
+      stops = e.stops;
+      faults = e.failed;
+      misses = e.missing;
+      long = e.given_long;
+      not_missing = e.given_missing;
+      not_failed = e.given_failed;
+      named = λ small. last_named c.args.words.now _ _ c.in-Err.unread.place e.place.0 e.place.1 c.requires.most small e.starts;
+    })
+    (answers_named c.in-Err.unread.cause _ _ (c.as_str-name.ensures.value ∙ sym name) _ _ _ _ _ c.answer_unread.ensures.answers) c.answer_unread.ensures.memory

@@ -1,0 +1,49 @@
+-- How a call ends, by what the folder and the sink counted.
+use Rattle.std.specs.Prelude.{◌≡◌, ◌≢◌, ℕ, ◌-◌, ◌<◌, ◌⊎◌, List, Option, Some}
+use Rattle.std.specs.Io.KnownBytes.{append_known}
+use Rattle.widl_trace.specs.Causes.{Rose}
+use Rattle.widl_trace.specs.Growth.{GrewByPrefix}
+use Rattle.widl_trace.specs.Lines.{ended}
+use Rattle.widl_cli.specs.Outputs.{Output, fault_line}
+use Rattle.widl_cli.specs.Texts.{named}
+use Rattle.widl_cli.specs.declared.status.Status.{Status}
+use Rattle.widl_cli.specs.declared.status.Status.TheVariants as ends
+
+-- what can be seen of the sink and of the folder at one moment
+pub record Outside : Type 0 where
+  pub held : Option (List ℕ)
+  pub sink_faults : ℕ
+  pub faults : ℕ
+  pub misses : ℕ
+  pub given : ℕ
+  pub starts : ℕ
+
+-- the line that names the last of the files that were started, by how many were
+abbrev pub fault_of : List (List ℕ) → ℕ → List ℕ
+fault_of names started = ended (fault_line (named names (started - 1)))
+
+abbrev pub last_fault : List (List ℕ) → Outside → Outside → List ℕ
+last_fault names old new = fault_of names (new.starts - old.starts)
+
+-- the number of starts is far from the end of its type
+abbrev pub CountsStarts : Outside → Type 0
+CountsStarts old = old.starts < 18446744073709551000
+
+-- how a call ended that read the named files and then wrote an output that they determine
+pub record Ends (files : Option (List (List ℕ × List ℕ))) (output : List (List ℕ × List ℕ) → Output) (names : List (List ℕ)) (old new : Outside) (result : Status) : Type 0 where
+  pub status : (told : List (List ℕ × List ℕ)) → files ≡ Some told → result ≢ ends.Memory → result ≢ ends.ReadFault → result ≢ ends.WriteFault → result ≡ (output told).status
+  pub written : (told : List (List ℕ × List ℕ)) → files ≡ Some told → result ≢ ends.Memory → result ≢ ends.ReadFault → result ≢ ends.WriteFault → new.held ≡ append_known old.held (output told).bytes
+  pub short : (told : List (List ℕ × List ℕ)) → files ≡ Some told → (Rose old.faults new.faults → ⊥) → result ≡ ends.Memory → GrewByPrefix old.held new.held (output told).bytes
+  pub torn : (told : List (List ℕ × List ℕ)) → files ≡ Some told → (Rose old.faults new.faults → ⊥) → result ≡ ends.WriteFault → GrewByPrefix old.held new.held (output told).bytes
+  pub torn_fault : (told : List (List ℕ × List ℕ)) → files ≡ Some told → CountsStarts old → result ≡ ends.WriteFault
+      → GrewByPrefix old.held new.held (output told).bytes ⊎ GrewByPrefix old.held new.held (last_fault names old new)
+  pub fault_written : CountsStarts old → result ≡ ends.ReadFault → new.held ≡ append_known old.held (last_fault names old new)
+  pub fault_short : CountsStarts old → old.faults < new.faults → result ≡ ends.Memory → GrewByPrefix old.held new.held (last_fault names old new)
+  pub read_fault : result ≡ ends.ReadFault → Rose old.faults new.faults
+  pub missing : result ≡ ends.Missing → Rose old.misses new.misses
+  pub too_long : result ≡ ends.TooLong → new.given ≡ 1048577
+  pub write_fault : result ≡ ends.WriteFault → Rose old.sink_faults new.sink_faults
+  pub write_always : old.sink_faults < new.sink_faults → result ≡ ends.WriteFault
+  pub fault_always : old.faults < new.faults → (result ≡ ends.WriteFault) ⊎ ((result ≡ ends.ReadFault) ⊎ (result ≡ ends.Memory))
+  pub miss_always : old.misses < new.misses → (result ≡ ends.WriteFault) ⊎ ((result ≡ ends.Missing) ⊎ (result ≡ ends.Memory))
+  pub long_always : new.given ≡ 1048577 → (result ≡ ends.WriteFault) ⊎ ((result ≡ ends.TooLong) ⊎ (result ≡ ends.Memory))

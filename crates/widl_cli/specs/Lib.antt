@@ -1,0 +1,7 @@
+pub mod Causes
+pub mod Outputs
+pub mod Readings
+pub mod Requests
+pub mod Runs
+pub mod Statuses
+pub mod Texts

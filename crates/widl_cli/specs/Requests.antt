@@ -1,0 +1,45 @@
+-- The shapes that the words of a command line can have.
+use Rattle.std.specs.Prelude.{◌≡◌, ℕ, ◌<◌, ◌≤◌, nat_lt, nat_le, List, [], ◌∷◌, Option, Some, None, ◌&&◌, if◌then◌else◌, option_and_then, codes, drop}
+use Rattle.std.specs.Fmt.{decimal}
+use Rattle.std.specs.Str.Parse.{digits_value}
+use Rattle.std.specs.Str.{bytes_eq}
+use Rattle.widl_cli.specs.declared.request.Request as the
+use Rattle.widl_cli.specs.declared.request.Request.TheVariants.{Help, Version, Run}
+
+-- the word is the decimal text of a number from 1 to 2,000,000
+pub record IsBudget (word : List ℕ) (units : ℕ) : Type 0 where
+  pub text : word ≡ decimal units
+  pub least : 0 < units
+  pub most : units ≤ 2000000
+
+-- the same as a function: the value of the word's digits, where the word is its decimal text
+abbrev pub budget_from : List ℕ → ℕ → Option ℕ
+budget_from word units = if bytes_eq word (decimal units) && (nat_lt 0 units && nat_le units 2000000) then Some units else None
+
+unfoldable pub budget_of : List ℕ → Option ℕ
+budget_of word = budget_from word (digits_value 10 word)
+
+abbrev pub option_of : List ℕ → Option the.Request
+option_of word = if bytes_eq word (codes "--help") then Some Help else if bytes_eq word (codes "--version") then Some Version else None
+
+abbrev pub run_of : List ℕ → List ℕ → Option the.Request
+run_of command budget = if bytes_eq command (codes "run") then option_and_then (λ units. Some (Run units)) (budget_of budget) else None
+
+-- `--help`, `--version`, or `run BUDGET SCRIPT IDL`
+unfoldable pub request_of : List (List ℕ) → Option the.Request
+request_of (word ∷ []) = option_of word
+request_of (command ∷ budget ∷ script ∷ fragment ∷ []) = run_of command budget
+request_of words = None
+
+-- the names of the files that are read, in this order
+abbrev pub names_of : Option the.Request → List (List ℕ) → List (List ℕ)
+names_of None words = []
+names_of (Some Help) words = []
+names_of (Some Version) words = []
+names_of (Some (Run budget)) words = drop 2 words
+
+-- whether files are read
+abbrev pub HasFiles : the.Request → Type 0
+HasFiles Help = ⊥
+HasFiles Version = ⊥
+HasFiles (Run budget) = Unit {0}

@@ -1,0 +1,145 @@
+//! Writing the answer of a request.
+
+ghost use Rattle.std.specs.Prelude.{◌≡◌, ◌≢◌, ◌++◌, Some, IfOk, OnOk, OnErr, length};
+ghost use Rattle.std.specs.Io.KnownBytes.{append_known};
+ghost use Rattle.widl_trace.specs.Causes.{HasCause};
+ghost use Rattle.widl_trace.specs.Growth.{GrewByPrefix};
+ghost use Rattle.widl_trace.specs.Lines.{ended};
+ghost use Rattle.widl_cli.specs.Outputs.{plan_output, run_output, unread_output, last, Answers};
+ghost use Rattle.widl_cli.specs.Readings.{IsMemory};
+ghost use Rattle.widl_first_form.specs.Plans.{plan_of};
+ghost use Rattle.widl_first_form.specs.declared.planned.Plan.TheVariants as plans;
+ghost use Rattle.widl_folder.specs.declared.whole_file.FetchError.TheVariants as causes;
+
+use crate::Status;
+use crate::perform::perform_steps;
+use crate::texts::Texts;
+use std::alloc::{AllocError, Global};
+use widl_first_form::{Plan, Steps, make_plan};
+use widl_folder::FetchError;
+use widl_trace::{Line, Sink, WriteFailed, Writer};
+
+/// Runs a script over a fragment: the first text is the script's, the second the fragment's.
+#[tactic(auto, unfolding(crate::specs::Outputs::run_output))]
+pub fn answer_run<K: Sink>(alloc: Global, budget: u64, texts: &Texts, out: &mut K) -> Status
+    ensures { Answers (run_output budget texts.now) (K.held out.old) (K.held out.new) (K.faults out.old) (K.faults out.new) result }
+{
+    answer_texts(alloc, budget, texts.named(0), texts.named(1), out)
+}
+
+#[tactic(auto, using(widl_trace::proofs::Grows::prefix_none))]
+fn answer_texts<K: Sink>(
+    alloc: Global,
+    budget: u64,
+    script: &[u8],
+    fragment: &[u8],
+    out: &mut K,
+) -> Status
+    ensures { Answers (plan_output budget (plan_of fragment.now script.now)) (K.held out.old) (K.held out.new) (K.faults out.old) (K.faults out.new) result }
+{
+    match make_plan(alloc, fragment, script) {
+        Err(AllocError) => Status::Memory,
+        Ok(Plan::Unserved) => last_line(alloc, b"refused later 0 0", b"", Status::Refused, out),
+        Ok(Plan::NotScript) => {
+            last_line(alloc, b"script S90 1 1", b"", Status::ScriptRefused, out)
+        }
+        Ok(Plan::Run(steps)) => run_steps(alloc, budget, &steps, out),
+    }
+}
+
+#[tactic(auto, using(widl_trace::proofs::Grows::prefix_none))]
+fn run_steps<K: Sink>(alloc: Global, budget: u64, steps: &Steps, out: &mut K) -> Status
+    ensures { Answers (plan_output budget (plans.Run steps.now)) (K.held out.old) (K.held out.new) (K.faults out.old) (K.faults out.new) result }
+{
+    let Ok(stop) = joined_line(alloc, b"stop budget", b"") else {
+        return Status::Memory;
+    };
+    let Ok(mut writer) = Writer::new(alloc) else {
+        return Status::Memory;
+    };
+    match perform_steps(steps, budget, &stop, &mut writer, out) {
+        Ok(status) => status,
+        Err(_) => Status::WriteFault,
+    }
+}
+
+/// Says why a file was not read.
+pub fn answer_unread<K: Sink>(alloc: Global, cause: FetchError, name: &str, out: &mut K) -> Status
+    ensures answers { Answers (unread_output cause name.now) (K.held out.old) (K.held out.new) (K.faults out.old) (K.faults out.new) result }
+    ensures memory { IsMemory cause → result ≡ Status.Memory }
+{
+    match cause {
+        FetchError::Memory(_) => Status::Memory,
+        FetchError::Missing => missing_line(alloc, name, out),
+        FetchError::Failed => fault_line(alloc, name, out),
+        FetchError::TooLong => long_line(alloc, name, out),
+    }
+}
+
+#[tactic(auto, unfolding(crate::specs::Outputs::missing_line))]
+fn missing_line<K: Sink>(alloc: Global, name: &str, out: &mut K) -> Status
+    ensures { Answers (unread_output causes.Missing name.now) (K.held out.old) (K.held out.new) (K.faults out.old) (K.faults out.new) result }
+{
+    last_line(alloc, b"missing ", name.as_bytes(), Status::Missing, out)
+}
+
+#[tactic(auto, unfolding(crate::specs::Outputs::fault_line))]
+fn fault_line<K: Sink>(alloc: Global, name: &str, out: &mut K) -> Status
+    ensures { Answers (unread_output causes.Failed name.now) (K.held out.old) (K.held out.new) (K.faults out.old) (K.faults out.new) result }
+{
+    last_line(
+        alloc,
+        b"read fault ",
+        name.as_bytes(),
+        Status::ReadFault,
+        out,
+    )
+}
+
+#[tactic(auto, unfolding(crate::specs::Outputs::long_line))]
+fn long_line<K: Sink>(alloc: Global, name: &str, out: &mut K) -> Status
+    ensures { Answers (unread_output causes.TooLong name.now) (K.held out.old) (K.held out.new) (K.faults out.old) (K.faults out.new) result }
+{
+    last_line(alloc, b"too long ", name.as_bytes(), Status::TooLong, out)
+}
+
+/// Writes one line, and answers the status that goes with it.
+#[tactic(auto, using(widl_trace::proofs::Grows::prefix_none))]
+pub fn last_line<K: Sink>(
+    alloc: Global,
+    front: &[u8],
+    name: &[u8],
+    status: Status,
+    out: &mut K,
+) -> Status
+    requires plain { status ≢ Status.WriteFault }
+    ensures { Answers (last (front.now ++ name.now) status) (K.held out.old) (K.held out.new) (K.faults out.old) (K.faults out.new) result }
+{
+    let Ok(line) = joined_line(alloc, front, name) else {
+        return Status::Memory;
+    };
+    let Ok(mut writer) = Writer::new(alloc) else {
+        return Status::Memory;
+    };
+    match write_line(&line, &mut writer, out) {
+        Ok(()) => status,
+        Err(_) => Status::WriteFault,
+    }
+}
+
+fn write_line<K: Sink>(line: &Line, writer: &mut Writer, out: &mut K) -> Result<(), WriteFailed>
+    ensures wrote { OnOk result (K.held out.new ≡ append_known (K.held out.old) (writer.old ++ ended line.now)) }
+    ensures torn { OnErr result (GrewByPrefix (K.held out.old) (K.held out.new) (writer.old ++ ended line.now)) }
+    ensures cause { HasCause (K.faults out.old) (K.faults out.new) result }
+{
+    writer.emit(line, out)?;
+    writer.flush(out)
+}
+
+fn joined_line(alloc: Global, front: &[u8], name: &[u8]) -> Result<Line, AllocError>
+    ensures { IfOk result (λ line. line ≡ front.now ++ name.now) }
+{
+    let mut bytes = Vec::from_slice(alloc, front)?;
+    bytes.extend_from_slice(name)?;
+    Ok(Line::new(bytes))
+}

@@ -1,0 +1,15 @@
+//! The texts of `--help` and `--version`.
+
+/// The help text, without its last line feed: each shape of words, and the statuses.
+pub const HELP: &[u8] =
+    b"widl reads Web IDL files and a call script, and writes the trace of the calls.
+
+  widl run BUDGET SCRIPT IDL   runs a script over a fragment; BUDGET is 1 to 2000000 units
+  widl --help                  writes this text
+  widl --version               writes the version
+
+status 0 done, 1 out of memory, 2 usage, 3 fragments refused, 4 script refused,
+5 read fault, 6 missing file, 7 file too long, 8 write fault, 9 stopped, 10 uncaught exception";
+
+/// The version, without its line feed.
+pub const VERSION: &[u8] = b"widl 0.1.0";

@@ -1,0 +1,63 @@
+//! The program `widl`: it answers the words of a command line over a folder of files, and writes to a
+//! sink. It stands on all other crates. The one contract that counts is that of [`widl`], which the
+//! program calls with the disk and standard output: what is written is the defined output of the words
+//! and the files, and each failure is tied to its cause.
+#![tactic(auto)]
+
+mod answer;
+mod fetching;
+mod help;
+mod perform;
+mod reader;
+mod request;
+mod status;
+mod sure;
+#[cfg(test)]
+mod tests;
+mod texts;
+mod top;
+mod unread;
+mod words;
+
+pub use status::Status;
+use std::process::ExitCode;
+use std::{env, io};
+pub use sure::widl_surely;
+pub use top::widl;
+pub use widl_folder::{
+    DiskFolder, Files, Folder, MemoryFolder, NamedFile, ReadFailed, Started, SureFolder,
+};
+use widl_trace::StdoutSink;
+pub use words::Words;
+
+fn main(rt: HostRuntime) -> ExitCode {
+    let words = match words_of(&rt) {
+        Ok(words) => words,
+        Err(status) => return ExitCode::from(status.number()),
+    };
+    let mut folder = DiskFolder::new(&rt);
+    let mut out = StdoutSink::new(io::writer(&rt));
+    let status = widl(rt.alloc(), &words, &mut folder, &mut out);
+    ExitCode::from(status.number())
+}
+
+/// The words after the program's own name.
+///
+/// # Errors
+///
+/// `Memory` where there is no memory for them, `Usage` where one of them isn't UTF-8.
+fn words_of(rt: &HostRuntime) -> Result<Words, Status> {
+    let mut words = Words::new(rt.alloc());
+    match env::args(rt) {
+        Ok(args) => {
+            for word in args.skip(1) {
+                if words.push(word).is_err() {
+                    return Err(Status::Memory);
+                }
+            }
+            Ok(words)
+        }
+        Err(e) if e.kind() == io::ErrorKind::OutOfMemory => Err(Status::Memory),
+        Err(_) => Err(Status::Usage),
+    }
+}

@@ -1,0 +1,12 @@
+//! What the words of a command line ask for.
+
+/// What the words of a command line ask for, by their shape.
+#[derive(Clone, Copy, Debug, PartialEq, Eq)]
+pub enum Request {
+    /// `--help`: the help text.
+    Help,
+    /// `--version`: the version.
+    Version,
+    /// `run BUDGET SCRIPT IDL`: a run of the script over the fragment, with a budget in units.
+    Run(u64),
+}

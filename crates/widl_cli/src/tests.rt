@@ -1,0 +1,278 @@
+//! What no clause says: that memory is found where there is some, what the worked runs print, and what
+//! is answered when the outside fails at each of its calls.
+
+use crate::{
+    DiskFolder, Files, MemoryFolder, NamedFile, Status, SureFolder, Words, widl, widl_surely,
+};
+use std::alloc::{AllocError, Global};
+use std::process::Abort;
+use std::test::Fail;
+use widl_trace::{MemorySink, Numbers, SureSink};
+
+const FRAGMENT: &str = "namespace N { undefined f(octet a); };";
+
+const TRACE: &str = "call #19 this #18 (300)\nop N.f#0 (44)\nret undefined\ndone\n";
+
+fn words_of(alloc: Global, texts: &[&str]) -> Result<Words, AllocError> {
+    let mut words = Words::new(alloc);
+    for text in texts {
+        words.push(String::from_str(alloc, text)?)?;
+    }
+    Ok(words)
+}
+
+fn run_words(alloc: Global, budget: &str) -> Result<Words, AllocError> {
+    words_of(alloc, &["run", budget, "s", "n.idl"])
+}
+
+fn add(alloc: Global, files: &mut Files, name: &str, text: &str) -> Result<(), AllocError> {
+    let name = String::from_str(alloc, name)?;
+    let bytes = Vec::from_slice(alloc, text.as_bytes())?;
+    files.push(NamedFile::new(name, bytes))
+}
+
+fn files_of(alloc: Global, script: &str, fragment: &str) -> Result<Files, AllocError> {
+    let mut files = Files::new(alloc);
+    add(alloc, &mut files, "s", script)?;
+    add(alloc, &mut files, "n.idl", fragment)?;
+    Ok(files)
+}
+
+fn numbers_of(alloc: Global, number: u64) -> Result<Numbers, AllocError> {
+    let mut numbers = Numbers::new(alloc);
+    numbers.push(number)?;
+    Ok(numbers)
+}
+
+/// Runs a script over a fragment, and compares the status and the bytes.
+fn expect_run(
+    rt: &impl Abort,
+    alloc: Global,
+    budget: &str,
+    fragment: &str,
+    script: &str,
+    status: Status,
+    text: &str,
+) -> Result<(), Fail> {
+    let mut folder = MemoryFolder::new(files_of(alloc, script, fragment)?, Numbers::new(alloc));
+    let mut out = MemorySink::new(alloc, 1_000, 1_000, Numbers::new(alloc))?;
+    let words = run_words(alloc, budget)?;
+    assert_eq!(rt; widl(alloc, &words, &mut folder, &mut out), status);
+    assert_eq!(rt; out.held(), text.as_bytes());
+    Ok(())
+}
+
+#[test]
+fn a_call_is_traced(rt: HostRuntime) -> Result<(), Fail> {
+    expect_run(
+        &rt,
+        rt.alloc(),
+        "5",
+        FRAGMENT,
+        "do N.f(300)\n",
+        Status::Done,
+        TRACE,
+    )
+}
+
+#[test]
+fn each_argument_is_converted_by_its_own_type(rt: HostRuntime) -> Result<(), Fail> {
+    let fragment = "namespace N { undefined f(octet a, byte b); };";
+    let text = "call #19 this #18 (300, 200, 1)\nop N.f#0 (44, -56)\nret undefined\ndone\n";
+    expect_run(
+        &rt,
+        rt.alloc(),
+        "100000",
+        fragment,
+        "do N.f(300, 200, 1)",
+        Status::Done,
+        text,
+    )
+}
+
+#[test]
+fn a_budget_that_runs_out_stops_the_run(rt: HostRuntime) -> Result<(), Fail> {
+    let text = "call #19 this #18 (300)\nop N.f#0 (44)\nret undefined\nstop budget\n";
+    expect_run(
+        &rt,
+        rt.alloc(),
+        "4",
+        FRAGMENT,
+        "do N.f(300)\n",
+        Status::Stopped,
+        text,
+    )
+}
+
+#[test]
+fn an_empty_namespace_is_not_served(rt: HostRuntime) -> Result<(), Fail> {
+    expect_run(
+        &rt,
+        rt.alloc(),
+        "5",
+        "namespace N { };",
+        "",
+        Status::Refused,
+        "refused later 0 0\n",
+    )
+}
+
+#[test]
+fn a_call_without_its_argument_is_refused(rt: HostRuntime) -> Result<(), Fail> {
+    expect_run(
+        &rt,
+        rt.alloc(),
+        "5",
+        FRAGMENT,
+        "do N.f()",
+        Status::ScriptRefused,
+        "script S90 1 1\n",
+    )
+}
+
+#[test]
+fn a_budget_of_nothing_is_no_budget(rt: HostRuntime) -> Result<(), Fail> {
+    expect_run(&rt, rt.alloc(), "0", FRAGMENT, "", Status::Usage, "usage\n")
+}
+
+#[test]
+fn a_missing_file_is_named(rt: HostRuntime) -> Result<(), Fail> {
+    let alloc = rt.alloc();
+    let mut files = Files::new(alloc);
+    add(alloc, &mut files, "s", "")?;
+    let mut folder = MemoryFolder::new(files, Numbers::new(alloc));
+    let mut out = MemorySink::new(alloc, 1_000, 1_000, Numbers::new(alloc))?;
+    let words = run_words(alloc, "5")?;
+    assert_eq!(rt; widl(alloc, &words, &mut folder, &mut out), Status::Missing);
+    assert_eq!(rt; out.held(), b"missing n.idl\n".as_slice());
+    Ok(())
+}
+
+#[test]
+fn a_failed_write_leaves_what_was_taken(rt: HostRuntime) -> Result<(), Fail> {
+    let alloc = rt.alloc();
+    let mut folder = SureFolder::new(files_of(alloc, "do N.f(300)\n", FRAGMENT)?);
+    let mut out = MemorySink::new(alloc, 1_000, 10, numbers_of(alloc, 2)?)?;
+    let words = run_words(alloc, "5")?;
+    assert_eq!(rt;
+        widl(alloc, &words, &mut folder, &mut out),
+        Status::WriteFault
+    );
+    assert_eq!(rt; out.held(), b"call #19 t".as_slice());
+    Ok(())
+}
+
+#[test]
+fn a_file_of_one_byte_too_many_is_too_long(rt: HostRuntime) -> Result<(), Fail> {
+    let alloc = rt.alloc();
+    let mut files = Files::new(alloc);
+    add(alloc, &mut files, "s", "")?;
+    let name = String::from_str(alloc, "n.idl")?;
+    let spaces = vec![in alloc; b' '; 1_048_577]?;
+    files.push(NamedFile::new(name, spaces))?;
+    let mut folder = SureFolder::new(files);
+    let mut out = MemorySink::new(alloc, 1_000, 1_000, Numbers::new(alloc))?;
+    let words = run_words(alloc, "5")?;
+    assert_eq!(rt; widl(alloc, &words, &mut folder, &mut out), Status::TooLong);
+    assert_eq!(rt; out.held(), b"too long n.idl\n".as_slice());
+    Ok(())
+}
+
+#[test]
+fn the_help_names_each_shape_of_words(rt: HostRuntime) -> Result<(), Fail> {
+    let alloc = rt.alloc();
+    let mut folder = SureFolder::new(Files::new(alloc));
+    let mut out = MemorySink::new(alloc, 10_000, 10_000, Numbers::new(alloc))?;
+    let words = words_of(alloc, &["--help"])?;
+    assert_eq!(rt; widl(alloc, &words, &mut folder, &mut out), Status::Done);
+    let text = std::str::from_utf8(out.held())?;
+    for shape in [
+        "widl run BUDGET SCRIPT IDL ",
+        "widl --help ",
+        "widl --version ",
+        "status 0 done",
+    ] {
+        assert!(rt; text.contains(shape));
+    }
+    let words = words_of(alloc, &["--version"])?;
+    let mut out = SureSink::new();
+    assert_eq!(rt;
+        widl_surely(alloc, &words, &mut folder, &mut out),
+        Status::Done
+    );
+    Ok(())
+}
+
+/// The answer and the held bytes of the first run, with one call of the folder that fails.
+fn expect_read_fault(
+    rt: &impl Abort,
+    alloc: Global,
+    call: u64,
+    status: Status,
+    text: &str,
+) -> Result<(), Fail> {
+    let mut folder = MemoryFolder::new(
+        files_of(alloc, "do N.f(300)\n", FRAGMENT)?,
+        numbers_of(alloc, call)?,
+    );
+    let mut out = MemorySink::new(alloc, 1_000, 1_000, Numbers::new(alloc))?;
+    let words = run_words(alloc, "5")?;
+    assert_eq!(rt; widl(alloc, &words, &mut folder, &mut out), status);
+    assert_eq!(rt; out.held(), text.as_bytes());
+    Ok(())
+}
+
+#[test]
+fn each_failed_read_names_its_file(rt: HostRuntime) -> Result<(), Fail> {
+    let alloc = rt.alloc();
+    for call in 1..4u64 {
+        expect_read_fault(&rt, alloc, call, Status::ReadFault, "read fault s\n")?;
+    }
+    for call in 4..7u64 {
+        expect_read_fault(&rt, alloc, call, Status::ReadFault, "read fault n.idl\n")?;
+    }
+    expect_read_fault(&rt, alloc, 7, Status::Done, TRACE)
+}
+
+/// The first run over a sink that takes at most so many bytes a call and fails in one call.
+fn expect_torn(rt: &impl Abort, alloc: Global, most: u32, call: u64) -> Result<bool, Fail> {
+    let mut folder = SureFolder::new(files_of(alloc, "do N.f(300)\n", FRAGMENT)?);
+    let mut out = MemorySink::new(alloc, 1_000, most, numbers_of(alloc, call)?)?;
+    let words = run_words(alloc, "5")?;
+    let status = widl(alloc, &words, &mut folder, &mut out);
+    assert!(rt; TRACE.as_bytes().starts_with(out.held()));
+    if status == Status::Done {
+        assert_eq!(rt; out.held(), TRACE.as_bytes());
+        return Ok(true);
+    }
+    assert_eq!(rt; status, Status::WriteFault);
+    assert!(rt; out.held().len() < TRACE.len());
+    Ok(false)
+}
+
+#[test]
+fn each_failed_write_leaves_a_prefix(rt: HostRuntime) -> Result<(), Fail> {
+    let alloc = rt.alloc();
+    for most in [1u32, 10, 4_096] {
+        let mut ended = false;
+        for call in 1..100u64 {
+            ended = expect_torn(&rt, alloc, most, call)?;
+            if ended {
+                break;
+            }
+        }
+        assert!(rt; ended);
+    }
+    Ok(())
+}
+
+#[test]
+fn the_disk_is_read(rt: HostRuntime) -> Result<(), Fail> {
+    let alloc = rt.alloc();
+    let mut folder = DiskFolder::new(&rt);
+    let mut out = MemorySink::new(alloc, 1_000, 1_000, Numbers::new(alloc))?;
+    let words = run_words(alloc, "5")?;
+    assert_eq!(rt; widl(alloc, &words, &mut folder, &mut out), Status::Done);
+    assert_eq!(rt; out.held(), TRACE.as_bytes());
+    Ok(())
+}

@@ -1,0 +1,93 @@
+//! The top call.
+
+ghost use Rattle.std.specs.Prelude.{◌≡◌, ◌≢◌, [], ◌-◌, ◌<◌, ◌≤◌, ◌⊎◌, ℕ, List, Some, None, length, drop};
+ghost use Rattle.std.specs.Io.KnownBytes.{append_known};
+ghost use Rattle.widl_trace.specs.Causes.{Rose};
+ghost use Rattle.widl_trace.specs.Growth.{GrewByPrefix};
+ghost use Rattle.widl_cli.specs.Outputs.{output_of, reading_output, run_output};
+ghost use Rattle.widl_cli.specs.Requests.{request_of, names_of};
+ghost use Rattle.widl_cli.specs.Readings.{read_in_order};
+ghost use Rattle.widl_cli.specs.Causes.{Ends, fault_of};
+
+use crate::answer::{answer_run, answer_unread, last_line};
+use crate::fetching::fetch_all;
+use crate::help::{HELP, VERSION};
+use crate::reader::read_request;
+use crate::request::Request;
+use crate::{Folder, Status, Words};
+use std::alloc::Global;
+use widl_trace::Sink;
+
+/// Answers the words of a command line over a folder, writes the answer to a sink and tells how it
+/// ended.
+pub fn widl<F: Folder, K: Sink>(alloc: Global, words: &Words, folder: &mut F, out: &mut K) -> Status
+    // What is answered and written, where the files are told: the defined output.
+    ensures output { (told : List (List ℕ × List ℕ)) → F.files folder.old ≡ Some told
+        → result ≢ Status.Memory → result ≢ Status.ReadFault → result ≢ Status.WriteFault → result ≡ (output_of words.now told).status }
+    ensures written { (told : List (List ℕ × List ℕ)) → F.files folder.old ≡ Some told
+        → result ≢ Status.Memory → result ≢ Status.ReadFault → result ≢ Status.WriteFault
+        → K.held out.new ≡ append_known (K.held out.old) (output_of words.now told).bytes }
+
+    // `Usage` comes exactly where the words have no shape.
+    ensures usage { result ≡ Status.Usage → request_of words.now ≡ None }
+    ensures usage_always { request_of words.now ≡ None → (result ≡ Status.WriteFault) ⊎ ((result ≡ Status.Usage) ⊎ (result ≡ Status.Memory)) }
+
+    // Each failure comes only where its count rose, and where a count grew nothing but it comes.
+    ensures write_fault { result ≡ Status.WriteFault → Rose (K.faults out.old) (K.faults out.new) }
+    ensures write_always { K.faults out.old < K.faults out.new → result ≡ Status.WriteFault }
+    ensures read_fault { result ≡ Status.ReadFault → Rose (F.faults folder.old) (F.faults folder.new) }
+    ensures fault_always { F.faults folder.old < F.faults folder.new → (result ≡ Status.WriteFault) ⊎ ((result ≡ Status.ReadFault) ⊎ (result ≡ Status.Memory)) }
+    ensures missing { result ≡ Status.Missing → Rose (F.misses folder.old) (F.misses folder.new) }
+    ensures miss_always { F.misses folder.old < F.misses folder.new → (result ≡ Status.WriteFault) ⊎ ((result ≡ Status.Missing) ⊎ (result ≡ Status.Memory)) }
+
+    // `TooLong` comes exactly where the words name files and the folder gave one byte too many.
+    ensures too_long { result ≡ Status.TooLong → (names_of (request_of words.now) words.now ≢ []) × (F.given folder.new ≡ 1048577) }
+    ensures long_always { names_of (request_of words.now) words.now ≢ [] → F.given folder.new ≡ 1048577
+        → (result ≡ Status.WriteFault) ⊎ ((result ≡ Status.TooLong) ⊎ (result ≡ Status.Memory)) }
+
+    // What the sink holds after a failure: a prefix of the defined output, or of the line that names
+    // the file that was started last.
+    ensures short { (told : List (List ℕ × List ℕ)) → F.files folder.old ≡ Some told → (Rose (F.faults folder.old) (F.faults folder.new) → ⊥)
+        → result ≡ Status.Memory → GrewByPrefix (K.held out.old) (K.held out.new) (output_of words.now told).bytes }
+    ensures torn { (told : List (List ℕ × List ℕ)) → F.files folder.old ≡ Some told → (Rose (F.faults folder.old) (F.faults folder.new) → ⊥)
+        → result ≡ Status.WriteFault → GrewByPrefix (K.held out.old) (K.held out.new) (output_of words.now told).bytes }
+    ensures torn_fault { (told : List (List ℕ × List ℕ)) → F.files folder.old ≡ Some told → F.starts folder.old < 18446744073709551000
+        → result ≡ Status.WriteFault → GrewByPrefix (K.held out.old) (K.held out.new) (output_of words.now told).bytes
+        ⊎ GrewByPrefix (K.held out.old) (K.held out.new) (fault_of (names_of (request_of words.now) words.now) (F.starts folder.new - F.starts folder.old)) }
+    ensures fault_written { F.starts folder.old < 18446744073709551000 → result ≡ Status.ReadFault
+        → K.held out.new ≡ append_known (K.held out.old) (fault_of (names_of (request_of words.now) words.now) (F.starts folder.new - F.starts folder.old)) }
+    ensures fault_short { F.starts folder.old < 18446744073709551000 → F.faults folder.old < F.faults folder.new → result ≡ Status.Memory
+        → GrewByPrefix (K.held out.old) (K.held out.new) (fault_of (names_of (request_of words.now) words.now) (F.starts folder.new - F.starts folder.old)) }
+{
+    match read_request(words) {
+        None => last_line(alloc, b"usage", b"", Status::Usage, out),
+        Some(Request::Help) => last_line(alloc, HELP, b"", Status::Done, out),
+        Some(Request::Version) => last_line(alloc, VERSION, b"", Status::Done, out),
+        Some(Request::Run(budget)) => run_files(alloc, budget, words, folder, out),
+    }
+}
+
+/// Reads the files of a run, and runs the script over the fragment.
+fn run_files<F: Folder, K: Sink>(
+    alloc: Global,
+    budget: u64,
+    words: &Words,
+    folder: &mut F,
+    out: &mut K,
+) -> Status
+    requires some { 2 < length words.now }
+    requires most { length words.now ≤ 66 }
+    ensures ends { Ends (F.files folder.old) (λ told. reading_output (run_output budget) (read_in_order told (drop 2 words.now))) (drop 2 words.now)
+        (record { held = K.held out.old; sink_faults = K.faults out.old; faults = F.faults folder.old; misses = F.misses folder.old; given = F.given folder.old; starts = F.starts folder.old })
+        (record { held = K.held out.new; sink_faults = K.faults out.new; faults = F.faults folder.new; misses = F.misses folder.new; given = F.given folder.new; starts = F.starts folder.new })
+        result }
+    ensures usage { result ≡ Status.Usage → ⊥ }
+{
+    match fetch_all(alloc, folder, words, 2) {
+        Ok(texts) => answer_run(alloc, budget, &texts, out),
+        Err(unread) => {
+            let name = words.at(unread.place).as_str();
+            answer_unread(alloc, unread.cause, name, out)
+        }
+    }
+}
