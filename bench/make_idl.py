@@ -3,9 +3,10 @@
 
     python3 bench/make_idl.py BYTES [SEED]
 
-Interfaces with attributes, operations, constants and iterables, dictionaries, enumerations, typedefs, mixins,
-callbacks and namespaces, with comments and extended attributes, in the proportions of browsers' files. The same
-arguments give the same bytes.
+Interfaces with attributes, operations, constants and iterables, mixins, namespaces, dictionaries, enumerations,
+typedefs and callbacks, with comments and extended attributes. Every name is defined before it is used, and no
+rule of merging or validity is broken. The same arguments give the same bytes; two seeds give files whose names
+are told apart by a number, so that they can be read together.
 """
 import random
 import sys
@@ -17,100 +18,176 @@ Performance Permission Pointer Position Presentation Progress Quota Range Record
 Response Rule Screen Selection Sensor Service Session Shadow Source Storage Stream Style Text Timeline Touch
 Track Transform Transport Tree Value Video View Wake Window Worker Writable""".split()
 VERBS = "add append cancel clear close commit create delete find get has insert load lock match move notify observe open post prepend put read register release remove replace request reset resolve restore save scroll select send set start stop sync toggle transfer update watch write".split()
-PRIMITIVES = ["boolean", "byte", "octet", "short", "unsigned short", "long", "unsigned long", "long long", "unsigned long long"]
+INTEGERS = ["byte", "octet", "short", "unsigned short", "long", "unsigned long", "long long", "unsigned long long"]
 TEXTS = ["DOMString", "USVString", "ByteString"]
+LISTS = ["[NewObject]", "[SameObject]", "[CEReactions]", "[SecureContext]", "[Exposed=(Window,Worker), CEReactions]"]
 
 
 class Maker:
     def __init__(self, seed):
         self.random = random.Random(seed)
+        self.seed = seed
         self.count = 0
-        self.names = ["EventTarget"]
+        self.interfaces = []
+        self.parents = []
+        self.dictionaries = []
+        self.enumerations = []
+        self.typedefs = []
+        self.callbacks = []
 
     def pick(self, items):
         return self.random.choice(items)
 
+    def chance(self, share):
+        return self.random.random() < share
+
     def name(self):
+        """A name of a definition, unlike all others of all seeds."""
         self.count += 1
-        made = self.pick(NOUNS) + self.pick(NOUNS) + str(self.count)
-        self.names.append(made)
-        return made
+        return f"{self.pick(NOUNS)}{self.pick(NOUNS)}{self.seed}x{self.count}"
 
-    def lower(self):
-        first = self.pick(VERBS if self.random.random() < 0.5 else NOUNS).lower()
-        return first + self.pick(NOUNS)
+    def member(self, used):
+        """A name of a member, unlike those that are used, also in capitals."""
+        while True:
+            first = self.pick(VERBS if self.chance(0.5) else NOUNS).lower()
+            made = first + self.pick(NOUNS) + (self.pick(NOUNS) if self.chance(0.3) else "")
+            if made.lower() not in used:
+                used.add(made.lower())
+                return made
 
-    def type(self, depth=0):
+    def plain(self):
+        """A type that an attribute may have, without a question mark."""
         roll = self.random.random()
-        if roll < 0.30:
-            made = self.pick(PRIMITIVES)
-        elif roll < 0.55:
-            made = self.pick(TEXTS)
-        elif roll < 0.80 or depth > 1:
-            made = self.pick(self.names)
-        elif roll < 0.88:
-            made = f"sequence<{self.type(depth + 1)}>"
-        elif roll < 0.92:
-            made = f"record<DOMString, {self.type(depth + 1)}>"
-        elif roll < 0.96:
-            return f"Promise<{self.type(depth + 1)}>"
-        else:
-            made = f"({self.type(2)} or {self.type(2)})"
-        return made + ("?" if self.random.random() < 0.15 else "")
+        if roll < 0.12:
+            return "boolean"
+        if roll < 0.38:
+            return self.pick(INTEGERS)
+        if roll < 0.62:
+            return self.pick(TEXTS)
+        named = self.pick([self.interfaces, self.interfaces, self.enumerations, self.typedefs])
+        return self.pick(named) if named else "DOMString"
 
-    def attributes(self):
+    def nullable(self, made):
+        return made + "?" if self.chance(0.15) else made
+
+    def type(self):
+        """A type that an argument or a result may have."""
         roll = self.random.random()
-        if roll < 0.75:
-            return ""
+        if roll < 0.80:
+            return self.nullable(self.plain())
         if roll < 0.90:
-            return self.pick(["[NewObject] ", "[SameObject] ", "[CEReactions] ", "[SecureContext] "])
-        return f"[Exposed=({self.pick(['Window', 'Worker'])},{self.pick(['Worklet', 'ServiceWorker'])}), CEReactions] "
+            return f"sequence<{self.nullable(self.plain())}>"
+        if roll < 0.94:
+            return f"record<DOMString, {self.plain()}>"
+        if roll < 0.97 and self.callbacks:
+            return self.pick(self.callbacks)
+        return self.pick(["(DOMString or unsigned long)", "(boolean or USVString)", "(sequence<long> or DOMString)"])
+
+    def list(self, share):
+        return self.pick(LISTS) + " " if self.chance(share) else ""
 
     def arguments(self):
-        made = []
-        for i in range(self.random.randrange(4)):
-            if self.random.random() < 0.3 or (made and made[-1].startswith("optional")):
-                made.append(f"optional {self.type()} {self.lower()}")
-            else:
-                made.append(f"{self.type()} {self.lower()}")
+        made, used = [], set()
+        for _ in range(self.random.randrange(4)):
+            optional = "optional " if self.chance(0.3) or (made and made[-1].startswith("optional")) else ""
+            made.append(f"{optional}{self.type()} {self.member(used)}")
+        if self.dictionaries and self.chance(0.2):
+            made.append(f"optional {self.pick(self.dictionaries)} {self.member(used)} = {{}}")
         return ", ".join(made)
 
     def comment(self):
+        words = lambda count: " ".join(self.pick(NOUNS).lower() for _ in range(count))
         roll = self.random.random()
-        if roll < 0.04:
-            return "  // " + " ".join(self.lower() for _ in range(self.random.randrange(3, 12))) + "\n"
         if roll < 0.06:
-            return "  /* " + "\n   * ".join(" ".join(self.lower() for _ in range(8)) for _ in range(3)) + " */\n"
+            return f"  // {words(self.random.randrange(3, 12))}\n"
+        if roll < 0.08:
+            return "  /* " + "\n   * ".join(words(9) for _ in range(3)) + " */\n"
         return ""
 
-    def member(self):
+    def result(self):
         roll = self.random.random()
-        if roll < 0.45:
-            return f"  {self.attributes()}{self.pick(['readonly attribute', 'readonly attribute', 'attribute'])} {self.type()} {self.lower()};\n"
-        if roll < 0.90:
-            return f"  {self.attributes()}{self.pick(['undefined', self.type()])} {self.lower()}({self.arguments()});\n"
-        if roll < 0.97:
-            return f"  const unsigned short {self.lower().upper()} = {self.pick(['0', '1', '0x10', '255', '-1'])};\n"
-        return f"  static {self.type()} {self.lower()}({self.arguments()});\n"
+        if roll < 0.40:
+            return "undefined"
+        return f"Promise<{self.pick(['undefined', self.type()])}>" if roll < 0.55 else self.type()
+
+    def entry(self, used):
+        """A member of an interface or a mixin."""
+        roll = self.random.random()
+        if roll < 0.47:
+            word = self.pick(["readonly attribute", "readonly attribute", "attribute"])
+            return f"  {self.list(0.2)}{word} {self.nullable(self.plain())} {self.member(used)};\n"
+        if roll < 0.93:
+            return f"  {self.list(0.2)}{self.result()} {self.member(used)}({self.arguments()});\n"
+        value = self.pick(["0", "1", "2", "4", "8", "0x10", "255", "0x7FFF"])
+        return f"  const unsigned short {self.member(used).upper()} = {value};\n"
+
+    def body(self, fewest, most):
+        used = set()
+        return "".join(self.comment() + self.entry(used) for _ in range(self.random.randrange(fewest, most)))
+
+    def interface(self):
+        parent = f" : {self.pick(self.parents)}" if self.parents and self.chance(0.5) else ""
+        constructor = f"  constructor({self.arguments()});\n" if self.chance(0.3) else ""
+        body = self.body(3, 16)
+        iterable = f"  iterable<DOMString, {self.plain()}>;\n" if not parent and self.chance(0.15) else ""
+        name = self.name()
+        self.interfaces.append(name)
+        if not iterable:
+            self.parents.append(name)
+        return f"[Exposed=Window]\ninterface {name}{parent} {{\n{constructor}{body}{iterable}}};\n\n"
+
+    def dictionary(self):
+        used, lines = set(), []
+        for _ in range(self.random.randrange(1, 9)):
+            made, default = self.pick(
+                [
+                    ("boolean", self.pick(["true", "false"])),
+                    (self.pick(INTEGERS), self.pick(["0", "1", "0x7F"])),
+                    (self.pick(TEXTS), '"' + self.pick(NOUNS).lower() + '"'),
+                    (f"sequence<{self.plain()}>", "[]"),
+                    (f"{self.plain()}?", "null"),
+                    (self.type(), None),
+                ]
+            )
+            lines.append(f"  {made} {self.member(used)}{'' if default is None else ' = ' + default};\n")
+        name = self.name()
+        self.dictionaries.append(name)
+        return f"dictionary {name} {{\n{''.join(lines)}}};\n\n"
+
+    def enumeration(self):
+        used = set()
+        values = ",\n".join(f'  "{self.member(used).lower()}"' for _ in range(self.random.randrange(2, 9)))
+        name = self.name()
+        self.enumerations.append(name)
+        return f"enum {name} {{\n{values}\n}};\n\n"
+
+    def typedef(self):
+        made = self.pick(INTEGERS + TEXTS)
+        name = self.name()
+        self.typedefs.append(name)
+        return f"typedef {self.pick(['[Clamp] ', '[EnforceRange] ', '']) if made in INTEGERS else ''}{made} {name};\n\n"
+
+    def callback(self):
+        made = f"{self.pick(['undefined', self.type()])} ({self.arguments()})"
+        name = self.name()
+        self.callbacks.append(name)
+        return f"callback {name} = {made};\n\n"
+
+    def mixin(self):
+        """A mixin and an interface of its own that includes it."""
+        body = self.body(2, 7)
+        mixin, host = self.name(), self.name()
+        self.interfaces.append(host)
+        return f"interface mixin {mixin} {{\n{body}}};\ninterface {host} {{}};\n{host} includes {mixin};\n\n"
+
+    def namespace(self):
+        used = set()
+        lines = "".join(f"  {self.result()} {self.member(used)}({self.arguments()});\n" for _ in range(self.random.randrange(1, 6)))
+        return f"[Exposed=*]\nnamespace {self.name()} {{\n{lines}}};\n\n"
 
     def definition(self):
-        roll = self.random.random()
-        if roll < 0.50:
-            parent = f" : {self.pick(self.names)}" if self.random.random() < 0.5 else ""
-            body = "".join(self.comment() + self.member() for _ in range(self.random.randrange(3, 16)))
-            return f"[Exposed=Window]\ninterface {self.name()}{parent} {{\n{body}}};\n\n"
-        if roll < 0.72:
-            body = "".join(f"  {self.type()} {self.lower()} = {self.pick(['null', '0', 'true', chr(34) + 'auto' + chr(34), '[]', '{}', '1.5', '2e3'])};\n" for _ in range(self.random.randrange(1, 9)))
-            return f"dictionary {self.name()} {{\n{body}}};\n\n"
-        if roll < 0.82:
-            values = ",\n".join(f'  "{self.lower()}-{self.lower()}"' for _ in range(self.random.randrange(2, 9)))
-            return f"enum {self.name()} {{\n{values}\n}};\n\n"
-        if roll < 0.90:
-            return f"typedef {self.type()} {self.name()};\n\n"
-        if roll < 0.95:
-            return f"callback {self.name()} = undefined ({self.arguments()});\n\n"
-        body = "".join(self.member().replace("  const", "  const") for _ in range(self.random.randrange(2, 6)))
-        return f"interface mixin {self.name()} {{\n{body}}};\n{self.pick(self.names)} includes {self.names[-1]};\n\n"
+        makers = [self.interface, self.dictionary, self.enumeration, self.typedef, self.callback, self.mixin, self.namespace]
+        return self.random.choices(makers, [50, 21, 10, 7, 4, 5, 3])[0]()
 
 
 def main():

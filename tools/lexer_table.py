@@ -1,14 +1,15 @@
 #!/usr/bin/env python3
 """Writes the tables of the lexer from the patterns of the tokens.
 
-Run at the top of the repository: `python3 tools/lexer_table.py`. It writes
+Run at the top of the repository: `python3 tools/lexer_table.py`, then `rt fmt` in crates/widl_lex. It writes
 
     crates/widl_lex/src/tables.rt          the tables that the program reads
     crates/widl_lex/proofs/Labels.antt     what each state still wants, for each kind of piece
     crates/widl_lex/proofs/Utf8Table.antt  the same for the pattern of UTF-8, and which states may stand beside each other
 
 Nothing of it is trusted: the checker computes that the tables follow the patterns of
-crates/widl_lex/specs/Lexical.antt and specs/Utf8.antt, of which the patterns below are a copy.
+crates/widl_lex/specs/Lexical.antt and specs/Utf8.antt, and hold the terminals of specs/Quoted.antt, of which
+those below are a copy.
 """
 
 NEVER, NOTHING = ("never",), ("nothing",)
@@ -226,6 +227,25 @@ def antt_list(items, indent="    "):
     return f"\n{indent}" + f" ∷\n{indent}".join(items) + " ∷ []"
 
 
+def examples(rows):
+    """For each state a shortest text that leads to it, printed."""
+    texts, order = {0: b""}, [0]
+    for state in order:
+        for byte in sorted(range(256), key=lambda b: (not 33 <= b < 127, b)):
+            if rows[state][byte] not in texts:
+                texts[rows[state][byte]] = texts[state] + bytes([byte])
+                order.append(rows[state][byte])
+    return ["".join(chr(b) if 33 <= b < 127 else f"<{b:02X}>" for b in texts[state]) for state in range(len(rows))]
+
+
+def rust_rows(rows, members):
+    """The rows of a table, each with its number and a text that leads to its state."""
+    return "".join(
+        f"    {rust_list(row[byte] for byte in members)}, // {number}: {text}".rstrip() + "\n"
+        for number, (row, text) in enumerate(zip(rows, examples(rows)))
+    )
+
+
 def beside(rows, utf8_rows, utf8_dead, within_first):
     """For each state of UTF-8 the set of token states that can be reached together with it, as bits."""
     seen = {(0, 0)}
@@ -284,9 +304,10 @@ pub const DEAD: usize = {dead};
 /// The class of each byte: bytes of one class lead to the same states.
 pub static CLASSES: [u8; 256] = {rust_list(classes)};
 
-/// The state after a byte of each class, for each state. It begins in the state 0.
+/// The state after a byte of each class, for each state, which begins at 0. Beside each state stand its number
+/// and a text that leads to it.
 pub static NEXT: [[u8; {len(members)}]; STATES] = [
-{"".join(f"    {rust_list(row[byte] for byte in members)},{chr(10)}" for row in rows)}];
+{rust_rows(rows, members)}];
 
 /// The kind of piece that ends in each state, if any.
 pub static ENDS: [Option<PieceKind>; STATES] = [
@@ -310,7 +331,7 @@ pub static UTF8_CLASSES: [u8; 256] = {rust_list(utf8_classes)};
 
 /// The state of UTF-8 after a byte of each class. It begins in the state 0, between two characters.
 pub static UTF8_NEXT: [[u8; {len(utf8_members)}]; UTF8_STATES] = [
-{"".join(f"    {rust_list(row[byte] for byte in utf8_members)},{chr(10)}" for row in utf8_rows)}];
+{rust_rows(utf8_rows, utf8_members)}];
 """
         )
     with open(crate + "proofs/Labels.antt", "w") as out:
@@ -329,9 +350,9 @@ pub static UTF8_NEXT: [[u8; {len(utf8_members)}]; UTF8_STATES] = [
     with open(crate + "proofs/Utf8Table.antt", "w") as out:
         out.write(
             "-- What each state of UTF-8 still wants, and the token states beside it. Written by\n"
-            "-- tools/lexer_table.py; Utf8.antt and Whole.antt compute that it serves.\n"
+            "-- tools/lexer_table.py; Characters.antt and Whole.antt compute that it serves.\n"
             "use Rattle.std.specs.Prelude.{ℕ, List, [], ◌∷◌}\n"
-            "use Rattle.widl_lex.specs.Pattern.{Pattern, Never, Nothing, Range, Cat, Alt, Star}\n\n"
+            "use Rattle.widl_lex.specs.Pattern.{Pattern, Never, Range, Cat, Alt, Star}\n\n"
             "abbrev pub utf8_labels : List Pattern\nutf8_labels ="
         )
         out.write(antt_list(term(state[0]) for state in utf8_states) + "\n\n")

@@ -1,15 +1,14 @@
 -- The pattern of UTF-8 matches exactly what std calls UTF-8, and its table follows it.
-use Rattle.std.proofs.Common.{◌≡◌, ℕ, zero, suc, ◌+◌, ◌-◌, ◌*◌, ◌/◌, ◌%◌, ◌<◌, ◌≤◌, Bool, true, false, cond, List, [], ◌∷◌, ◌++◌, length, get_or, take, refl, sym, ◌∙◌, ap, subst, arith, eqb, eqb-true, eq-eqb, ltb, leb, le-leb, ltb-true, ltb-false, lit<, inl, inr, ◌⊎◌, if◌then◌else◌, append_assoc}
-use Rattle.std.specs.Prelude.{◌&&◌, ◌||◌, not}
+use Rattle.std.proofs.Common.{◌≡◌, ℕ, suc, ◌+◌, ◌-◌, ◌*◌, ◌/◌, ◌%◌, ◌<◌, ◌≤◌, Bool, true, false, cond, List, [], ◌∷◌, ◌++◌, length, get_or, take, refl, sym, ◌∙◌, ap, subst, arith, eqb, eqb-true, ltb, leb, le-leb, ltb-true, ltb-false, lit<, inl, inr, ◌⊎◌, if◌then◌else◌}
+use Rattle.std.specs.Prelude.{◌&&◌, ◌||◌}
 use Rattle.std.specs.Str.{IsUtf8}
-use Rattle.std.specs.Char.{IsScalar}
 use Rattle.std.proofs.lemmas.Str.{IsUtf8-encode, IsUtf8-append, IsUtf8-nil, encode_ascii}
 use lib.Utf8.{encode, encodes, scalar, scalars, scalar_cases, low_scalar}
 use Rattle.widl_lex.specs.Pattern.{Pattern, Never, Range, Cat, Alt, Star, Matches, nothing, range, cat, left, right, stop, more}
 use Rattle.widl_lex.specs.Utf8.{tail, two_bytes, three_bytes, four_bytes, utf8_text, BeginsUtf8, IsUtf8Fault}
 use Rattle.widl_lex.specs.Walk.{utf8_next_of}
 use Rattle.widl_lex.specs.declared.tables.TheConstants.{UTF8_CLASSES}
-use Rattle.widl_lex.proofs.Tests.{and_cases, or_cases, if_true, all_below, all_at, AllBytes, all_both, all_right, all_take, take_more}
+use Rattle.widl_lex.proofs.Computed.{and_cases, or_cases, if_true, all_below, all_at, AllBytes, all_both, all_right, all_take, take_more}
 use Rattle.widl_lex.proofs.Derivative.{after, empties, empties_matches, matches_empties, after_from, after_to, same, same_true, both, cat_parts, alt_parts}
 use Rattle.widl_lex.proofs.Utf8Table.{utf8_labels, finishes}
 
@@ -144,9 +143,9 @@ order a b = go (ltb a b) refl
 
 encode_three_matches : (c : ℕ) → 2048 ≤ c → c < 65536 → (c < 55296) ⊎ (57344 ≤ c) → Matches three_bytes ((224 + c / 4096) ∷ (128 + c / 64 % 64) ∷ (128 + c % 64) ∷ [])
 encode_three_matches c le lt (inl low) = elim (order c 4096) [
-  inl a ↦ left (three (range (omega arith) (omega arith)) (range (omega arith) (omega arith)) (in_tail c))
+  | inl a ↦ left (three (range (omega arith) (omega arith)) (range (omega arith) (omega arith)) (in_tail c))
   | inr a ↦ elim (order c 53248) [
-    inl b ↦ right (left (three (range (omega arith) (omega arith)) (in_tail (c / 64)) (in_tail c)))
+    | inl b ↦ right (left (three (range (omega arith) (omega arith)) (in_tail (c / 64)) (in_tail c)))
     | inr b ↦ right (right (left (three (range (omega arith) (omega arith)) (range (omega arith) (omega arith)) (in_tail c))))
   ]
 ]
@@ -154,9 +153,9 @@ encode_three_matches c le lt (inr high) = right (right (right (three (range (ome
 
 encode_four_matches : (c : ℕ) → 65536 ≤ c → c < 1114112 → Matches four_bytes ((240 + c / 262144) ∷ (128 + c / 4096 % 64) ∷ (128 + c / 64 % 64) ∷ (128 + c % 64) ∷ [])
 encode_four_matches c le lt = elim (order c 262144) [
-  inl a ↦ left (four (range (omega arith) (omega arith)) (range (omega arith) (omega arith)) (in_tail (c / 64)) (in_tail c))
+  | inl a ↦ left (four (range (omega arith) (omega arith)) (range (omega arith) (omega arith)) (in_tail (c / 64)) (in_tail c))
   | inr a ↦ elim (order c 1048576) [
-    inl b ↦ right (left (four (range (omega arith) (omega arith)) (in_tail (c / 4096)) (in_tail (c / 64)) (in_tail c)))
+    | inl b ↦ right (left (four (range (omega arith) (omega arith)) (in_tail (c / 4096)) (in_tail (c / 64)) (in_tail c)))
     | inr b ↦ right (right (four (range (omega arith) (omega arith)) (range (omega arith) (omega arith)) (in_tail (c / 64)) (in_tail c)))
   ]
 ]
@@ -169,11 +168,11 @@ encode_matches : (c : ℕ) → scalar c ≡ true → Matches character (encode c
 encode_matches c s =
     let r = either_range c (scalar_cases c s) in
     elim (order c 128) [
-      inl a ↦ subst (Matches character) (sym (encode_ascii c a)) (left (range (omega arith) (omega arith)))
+      | inl a ↦ subst (Matches character) (sym (encode_ascii c a)) (left (range (omega arith) (omega arith)))
       | inr a ↦ elim (order c 2048) [
-        inl b ↦ subst (Matches character) (sym (encode_two c a b)) (right (left (two (range (omega arith) (omega arith)) (in_tail c))))
+        | inl b ↦ subst (Matches character) (sym (encode_two c a b)) (right (left (two (range (omega arith) (omega arith)) (in_tail c))))
         | inr b ↦ elim (order c 65536) [
-          inl d ↦ subst (Matches character) (sym (encode_three c b d)) (right (right (left (encode_three_matches c b d r.1))))
+          | inl d ↦ subst (Matches character) (sym (encode_three c b d)) (right (right (left (encode_three_matches c b d r.1))))
           | inr d ↦ subst (Matches character) (sym (encode_four c d)) (right (right (right (encode_four_matches c d r.0))))
         ]
       ]
@@ -251,11 +250,11 @@ of_four a b d f = (a - 240) * 262144 + (b - 128) * 4096 + (d - 128) * 64 + (f - 
 three_utf8 : (w : List ℕ) → Matches three_bytes w → IsUtf8 w
 unfolding of_three
 three_utf8 w m = elim (alt_parts m) [
-  inl p ↦ let r = three_parts p in subst IsUtf8 (sym r.3) (from_three r.0 r.1 r.2 (of_three r.0 r.1 r.2) (omega arith) (omega arith) (omega arith) (inl (omega arith)) (omega arith) r.7 r.8 r.9)
+  | inl p ↦ let r = three_parts p in subst IsUtf8 (sym r.3) (from_three r.0 r.1 r.2 (of_three r.0 r.1 r.2) (omega arith) (omega arith) (omega arith) (inl (omega arith)) (omega arith) r.7 r.8 r.9)
   | inr m2 ↦ elim (alt_parts m2) [
-    inl p ↦ let r = three_parts p in subst IsUtf8 (sym r.3) (from_three r.0 r.1 r.2 (of_three r.0 r.1 r.2) (omega arith) (omega arith) (omega arith) (inl (omega arith)) r.6 r.7 r.8 r.9)
+    | inl p ↦ let r = three_parts p in subst IsUtf8 (sym r.3) (from_three r.0 r.1 r.2 (of_three r.0 r.1 r.2) (omega arith) (omega arith) (omega arith) (inl (omega arith)) r.6 r.7 r.8 r.9)
     | inr m3 ↦ elim (alt_parts m3) [
-      inl p ↦ let r = three_parts p in subst IsUtf8 (sym r.3) (from_three r.0 r.1 r.2 (of_three r.0 r.1 r.2) (omega arith) (omega arith) (omega arith) (inl (omega arith)) r.6 (omega arith) r.8 r.9)
+      | inl p ↦ let r = three_parts p in subst IsUtf8 (sym r.3) (from_three r.0 r.1 r.2 (of_three r.0 r.1 r.2) (omega arith) (omega arith) (omega arith) (inl (omega arith)) r.6 (omega arith) r.8 r.9)
       | inr p ↦ let r = three_parts p in subst IsUtf8 (sym r.3) (from_three r.0 r.1 r.2 (of_three r.0 r.1 r.2) (omega arith) (omega arith) (omega arith) (inr (omega arith, omega arith)) r.6 r.7 r.8 r.9)
     ]
   ]
@@ -264,18 +263,18 @@ three_utf8 w m = elim (alt_parts m) [
 four_utf8 : (w : List ℕ) → Matches four_bytes w → IsUtf8 w
 unfolding of_four
 four_utf8 w m = elim (alt_parts m) [
-  inl p ↦ let r = four_parts p in subst IsUtf8 (sym r.4) (from_four r.0 r.1 r.2 r.3 (of_four r.0 r.1 r.2 r.3) (omega arith) (omega arith) (omega arith) (omega arith) r.8 r.9 r.10 r.11 r.12)
+  | inl p ↦ let r = four_parts p in subst IsUtf8 (sym r.4) (from_four r.0 r.1 r.2 r.3 (of_four r.0 r.1 r.2 r.3) (omega arith) (omega arith) (omega arith) (omega arith) r.8 r.9 r.10 r.11 r.12)
   | inr m2 ↦ elim (alt_parts m2) [
-    inl p ↦ let r = four_parts p in subst IsUtf8 (sym r.4) (from_four r.0 r.1 r.2 r.3 (of_four r.0 r.1 r.2 r.3) (omega arith) (omega arith) (omega arith) r.7 r.8 r.9 r.10 r.11 r.12)
+    | inl p ↦ let r = four_parts p in subst IsUtf8 (sym r.4) (from_four r.0 r.1 r.2 r.3 (of_four r.0 r.1 r.2 r.3) (omega arith) (omega arith) (omega arith) r.7 r.8 r.9 r.10 r.11 r.12)
     | inr p ↦ let r = four_parts p in subst IsUtf8 (sym r.4) (from_four r.0 r.1 r.2 r.3 (of_four r.0 r.1 r.2 r.3) (omega arith) (omega arith) (omega arith) r.7 (omega arith) r.9 r.10 r.11 r.12)
   ]
 ]
 
 character_utf8 : (w : List ℕ) → Matches character w → IsUtf8 w
 character_utf8 w m = elim (alt_parts m) [
-  inl p ↦ let r = range_byte p in subst IsUtf8 (sym r.1) (from_one r.0 r.3)
+  | inl p ↦ let r = range_byte p in subst IsUtf8 (sym r.1) (from_one r.0 r.3)
   | inr m2 ↦ elim (alt_parts m2) [
-    inl p ↦ let r = two_parts p in subst IsUtf8 (sym r.2) (from_two r.0 r.1 (r.0 * 64 + r.1 - 12416) (omega arith) r.3 r.4 r.5 r.6)
+    | inl p ↦ let r = two_parts p in subst IsUtf8 (sym r.2) (from_two r.0 r.1 (r.0 * 64 + r.1 - 12416) (omega arith) r.3 r.4 r.5 r.6)
     | inr m3 ↦ elim (alt_parts m3) [ inl p ↦ three_utf8 w p | inr p ↦ four_utf8 w p ]
   ]
 ]
@@ -299,11 +298,11 @@ encode_bytes : (c : ℕ) → scalar c ≡ true → AllBytes (encode c)
 encode_bytes c s =
     let r = either_range c (scalar_cases c s) in
     elim (order c 128) [
-      inl a ↦ subst AllBytes (sym (encode_ascii c a)) (omega arith, tt)
+      | inl a ↦ subst AllBytes (sym (encode_ascii c a)) (omega arith, tt)
       | inr a ↦ elim (order c 2048) [
-        inl b ↦ subst AllBytes (sym (encode_two c a b)) (omega arith, (omega arith, tt))
+        | inl b ↦ subst AllBytes (sym (encode_two c a b)) (omega arith, (omega arith, tt))
         | inr b ↦ elim (order c 65536) [
-          inl d ↦ subst AllBytes (sym (encode_three c b d)) (omega arith, (omega arith, (omega arith, tt)))
+          | inl d ↦ subst AllBytes (sym (encode_three c b d)) (omega arith, (omega arith, (omega arith, tt)))
           | inr d ↦ subst AllBytes (sym (encode_four c d)) (omega (arith, r.0), (omega arith, (omega arith, (omega arith, tt))))
         ]
       ]
@@ -346,7 +345,7 @@ table_finishes = refl
 finish_at : (u : ℕ) → u < 9 → (u ≡ 1 → ⊥) → (utf8_run u (finish u) ≡ 0) × AllBytes (finish u)
 unfolding finish_fine
 finish_at u lu alive = elim (or_cases (eqb u 1) _ (all_at 9 finish_fine table_finishes u lu)) [
-  inl dead ↦ absurd (alive (eqb-true u 1 dead))
+  | inl dead ↦ absurd (alive (eqb-true u 1 dead))
   | inr fine ↦ let h = and_cases _ _ fine in (eqb-true _ _ h.0, are_bytes_all _ h.1)
 ]
 

@@ -1,23 +1,18 @@
 -- The cut of a text: what its tokens are, and that there is exactly one.
-use Rattle.std.proofs.Common.{◌≡◌, ℕ, zero, suc, ◌+◌, ◌-◌, ◌<◌, ◌≤◌, Bool, true, false, Option, Some, None, List, [], ◌∷◌, ◌++◌, length, get_or, take, drop, refl, sym, ◌∙◌, ap, subst, arith, eqb-true, ltb, ltb-true, ltb-false, lit<, inl, inr, ◌⊎◌, take-append-drop, length-drop, append_assoc, append-nil}
+use Rattle.std.proofs.Common.{◌≡◌, ℕ, zero, suc, ◌+◌, ◌-◌, ◌<◌, ◌≤◌, true, List, [], ◌∷◌, ◌++◌, length, get_or, take, drop, refl, sym, ◌∙◌, ap, subst, arith, eqb-true, take-append-drop, length-drop, append_assoc, append-nil}
 use Rattle.std.specs.Prelude.{All, IsUtf8, map, nat_eq}
 use Rattle.std.proofs.lemmas.List.{drop-drop, get_or-map, length-map}
 use Rattle.widl_text.specs.declared.place.Place.{Place}
-use Rattle.widl_lex.specs.Pattern.{Matches}
 use Rattle.widl_lex.specs.declared.token.PieceKind.{PieceKind}
 use Rattle.widl_lex.specs.declared.token.PieceKind.TheVariants.{Token as OfToken, Gap}
 use Rattle.widl_lex.specs.declared.token.TokenKind.{TokenKind}
-use Rattle.widl_lex.specs.declared.token.TokenKind.TheVariants.{Quoted, Integer, Decimal, Identifier, Text, Other}
+use Rattle.widl_lex.specs.declared.token.TokenKind.TheVariants.{Quoted}
 use Rattle.widl_lex.specs.declared.token.Token.{Token}
-use Rattle.widl_lex.specs.Quoted.{IsQuoted}
-use Rattle.widl_lex.specs.Lexical.{IsPiece}
 use Rattle.widl_lex.specs.Cut.{Piece, Longest, Cut, none, next}
 use Rattle.widl_lex.specs.Tokens.{Lexeme, TokenList, lexeme_of, lexemes_of, tokens_from, IsCutInto, IsSliceOf, InOrder, IsSound, AreSound}
-use Rattle.widl_lex.specs.Walk.{scanned, IsLongestScan}
-use Rattle.widl_lex.proofs.Tests.{AllBytes, all_take, all_right, length_take}
+use Rattle.widl_lex.proofs.Computed.{length_take}
 use Rattle.widl_lex.proofs.Characters.{utf8_bytes}
-use Rattle.widl_lex.proofs.Scans.{piece_scan, scan_is_piece, plain_scan, longest_scan}
-use Rattle.widl_lex.proofs.Table.{scan_ends}
+use Rattle.widl_lex.proofs.Scans.{longest_scan}
 use Rattle.widl_lex.proofs.Whole.{scan_utf8}
 
 -- a longest piece and what it leaves are UTF-8
@@ -85,10 +80,13 @@ sound_at tokens file end items k x view s lt e = subst (λ t. IsSound t.file (le
   where
     below : k < length (map lexeme_of items)
     below = subst (λ t. k < length t.lexemes) (sym view) lt
+
     inside : k < length items
     inside = omega (arith, below, length-map items lexeme_of)
+
     here : IsSound file (lexeme_of x)
     here = subst (IsSound file) (token_at items k x inside e) (s.each k (lexeme_of x) below)
+
     within : x.at.at + length x.text.now ≤ end
     within = subst (λ l. l.at.at + length l.text ≤ end) (token_at items k x inside e) (order_within (map lexeme_of items) 0 end k (lexeme_of x) s.in_order below)
 
@@ -107,10 +105,10 @@ completes_more file bytes rest text after items pushed kind n place long front l
     let left_len : length after ≡ length rest - n = ap length left ∙ length-drop n rest in
     let offset : length bytes - length rest + length (take n rest) ≡ length bytes - length after = omega (arith, len, left_len, long.within) in
     let list : map lexeme_of pushed ++ tokens_from file (length bytes - length after) more ≡ map lexeme_of items ++ tokens_from file (length bytes - length rest) ((kind, take n rest) ∷ more) =
-        ap (λ u. u ++ tokens_from file (length bytes - length after) more) (push ∙ ap (λ t. map lexeme_of items ++ lexemes_of place kind t) front)
-        ∙ append_assoc (map lexeme_of items) (lexemes_of place kind (take n rest)) (tokens_from file (length bytes - length after) more)
-        ∙ ap (λ p. map lexeme_of items ++ (lexemes_of p kind (take n rest) ++ tokens_from file (length bytes - length after) more)) place_is
-        ∙ ap (λ i. map lexeme_of items ++ (lexemes_of (record { file = file; at = length bytes - length rest }) kind (take n rest) ++ tokens_from file i more)) (sym offset) in
+    ap (λ u. u ++ tokens_from file (length bytes - length after) more) (push ∙ ap (λ t. map lexeme_of items ++ lexemes_of place kind t) front)
+    ∙ append_assoc (map lexeme_of items) (lexemes_of place kind (take n rest)) (tokens_from file (length bytes - length after) more)
+    ∙ ap (λ p. map lexeme_of items ++ (lexemes_of p kind (take n rest) ++ tokens_from file (length bytes - length after) more)) place_is
+    ∙ ap (λ i. map lexeme_of items ++ (lexemes_of (record { file = file; at = length bytes - length rest }) kind (take n rest) ++ tokens_from file i more)) (sym offset) in
     record { pieces = one.pieces; cut = one.cut; tokens_are = list ∙ one.tokens_are }
 
 nil_by_length : (w : List ℕ) → true ≡ nat_eq (length w) 0 → w ≡ []

@@ -1,7 +1,7 @@
 -- What a pattern still wants after a byte (its derivative), and that it is exactly that.
-use Rattle.std.proofs.Common.{◌≡◌, ℕ, zero, suc, ◌+◌, ◌<◌, ◌≤◌, Bool, true, false, List, [], ◌∷◌, ◌++◌, refl, sym, ◌∙◌, ap, subst, arith, if◌then◌else◌, eqb, leb, eqb-true, leb-true, le-leb, append-nil, inl, inr, ◌⊎◌}
+use Rattle.std.proofs.Common.{◌≡◌, ℕ, ◌≤◌, Bool, true, false, List, [], ◌∷◌, ◌++◌, refl, sym, ◌∙◌, ap, subst, if◌then◌else◌, eqb, leb, eqb-true, leb-true, le-leb, inl, inr, ◌⊎◌}
 use Rattle.std.specs.Prelude.{◌&&◌, ◌||◌}
-use Rattle.widl_lex.proofs.Tests.{and_cases, or_cases}
+use Rattle.widl_lex.proofs.Computed.{and_cases, or_cases}
 use Rattle.widl_lex.specs.Pattern.{Pattern, Never, Nothing, Range, Cat, Alt, Star, Matches, nothing, range, cat, left, right, stop, more}
 
 -- whether the pattern matches the empty text
@@ -117,7 +117,7 @@ cat_front b p q w known m = let a = cat_parts (cats_from (after b p) q w m) in c
 
 cat_whole : (b : ℕ) (p q : Pattern) (w : List ℕ) → ((u : List ℕ) → Matches (after b p) u → Matches p (b ∷ u)) → (Matches (after b q) w → Matches q (b ∷ w)) → (c : Bool) → empties p ≡ c → Matches (if c then alts (cats (after b p) q) (after b q) else cats (after b p) q) w → Matches (Cat p q) (b ∷ w)
 cat_whole b p q w known next true e m = elim (alt_parts (alts_from (cats (after b p) q) (after b q) w m)) [
-  inl f ↦ cat_front b p q w known f
+  | inl f ↦ cat_front b p q w known f
   | inr g ↦ cat [] (b ∷ w) (empties_matches p e) (next g) refl
 ]
 cat_whole b p q w known next false e m = cat_front b p q w known m
@@ -146,6 +146,7 @@ cat_to b p q w (c ∷ u) v m n e known next = go (empties p)
   where
     front : Matches (cats (after b p) q) w
     front = cats_to_parts (after b p) q w u v (known u (ap (λ x. x ∷ u) (head_same (sym e)))) n (sym (tail_same (sym e)))
+
     go : (d : Bool) → Matches (if d then alts (cats (after b p) q) (after b q) else cats (after b p) q) w
     go true = alts_left (cats (after b p) q) (after b q) w front
     go false = front

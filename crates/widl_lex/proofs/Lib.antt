@@ -1,4 +1,5 @@
 pub mod Characters
+pub mod Computed
 pub mod Cuts
 pub mod Derivative
 pub mod Labels
@@ -6,7 +7,6 @@ pub mod OneCut
 pub mod QuotedTable
 pub mod Scans
 pub mod Table
-pub mod Tests
-pub mod Utf8Table
 pub mod Unclosed
+pub mod Utf8Table
 pub mod Whole

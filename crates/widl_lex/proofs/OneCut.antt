@@ -1,15 +1,12 @@
 -- Each UTF-8 text has exactly one cut.
-use Rattle.std.proofs.Common.{◌≡◌, ℕ, zero, suc, ◌+◌, ◌-◌, ◌<◌, ◌≤◌, Bool, true, false, Option, Some, None, List, [], ◌∷◌, ◌++◌, length, get_or, take, drop, refl, sym, ◌∙◌, ap, subst, arith, ltb, ltb-true, ltb-false, inl, inr, ◌⊎◌, take-append-drop, length-drop}
+use Rattle.std.proofs.Common.{◌≡◌, ℕ, zero, suc, ◌+◌, ◌<◌, ◌≤◌, Bool, true, false, Option, Some, None, List, [], ◌∷◌, length, take, drop, refl, sym, ◌∙◌, ap, subst, arith, ltb, ltb-true, ltb-false, inl, inr, take-append-drop, length-drop}
 use Rattle.std.specs.Prelude.{IsUtf8, MatchOption}
-use Rattle.widl_lex.specs.Pattern.{Matches}
 use Rattle.widl_lex.specs.declared.token.PieceKind.{PieceKind}
-use Rattle.widl_lex.specs.declared.token.PieceKind.TheVariants.{Token, Gap}
-use Rattle.widl_lex.specs.declared.token.TokenKind.TheVariants.{Quoted, Integer, Decimal, Identifier, Text, Other}
-use Rattle.widl_lex.specs.Quoted.{IsQuoted, quoted_terminals}
-use Rattle.widl_lex.specs.Lexical.{IsPiece}
+use Rattle.widl_lex.specs.declared.token.PieceKind.TheVariants.{Token}
+use Rattle.widl_lex.specs.declared.token.TokenKind.TheVariants.{Quoted}
 use Rattle.widl_lex.specs.Cut.{Piece, Longest, Cut, none, next, HasOneCut}
-use Rattle.widl_lex.specs.Walk.{end_of, scanned, NoScan, IsLongestScan, better_of}
-use Rattle.widl_lex.proofs.Tests.{AllBytes, all_take}
+use Rattle.widl_lex.specs.Walk.{end_of, NoScan, IsLongestScan, better_of}
+use Rattle.widl_lex.proofs.Computed.{AllBytes, all_take}
 use Rattle.widl_lex.proofs.Characters.{utf8_bytes}
 use Rattle.widl_lex.proofs.Table.{run, scan_ends, Best, better_kept, best_done}
 use Rattle.widl_lex.proofs.Scans.{scan_piece, plain_scan, scan_longest}
@@ -31,7 +28,7 @@ some_same e = cc
 
 same_kind : (k j : PieceKind) (n : ℕ) (w : List ℕ) → AllBytes w → Longest k n w → Longest j n w → k ≡ j
 same_kind k j n w all a b = elim (quoted_or_not (take n w)) [
-  inl q ↦ a.tie q ∙ sym (b.tie q)
+  | inl q ↦ a.tie q ∙ sym (b.tie q)
   | inr plain ↦ some_same (sym (scan_ends k (take n w) (all_take n w all) (plain_scan k (take n w) plain a.piece)) ∙ scan_ends j (take n w) (all_take n w all) (plain_scan j (take n w) plain b.piece))
 ]
 
@@ -74,7 +71,7 @@ some_longest w u pos =
     let all = utf8_bytes w u in
     let s = some_longest_scan w u pos in
     elim (quoted_or_not (take s.1 w)) [
-      inl q ↦ (Token Quoted, s.1, scan_longest (Token Quoted) s.0 s.1 w all s.2 (λ same. refl) q)
+      | inl q ↦ (Token Quoted, s.1, scan_longest (Token Quoted) s.0 s.1 w all s.2 (λ same. refl) q)
       | inr plain ↦ (s.0, s.1, scan_longest s.0 s.0 s.1 w all s.2 (λ q. absurd (plain q)) (scan_piece s.0 (take s.1 w) s.2.scan plain))
     ]
 

@@ -1,13 +1,13 @@
 -- The table of quoted terminals by their first byte has exactly the quoted terminals, by tests that the checker computes.
-use Rattle.std.proofs.Common.{◌≡◌, ℕ, zero, suc, ◌+◌, ◌-◌, ◌<◌, ◌≤◌, Bool, true, false, List, [], ◌∷◌, ◌++◌, length, get_or, refl, sym, ◌∙◌, ap, subst, arith, eqb, eqb-true, eq-eqb, leb, leb-true, ltb, lit<, inl, inr, ◌⊎◌}
-use Rattle.std.specs.Prelude.{◌&&◌, ◌||◌, Contains, map, slice_index, slice_index_or, slice_range, slice_get, take, drop, IsTrue, ◌↔◌, Option, Some, None}
+use Rattle.std.proofs.Common.{◌≡◌, ℕ, zero, suc, ◌+◌, ◌-◌, ◌<◌, ◌≤◌, Bool, true, false, List, [], ◌∷◌, length, get_or, refl, sym, ◌∙◌, ap, subst, arith, eqb, leb, leb-true, inl, inr, ◌⊎◌}
+use Rattle.std.specs.Prelude.{◌&&◌, ◌||◌, Contains, map, slice_index, slice_index_or, slice_range, slice_get, take, drop, IsTrue, ◌↔◌, Some, None}
 use Rattle.std.proofs.Common.{Bor}
 use lib.Pointwise.{pointwise, bytes_decides}
-use Rattle.std.proofs.lemmas.List.{take-map, drop-map, get_or-map}
+use Rattle.std.proofs.lemmas.List.{take-map, drop-map}
 use Rattle.widl_lex.specs.Quoted.{quoted_terminals, IsQuoted}
 use Rattle.widl_lex.specs.Walk.{quoted_with}
 use Rattle.widl_lex.specs.declared.tables.TheConstants.{QUOTED, QUOTED_FROM}
-use Rattle.widl_lex.proofs.Tests.{and_cases, or_cases, all_below, all_at, differ}
+use Rattle.widl_lex.proofs.Computed.{and_cases, or_cases, all_below, all_at, differ}
 
 table_bounds : all_below 256 (λ b. leb (slice_index QUOTED_FROM b) (slice_index QUOTED_FROM (b + 1))) ≡ true
 unfolding all_below
@@ -32,7 +32,7 @@ has_contains : (ys : List (List ℕ)) (x : List ℕ) → has ys x ≡ true → C
 unfolding has
 has_contains [] x e = cc
 has_contains (y ∷ ys) x e = elim (or_cases (pointwise eqb y x) (has ys x) e) [
-  inl here ↦ (0, omega arith, (bytes_decides y x).0 here)
+  | inl here ↦ (0, omega arith, (bytes_decides y x).0 here)
   | inr later ↦ let r = has_contains ys x later in (suc r.0, omega (arith, r.1), r.2)
 ]
 

@@ -1,7 +1,6 @@
 -- The table's patterns stand for the pieces: bytes match one of them exactly where they are a piece of some kind.
-use Rattle.std.proofs.Common.{◌≡◌, ℕ, zero, suc, ◌+◌, ◌<◌, ◌≤◌, Bool, true, false, Option, Some, None, List, [], ◌∷◌, ◌++◌, length, get_or, take, refl, sym, ◌∙◌, ap, subst, arith, lit<, inl, inr, ◌⊎◌}
-use Rattle.std.specs.Prelude.{Contains, slice_index_or, codes, is_some, ◌&&◌}
-use Rattle.widl_lex.specs.Pattern.{Pattern, Matches, Range, Cat, range}
+use Rattle.std.proofs.Common.{◌≡◌, ℕ, Bool, true, false, Option, Some, None, List, [], ◌∷◌, ◌++◌, take, refl, sym, ◌∙◌, ap, subst, arith, lit<}
+use Rattle.widl_lex.specs.Pattern.{Matches, Range}
 use Rattle.widl_lex.specs.declared.token.PieceKind.{PieceKind}
 use Rattle.widl_lex.specs.declared.token.PieceKind.TheVariants.{Token, Gap}
 use Rattle.widl_lex.specs.declared.token.TokenKind.TheVariants.{Quoted, Integer, Decimal, Identifier, Text, Other}
@@ -9,7 +8,7 @@ use Rattle.widl_lex.specs.Quoted.{IsQuoted, quoted_terminals}
 use Rattle.widl_lex.specs.Lexical.{IsPiece}
 use Rattle.widl_lex.specs.Cut.{Longest}
 use Rattle.widl_lex.specs.Walk.{end_of, scanned, may_be_quoted, IsLongestScan}
-use Rattle.widl_lex.proofs.Tests.{and_cases, differ, AllBytes, all_take}
+use Rattle.widl_lex.proofs.Computed.{AllBytes, all_take}
 use Rattle.widl_lex.proofs.Derivative.{cat_parts}
 use Rattle.widl_lex.proofs.Table.{run, scan_ends, ends_scan}
 use Rattle.widl_lex.proofs.Characters.{range_byte}
@@ -100,9 +99,12 @@ scan_longest kind scan n text all long tie piece = record {
 }
 
 pub longest_scan : (kind : PieceKind) (n : ℕ) (text : List ℕ) → AllBytes text → Longest kind n text → (scan : PieceKind) × IsLongestScan scan n text
-longest_scan kind n text all long = let s = piece_scan kind (take n text) (all_take n text all) long.piece in (s.0, record {
-  within = long.within;
-  some = long.some;
-  scan = s.1;
-  longest = λ m other lt le p. long.longest m other lt le (scan_is_piece other (take m text) p);
-})
+longest_scan kind n text all long = let s = piece_scan kind (take n text) (all_take n text all) long.piece in (
+  s.0,
+  record {
+    within = long.within;
+    some = long.some;
+    scan = s.1;
+    longest = λ m other lt le p. long.longest m other lt le (scan_is_piece other (take m text) p);
+  },
+)

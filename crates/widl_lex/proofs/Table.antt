@@ -1,13 +1,13 @@
 -- The table follows the patterns, by tests that the checker computes.
-use Rattle.std.proofs.Common.{◌≡◌, ℕ, zero, suc, ◌+◌, ◌<◌, ◌≤◌, Bool, true, false, Option, Some, None, List, [], ◌∷◌, ◌++◌, length, get_or, take, refl, sym, ◌∙◌, ap, subst, arith, eqb, eqb-true, eq-eqb, ltb, ltb-true, ltb-false, lit<, inl, inr, ◌⊎◌}
+use Rattle.std.proofs.Common.{◌≡◌, ℕ, zero, suc, ◌+◌, ◌<◌, ◌≤◌, Bool, true, false, Option, Some, None, List, [], ◌∷◌, ◌++◌, length, get_or, take, refl, sym, ◌∙◌, ap, subst, arith, eqb, eqb-true, eq-eqb, ltb, ltb-true, ltb-false, lit<, inl, inr}
 use Rattle.std.specs.Prelude.{◌&&◌, MatchOption}
 use Rattle.widl_lex.specs.Pattern.{Pattern, Never, Matches}
-use Rattle.widl_lex.specs.declared.tables.TheConstants.{CLASSES, ENDS}
+use Rattle.widl_lex.specs.declared.tables.TheConstants.{CLASSES}
 use Rattle.widl_lex.specs.declared.token.PieceKind.{PieceKind}
 use Rattle.widl_lex.specs.declared.token.PieceKind.TheVariants.{Token, Gap}
 use Rattle.widl_lex.specs.declared.token.TokenKind.TheVariants.{Quoted, Integer, Decimal, Identifier, Text, Other}
 use Rattle.widl_lex.specs.Walk.{next_of, end_of, scanned, NoScan, IsLongestScan, better_of}
-use Rattle.widl_lex.proofs.Tests.{and_cases, dec_below, all_below, all_at, alike, alike_is, AllBytes, all_take, all_right, take_more, take_from}
+use Rattle.widl_lex.proofs.Computed.{and_cases, dec_below, all_below, all_at, alike, alike_is, AllBytes, all_take, all_right, take_more, take_from}
 use Rattle.widl_lex.proofs.Derivative.{after, empties, empties_matches, matches_empties, after_from, after_to, same, same_true}
 use Rattle.widl_lex.proofs.Labels.{labels}
 
@@ -171,13 +171,18 @@ module _ (w : List ℕ) (all : AllBytes w) where
 
   kept : (best : Option (ℕ × PieceKind)) (p : ℕ) → None ≡ end_of (run 0 (take (p + 1) w)) → Best best p w → Best best (p + 1) w
   kept None p e b = λ m k pos le match. elim (dec_below m (p + 1) (omega arith)) [
-    inl lt ↦ b m k pos (omega arith) match
+    | inl lt ↦ b m k pos (omega arith) match
     | inr is ↦ none_some (at_place k m (p + 1) None e is match)
   ]
-  kept (Some r) p e b = (omega (arith, b.0), b.1, b.2, λ m k pos le match. elim (dec_below m (p + 1) (omega arith)) [
-    inl lt ↦ b.3 m k pos (omega arith) match
-    | inr is ↦ none_some (at_place k m (p + 1) None e is match)
-  ])
+  kept (Some r) p e b = (
+    omega (arith, b.0),
+    b.1,
+    b.2,
+    λ m k pos le match. elim (dec_below m (p + 1) (omega arith)) [
+      | inl lt ↦ b.3 m k pos (omega arith) match
+      | inr is ↦ none_some (at_place k m (p + 1) None e is match)
+    ],
+  )
 
   pub better_kept : (best : Option (ℕ × PieceKind)) (p : ℕ) (end : Option PieceKind) → end ≡ end_of (run 0 (take (p + 1) w)) → Best best p w → Best (better_of best (p + 1) end) (p + 1) w
   better_kept best p None e b = kept best p e b

@@ -1,6 +1,6 @@
 -- A block comment that begins ends exactly where a `*/` follows.
-use Rattle.std.proofs.Common.{◌≡◌, ℕ, zero, suc, ◌+◌, ◌<◌, ◌≤◌, Bool, true, false, Option, Some, None, List, [], ◌∷◌, ◌++◌, length, get_or, take, drop, refl, sym, ◌∙◌, ap, subst, arith, eqb, eqb-true, eq-eqb, lit<, inl, inr, ◌⊎◌, if◌then◌else◌}
-use Rattle.std.specs.Prelude.{◌&&◌, ◌||◌, not, slice_index}
+use Rattle.std.proofs.Common.{◌≡◌, ℕ, zero, suc, ◌+◌, ◌<◌, ◌≤◌, Bool, true, false, Some, List, [], ◌∷◌, length, take, drop, refl, sym, ◌∙◌, ap, subst, arith, eqb, eqb-true, eq-eqb, lit<, if◌then◌else◌}
+use Rattle.std.specs.Prelude.{◌&&◌, not, slice_index}
 use Rattle.std.proofs.lemmas.List.{get_or-drop}
 use Rattle.widl_lex.specs.declared.token.PieceKind.{PieceKind}
 use Rattle.widl_lex.specs.declared.token.PieceKind.TheVariants.{Token, Gap}
@@ -8,12 +8,11 @@ use Rattle.widl_lex.specs.declared.token.TokenKind.TheVariants.{Other}
 use Rattle.widl_lex.specs.Pattern.{Matches}
 use Rattle.widl_lex.specs.Comments.{OpensComment, NeverCloses}
 use Rattle.widl_lex.specs.Cut.{Longest}
-use Rattle.widl_lex.specs.Lexical.{IsPiece}
 use Rattle.widl_lex.specs.Quoted.{IsQuoted, quoted_terminals}
 use Rattle.widl_lex.specs.Walk.{next_of, end_of, scanned}
-use Rattle.widl_lex.proofs.Tests.{and_cases, all_below, all_at, AllBytes, all_take, all_right, differ}
-use Rattle.widl_lex.proofs.Table.{run, is_end, is_end_self, is_end_same, scan_ends, ends_scan}
-use Rattle.widl_lex.proofs.Scans.{piece_scan, scan_is_piece, quoted_may_be}
+use Rattle.widl_lex.proofs.Computed.{and_cases, all_below, all_at, AllBytes, all_take, differ}
+use Rattle.widl_lex.proofs.Table.{run, is_end, is_end_same, scan_ends, ends_scan}
+use Rattle.widl_lex.proofs.Scans.{piece_scan, scan_is_piece}
 use Rattle.widl_lex.proofs.QuotedTable.{passes, passes_contained}
 use Rattle.widl_lex.proofs.Labels.{in_comment, after_star}
 

@@ -1,7 +1,7 @@
 -- What each state of UTF-8 still wants, and the token states beside it. Written by
--- tools/lexer_table.py; Utf8.antt and Whole.antt compute that it serves.
+-- tools/lexer_table.py; Characters.antt and Whole.antt compute that it serves.
 use Rattle.std.specs.Prelude.{ℕ, List, [], ◌∷◌}
-use Rattle.widl_lex.specs.Pattern.{Pattern, Never, Nothing, Range, Cat, Alt, Star}
+use Rattle.widl_lex.specs.Pattern.{Pattern, Never, Range, Cat, Alt, Star}
 
 abbrev pub utf8_labels : List Pattern
 utf8_labels =

@@ -1,10 +1,10 @@
 -- Every UTF-8 text has a scan at its front, and a longest scan ends between two characters.
-use Rattle.std.proofs.Common.{◌≡◌, ℕ, zero, suc, ◌+◌, ◌/◌, ◌%◌, ◌^◌, ◌<◌, ◌≤◌, Bool, true, false, Option, Some, None, List, [], ◌∷◌, ◌++◌, length, get_or, take, drop, refl, sym, ◌∙◌, ap, subst, arith, eqb, eqb-true, eq-eqb, lit<, inl, inr, ◌⊎◌, if◌then◌else◌, take-append-drop, append-nil}
+use Rattle.std.proofs.Common.{◌≡◌, ℕ, suc, ◌/◌, ◌%◌, ◌^◌, ◌<◌, ◌≤◌, Bool, true, false, Option, Some, None, List, [], ◌∷◌, ◌++◌, length, get_or, take, drop, refl, sym, ◌∙◌, ap, subst, arith, eqb, eqb-true, eq-eqb, lit<, inl, inr, if◌then◌else◌, take-append-drop, append-nil}
 use Rattle.std.specs.Prelude.{◌&&◌, ◌||◌, not, is_some, IsUtf8}
 use Rattle.widl_lex.specs.Pattern.{Matches}
 use Rattle.widl_lex.specs.declared.token.PieceKind.{PieceKind}
 use Rattle.widl_lex.specs.Walk.{next_of, end_of, utf8_next_of, scanned, NoScan, IsLongestScan}
-use Rattle.widl_lex.proofs.Tests.{and_cases, or_cases, if_true, differ, all_below, all_at, AllBytes, all_left, all_right, all_take, length_take}
+use Rattle.widl_lex.proofs.Computed.{and_cases, or_cases, if_true, differ, all_below, all_at, AllBytes, all_left, all_right, all_take, length_take}
 use Rattle.widl_lex.proofs.Table.{run, run_below, run-append, next_below, scan_ends, ends_scan}
 use Rattle.widl_lex.proofs.Characters.{utf8_run, utf8_run-append, utf8_run_below, utf8_next_below, utf8_alive, utf8_zero, zero_utf8}
 use Rattle.widl_lex.proofs.Utf8Table.{beside, within_first}
@@ -90,19 +90,20 @@ at_boundary x (b ∷ y) text k e all whole scan none_longer =
     let h : has (get_or beside (utf8_run 0 x) 0) (run 0 x) ≡ true = pair_at x (b ∷ y) 0 0 (lit< tt) (lit< tt) all start_in whole in
     let step = pair_step (run 0 x) (utf8_run 0 x) b ls lu ay.0 h (alive_next (utf8_run 0 x) b y ay.1 tail) in
     elim (or_cases (eqb (utf8_run 0 x) 0) _ step.1) [
-      inl zero_is ↦ eqb-true _ _ zero_is
+      | inl zero_is ↦ eqb-true _ _ zero_is
       | inr other ↦ elim (or_cases (not (ends (run 0 x))) _ other) [
-        inl no_kind ↦ absurd (not_true (ends (run 0 x)) no_kind (ends_true (run 0 x) k (scan_ends k x ax scan)))
+        | inl no_kind ↦ absurd (not_true (ends (run 0 x)) no_kind (ends_true (run 0 x) k (scan_ends k x ax scan)))
         | inr goes_on ↦
-          let j = ends_found (next_of (run 0 x) b) goes_on in
-          let longer : take (suc (length x)) text ≡ x ++ b ∷ [] = ap (take (suc (length x))) e ∙ one_more x b y in
-          let ab : AllBytes (x ++ b ∷ []) = subst AllBytes longer (all_take (suc (length x)) text (subst AllBytes (sym e) all)) in
-          absurd (none_longer j.0 (subst (λ t. length x < length t) (sym e) (shorter x b y)) (subst (Matches (scanned j.0)) (sym longer) (ends_scan j.0 (x ++ b ∷ []) ab (ap end_of (run-append 0 x (b ∷ [])) ∙ j.1))))
+            let j = ends_found (next_of (run 0 x) b) goes_on in
+            let longer : take (suc (length x)) text ≡ x ++ b ∷ [] = ap (take (suc (length x))) e ∙ one_more x b y in
+            let ab : AllBytes (x ++ b ∷ []) = subst AllBytes longer (all_take (suc (length x)) text (subst AllBytes (sym e) all)) in
+            absurd (none_longer j.0 (subst (λ t. length x < length t) (sym e) (shorter x b y)) (subst (Matches (scanned j.0)) (sym longer) (ends_scan j.0 (x ++ b ∷ []) ab (ap end_of (run-append 0 x (b ∷ [])) ∙ j.1))))
       ]
     ]
   where
     ends_true : (s : ℕ) (i : PieceKind) → end_of s ≡ Some i → ends s ≡ true
     ends_true s i f = unfold ends in kind_ends (end_of s) i f
+
     ends_found : (s : ℕ) → ends s ≡ true → (i : PieceKind) × (end_of s ≡ Some i)
     ends_found s f = unfold ends in ends_kind (end_of s) f
 
@@ -137,6 +138,7 @@ first_end (b ∷ w) s u ls lu all h whole pos =
     grown : (x : List ℕ) → utf8_run (utf8_next_of u b) x ≡ 0 → eqb (utf8_next_of u b) 0 ≡ false → 0 < length x
     grown [] z f = let q : eqb (utf8_next_of u b) 0 ≡ true = eq-eqb _ _ z in absurd (differ (sym q ∙ f))
     grown (y ∷ x) z f = omega arith
+
     go : (c : Bool) → eqb (utf8_next_of u b) 0 ≡ c → (if c then ends (next_of s b) else has (get_or within_first (utf8_next_of u b) 0) (next_of s b)) ≡ true → ((has (get_or within_first (utf8_next_of u b) 0) (next_of s b) ≡ true) → 0 < length w → (m : ℕ) × (0 < m) × (m ≤ length w) × (ends (run (next_of s b) (take m w)) ≡ true)) → (m : ℕ) × (0 < m) × (m ≤ length (b ∷ w)) × (ends (run s (take m (b ∷ w))) ≡ true)
     go true e f rec = (1, lit< tt, omega arith, f)
     go false e f rec = let r = rec f (grown w whole e) in (suc r.0, omega arith, omega (arith, r.2), r.3)

@@ -15,6 +15,10 @@ pub record Longest (kind : PieceKind) (n : ℕ) (text : List ℕ) : Type 0 where
   pub longest : (m : ℕ) (other : PieceKind) → n < m → m ≤ length text → IsPiece other (take m text) → ⊥
   pub tie : IsQuoted (take n text) → kind ≡ Token Quoted
 
+-- the first n bytes are the longest piece, of some kind
+abbrev pub IsLongestLength : ℕ → List ℕ → Type 0
+IsLongestLength n text = (kind : PieceKind) × Longest kind n text
+
 -- a piece of a text: its kind and its bytes
 abbrev pub Piece : Type 0
 Piece = PieceKind × List ℕ

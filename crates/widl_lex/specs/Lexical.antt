@@ -64,9 +64,9 @@ line_comment = in_row (word (codes "//") ∷ Star (any_of (Range 0x00 0x09 ∷ R
 abbrev pub block_comment : Pattern
 block_comment = in_row (word (codes "/*") ∷
     Star (any_of (
-        Range 0x00 0x29 ∷
-        Range 0x2B 0xFF ∷
-        in_row (plus (word (codes "*")) ∷ any_of (Range 0x00 0x29 ∷ Range 0x2B 0x2E ∷ Range 0x30 0xFF ∷ []) ∷ []) ∷ [])) ∷
+    Range 0x00 0x29 ∷
+    Range 0x2B 0xFF ∷
+    in_row (plus (word (codes "*")) ∷ any_of (Range 0x00 0x29 ∷ Range 0x2B 0x2E ∷ Range 0x30 0xFF ∷ []) ∷ []) ∷ [])) ∷
     plus (word (codes "*")) ∷ word (codes "/") ∷ [])
 
 -- one character outside [\t\n\r 0-9A-Za-z]

@@ -1,5 +1,5 @@
 -- The tokens of a file as clauses see them.
-use Rattle.std.specs.Prelude.{◌≡◌, ℕ, ◌+◌, ◌<◌, ◌≤◌, List, [], ◌∷◌, ◌++◌, length, take, drop, All, IsUtf8}
+use Rattle.std.specs.Prelude.{◌≡◌, ℕ, ◌+◌, ◌≤◌, List, [], ◌∷◌, ◌++◌, length, take, drop, All, IsUtf8}
 use Rattle.widl_text.specs.declared.place.Place.{Place}
 use Rattle.widl_lex.specs.declared.token.TokenKind.{TokenKind}
 use Rattle.widl_lex.specs.declared.token.Token.{Token}

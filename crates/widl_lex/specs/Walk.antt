@@ -1,5 +1,5 @@
 -- The walk through the table of states, and what its patterns match.
-use Rattle.std.specs.Prelude.{◌≡◌, ℕ, ◌<◌, ◌≤◌, List, [], ◌∷◌, Bool, true, false, Option, Some, None, ◌+◌, ◌-◌, map, slice_index, slice_index_or, slice_range, length, take, codes}
+use Rattle.std.specs.Prelude.{ℕ, ◌<◌, ◌≤◌, List, [], ◌∷◌, Bool, true, false, Option, Some, None, ◌+◌, map, slice_index, slice_index_or, slice_range, length, take, codes}
 use Rattle.widl_lex.specs.declared.tables.TheConstants.{CLASSES, NEXT, ENDS, UTF8_CLASSES, UTF8_NEXT, QUOTED, QUOTED_FROM}
 use Rattle.widl_lex.specs.declared.token.PieceKind.{PieceKind}
 use Rattle.widl_lex.specs.declared.token.PieceKind.TheVariants.{Token, Gap}

@@ -7,18 +7,17 @@ ghost use Rattle.widl_lex.specs.Tokens.{lexeme_of, lexemes_of};
 ghost use Rattle.widl_lex.specs.declared.token.PieceKind.TheVariants.{Token as OfToken};
 ghost use Rattle.widl_lex.specs.declared.token.TokenKind.TheVariants.{Quoted};
 ghost use Rattle.widl_lex.specs.Comments.{OpensComment, NeverCloses};
-ghost use Rattle.widl_lex.specs.Cut.{Longest};
+ghost use Rattle.widl_lex.specs.Cut.{Longest, IsLongestLength};
 ghost use Rattle.widl_lex.specs.Pattern.{Matches};
 ghost use Rattle.widl_lex.specs.Quoted.{IsQuoted};
 ghost use Rattle.widl_lex.specs.Lexical.{IsPiece};
 ghost use Rattle.widl_lex.specs.Walk.{may_be_quoted, scanned};
 
-use widl_text::Place;
-
 use crate::fault::LexFault;
 use crate::longest::longest;
 use crate::quoted::is_quoted;
 use crate::token::{PieceKind, Token, TokenKind};
+use widl_text::Place;
 
 /// Whether the text begins with `/*`.
 fn opens_comment(text: &[u8]) -> bool
@@ -71,10 +70,12 @@ pub fn longest_piece(text: &[u8], closes: bool) -> (usize, PieceKind)
 }
 
 /// Whether a `*/` may be left behind the piece: it is not where a block comment begins and does not end.
-pub fn still_closes(text: &[u8], len: usize, kind: PieceKind, closes: bool) -> bool
-    requires longest { Longest kind len text.now }
+pub fn still_closes(text: &[u8], len: usize, closes: bool) -> bool
+    requires longest { IsLongestLength len text.now }
     requires unclosed { closes ≡ false → NeverCloses text.now }
-    ensures { result ≡ false → NeverCloses (drop len text.now) }
+    ensures unclosed { result ≡ false → NeverCloses (drop len text.now) }
+    ensures kept { closes ≡ false → result ≡ false }
+    ensures learnt { len ≡ 1 → OpensComment text.now → result ≡ false }
 {
     if len == 1 && opens_comment(text) {
         return false;
@@ -83,7 +84,12 @@ pub fn still_closes(text: &[u8], len: usize, kind: PieceKind, closes: bool) -> b
 }
 
 /// Adds the token of a piece, if it is no gap.
-pub fn push_piece<'a>(items: &mut Vec<Token<'a>>, kind: PieceKind, at: Place, text: &'a [u8]) -> Result<(), LexFault>
+pub fn push_piece<'a>(
+    items: &mut Vec<Token<'a>>,
+    kind: PieceKind,
+    at: Place,
+    text: &'a [u8],
+) -> Result<(), LexFault>
     ensures ok { OnOk result (map lexeme_of items.new.items ≡ map lexeme_of items.old.items ++ lexemes_of at kind text.now) }
     ensures err { IfErr result (λ fault. fault ≡ Memory) }
 {

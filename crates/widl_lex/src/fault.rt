@@ -1,7 +1,6 @@
 //! Why a file has no tokens.
 
 use std::alloc::AllocFailed;
-
 use widl_text::Place;
 
 /// Why a file has no tokens.

@@ -14,5 +14,8 @@ mod utf8;
 
 pub use fault::LexFault;
 pub use law::each_text_has_one_cut;
-pub use token::{PieceKind, Token, TokenKind};
+pub use token::{Token, TokenKind};
 pub use tokens::Tokens;
+
+#[cfg(test)]
+mod tests;

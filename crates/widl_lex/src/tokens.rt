@@ -1,14 +1,12 @@
 //! The tokens of a file.
 
-use std::alloc::Global;
-use std::marker::Model;
-
-use widl_text::Place;
-
 use crate::cut::{longest_piece, push_piece, still_closes};
 use crate::fault::LexFault;
 use crate::token::Token;
 use crate::utf8::utf8_fault;
+use std::alloc::Global;
+use std::marker::Model;
+use widl_text::Place;
 
 /// The tokens of a file in order, without white space and comments.
 #[derive(Drop)]
@@ -49,20 +47,30 @@ impl<'a> Tokens<'a> {
         ensures fault { IfErr result (IsLexFault file bytes.now) }
     {
         if let Some(place) = utf8_fault(bytes) {
-            return Err(LexFault::NotUtf8(Place { file, at: place as u32 }));
+            return Err(LexFault::NotUtf8(Place {
+                file,
+                at: place as u32,
+            }));
         }
         let mut items = Vec::new(alloc);
         let mut rest = bytes;
         let mut closes = true;
         while !rest.is_empty() {
-            let at = Place { file, at: (bytes.len() - rest.len()) as u32 };
+            let at = Place {
+                file,
+                at: (bytes.len() - rest.len()) as u32,
+            };
             let (len, kind) = longest_piece(rest, closes);
-            closes = still_closes(rest, len, kind, closes);
+            closes = still_closes(rest, len, closes);
             let (text, after) = rest.split_at(len);
             push_piece(&mut items, kind, at, text)?;
             rest = after;
         }
-        Ok(Tokens { file, end: bytes.len() as u32, items })
+        Ok(Tokens {
+            file,
+            end: bytes.len() as u32,
+            items,
+        })
     }
 
     /// The number of tokens.

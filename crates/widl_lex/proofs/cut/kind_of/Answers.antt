@@ -1,5 +1,5 @@
 use Rattle.std.proofs.Common.{◌∙◌, sym, arith}
-use Rattle.widl_lex.proofs.Tests.{all_bytes, differ}
+use Rattle.widl_lex.proofs.Computed.{all_bytes, differ}
 use Rattle.widl_lex.proofs.Scans.{scan_piece, quoted_may_be}
 use Rattle.widl_lex.proofs.cut.kind_of.Goals as goal
 

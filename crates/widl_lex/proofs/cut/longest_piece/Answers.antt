@@ -1,5 +1,5 @@
 use Rattle.std.proofs.Common.{arith}
-use Rattle.widl_lex.proofs.Tests.{all_bytes}
+use Rattle.widl_lex.proofs.Computed.{all_bytes}
 use Rattle.widl_lex.proofs.Scans.{scan_longest}
 use Rattle.widl_lex.proofs.Unclosed.{unclosed_longest}
 use Rattle.widl_lex.proofs.Whole.{some_scan}

@@ -1,5 +1,5 @@
-use Rattle.std.proofs.Common.{◌+◌, refl, arith, subst, sym, ap, ◌∙◌}
-use Rattle.widl_lex.proofs.Tests.{all_bytes}
+use Rattle.std.proofs.Common.{◌+◌, arith, subst, sym, ap}
+use Rattle.widl_lex.proofs.Computed.{all_bytes}
 use Rattle.widl_lex.specs.Walk.{end_of}
 use Rattle.widl_lex.proofs.Table.{Best, run_more, better_kept, best_done, dead_no}
 use Rattle.widl_lex.proofs.longest.longest.Goals as goal

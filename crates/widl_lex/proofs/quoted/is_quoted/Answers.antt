@@ -1,5 +1,5 @@
 use Rattle.std.proofs.Common.{sym, arith}
-use Rattle.widl_lex.proofs.Tests.{differ}
+use Rattle.widl_lex.proofs.Computed.{differ}
 use Rattle.widl_lex.proofs.QuotedTable.{found_quoted, empty_not}
 use Rattle.widl_lex.proofs.quoted.is_quoted.Goals as goal
 

@@ -1,5 +1,5 @@
-use Rattle.std.proofs.Common.{refl, arith}
-use Rattle.widl_lex.proofs.Tests.{all_bytes}
+use Rattle.std.proofs.Common.{arith}
+use Rattle.widl_lex.proofs.Computed.{all_bytes}
 use Rattle.widl_lex.proofs.Characters.{utf8_run_more, fault_within, fault_at_end, no_fault}
 use Rattle.widl_lex.proofs.utf8.utf8_fault.Goals as goal
 

@@ -11,7 +11,7 @@ loop-rest-preserved c = record {
   utf8 = subst IsUtf8 (sym c.split_at.ensures.back) (piece_utf8 c.loop-rest.rest.now c.longest_piece-len.result.1 c.longest_piece-len.result.0 c.loop-rest.invariant.utf8 c.longest_piece-len.ensures).1;
   within = omega arith;
   cut = completes_more c.args.file c.args.bytes.now c.loop-rest.rest.now c.split_at.result.0.now c.split_at.result.1.now c.loop-rest.items.items c.push_piece.new.items.items c.longest_piece-len.result.1 c.longest_piece-len.result.0 _ c.longest_piece-len.ensures c.split_at.ensures.front c.split_at.ensures.back refl c.loop-rest.invariant.within c.in_ok-push_piece.ensures.ok c.loop-rest.invariant.cut;
-  unclosed = λ e. subst NeverCloses (sym c.split_at.ensures.back) (c.still_closes-closes.ensures e);
+  unclosed = λ e. subst NeverCloses (sym c.split_at.ensures.back) (c.still_closes-closes.ensures.unclosed e);
 }
 
 pub invariant_of-result : goal.invariant_of-result

@@ -10,7 +10,7 @@ invariant-loop-rest l = record {
   utf8 : IsUtf8 l.rest;
   within : length l.rest ≤ length l.fn.bytes;
   cut : Completes l.file l.fn.bytes l.rest l.items.items;
-  unclosed : l.closes ≡ false → NeverCloses l.rest
+  unclosed : l.closes ≡ false → NeverCloses l.rest;
 }
 
 abbrev pub decreases-loop-rest : goal.decreases-loop-rest

@@ -1,5 +1,5 @@
 -- Tests that the checker computes: for each number below a bound.
-use Rattle.std.proofs.Common.{◌≡◌, ℕ, zero, suc, ◌+◌, ◌<◌, ◌≤◌, Bool, true, false, List, [], ◌∷◌, ◌++◌, length, get_or, take, refl, sym, ◌∙◌, ap, subst, arith, if◌then◌else◌, eqb, eqb-true, eq-eqb, ltb, ltb-true, ltb-false, inl, inr, ◌⊎◌}
+use Rattle.std.proofs.Common.{◌≡◌, ℕ, zero, suc, ◌<◌, ◌≤◌, Bool, true, false, List, [], ◌∷◌, ◌++◌, length, get_or, take, refl, sym, ◌∙◌, ap, subst, arith, if◌then◌else◌, ltb, ltb-true, ltb-false, inl, inr, ◌⊎◌}
 use Rattle.std.specs.Prelude.{◌&&◌, ◌||◌}
 
 pub and_cases : (a b : Bool) → (a && b) ≡ true → (a ≡ true) × (b ≡ true)
