@@ -1,5 +1,5 @@
 -- From the fault of terminals to that of tokens.
-use Rattle.std.proofs.Common.{◌≡◌, ℕ, ◌+◌, ◌≤◌, List, [], ◌∷◌, ◌++◌, Option, Some, length, take, sym, ◌∙◌, ap, subst, refl, inl, inr, ◌⊎◌}
+use Rattle.std.proofs.Common.{◌≡◌, ℕ, ◌+◌, ◌≤◌, List, [], ◌∷◌, ◌++◌, Some, length, take, sym, ◌∙◌, ap, subst, inl, inr, ◌⊎◌}
 use Rattle.std.proofs.lemmas.List.{map_more}
 use Rattle.std.proofs.lemmas.Option.{slice_get_past, slice_get_within, get_or_from_slice_get}
 use Rattle.std.specs.Prelude.{map, slice_get}
@@ -8,7 +8,6 @@ use Rattle.widl_lex.specs.Tokens.{Lexeme, TokenList}
 use Rattle.widl_predictive.specs.declared.fault.Fault.{Fault}
 use Rattle.widl_predictive.specs.declared.fault.Fault.TheVariants as machine
 use Rattle.widl_predictive.specs.Grammar.{IsFault}
-use Rattle.widl_syntax.specs.declared.fault.SyntaxFault.{SyntaxFault}
 use Rattle.widl_syntax.specs.declared.fault.SyntaxFault.TheVariants.{Syntax, TooDeep, Memory}
 use Rattle.widl_syntax.specs.declared.rule.Rule.TheVariants.{Definitions}
 use Rattle.widl_syntax.specs.declared.terminal.Terminal.{Terminal}

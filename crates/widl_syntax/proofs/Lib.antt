@@ -6,3 +6,5 @@ pub mod RuleOf
 pub mod SameSentences
 pub mod Spellings
 pub mod FaultPlaces
+pub mod QuotedTokens
+pub mod FirstBytes

@@ -1,10 +1,10 @@
 //! The terminal that a word or sign of the grammar is.
 
-ghost use Rattle.std.specs.Prelude.{◌≡◌};
-ghost use Rattle.widl_syntax.specs.Words.{quoted, quoted_among, spelling, is_spelled};
+ghost use Rattle.std.specs.Prelude.{◌≡◌, ◌<◌, ◌≤◌, slice_index};
+ghost use Rattle.widl_syntax.specs.Words.{quoted, quoted_among, beginning, spelling, is_spelled};
 
 use crate::Terminal;
-use crate::spelling::{QUOTED, spelling};
+use crate::spelling::{QUOTED, QUOTED_FROM, spelling};
 
 fn is_spelled(terminal: Terminal, text: &[u8]) -> bool
     ensures { result ≡ is_spelled (spelling terminal) text.now }
@@ -24,9 +24,30 @@ fn quoted_among(terminals: &[Terminal], text: &[u8]) -> Option<Terminal>
         .find(|terminal| is_spelled(*terminal, text))
 }
 
+/// How many quoted terminals are spelled with a lower first byte.
+fn count_before(byte: usize) -> usize
+    requires { byte < 257 }
+    ensures count { result ≡ slice_index QUOTED_FROM byte }
+    ensures within { result ≤ 86 }
+{
+    QUOTED_FROM[byte] as usize
+}
+
+/// The terminals whose spellings begin with the byte.
+fn beginning(byte: u8) -> &'static [Terminal]
+    ensures { result.now ≡ beginning byte }
+{
+    let from = count_before(byte as usize);
+    let to = count_before(byte as usize + 1);
+    &QUOTED[from..to]
+}
+
 /// The terminal that is spelled so, where the grammar quotes these bytes.
 pub fn quoted(text: &[u8]) -> Option<Terminal>
     ensures { result ≡ quoted text.now }
 {
-    quoted_among(&QUOTED, text)
+    match text.first() {
+        Some(byte) => quoted_among(beginning(*byte), text),
+        None => None,
+    }
 }

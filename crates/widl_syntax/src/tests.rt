@@ -2,6 +2,7 @@
 
 mod definitions;
 mod depth;
+mod files;
 mod members;
 mod terminals;
 mod types;
