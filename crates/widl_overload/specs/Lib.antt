@@ -1,0 +1,3 @@
+pub mod Inheritance
+pub mod Distinct
+pub mod Pairs
