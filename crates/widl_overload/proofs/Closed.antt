@@ -46,7 +46,7 @@ module _ (ifaces : List Iface) where
       ∙ (λ i. list_all (λ m. list_all (λ n. are_apart ifaces m n) (flattened_member u)) (sym e.1 i))
   parts_are t u (inr e) (inr f) =
       (λ i. parts_apart ifaces (e.0 i) (f.0 i) (innermost t) (innermost u))
-      ∙ sym (and_true (are_apart ifaces (innermost t) (innermost u)) )
+      ∙ sym (and_true (are_apart ifaces (innermost t) (innermost u)))
       ∙ sym (and_true (are_apart ifaces (innermost t) (innermost u) && true))
       ∙ (λ i. list_all (λ m. list_all (λ n. are_apart ifaces m n) (sym f.1 i)) (sym e.1 i))
 

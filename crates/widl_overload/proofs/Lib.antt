@@ -1,3 +1,5 @@
 pub mod Walks
 pub mod Parents
 pub mod Closed
+pub mod Lengths
+pub mod Shorter

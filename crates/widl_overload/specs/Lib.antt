@@ -1,3 +1,4 @@
 pub mod Inheritance
 pub mod Distinct
 pub mod Pairs
+pub mod Sets

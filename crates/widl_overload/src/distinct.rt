@@ -22,14 +22,12 @@ pub fn distinguishable(defs: &Defs, a: &IdlType, b: &IdlType) -> bool
 /// Distinguishability is symmetric.
 pub fn distinguishable_is_symmetric()
     ensures { (ifaces : List interfaces.Iface) (t u : TypeTerm) → distinguishable_in ifaces t u ≡ distinguishable_in ifaces u t }
-{
-}
+{}
 
 /// No type whose unions each have at least one member is distinguishable from itself.
 pub fn distinguishable_from_itself()
     ensures { (ifaces : List interfaces.Iface) (t : TypeTerm) → HaveMembers t → distinguishable_in ifaces t t ≡ false }
-{
-}
+{}
 
 /// Whether one of the types includes a nullable type, where the other does too or has a dictionary.
 fn do_clash(a: &IdlType, b: &IdlType) -> bool
@@ -186,10 +184,8 @@ fn category_of(t: &IdlType) -> Category
     ensures { result ≡ category (type_term t.now) }
 {
     match t {
-        IdlType::Any
-        | IdlType::Promise(_)
-        | IdlType::Nullable(_)
-        | IdlType::Union(_) => Category::Never,
+        IdlType::Any | IdlType::Promise(_) | IdlType::Nullable(_) | IdlType::Union(_) =>
+            Category::Never,
         IdlType::Undefined => Category::Undefined,
         IdlType::Boolean => Category::Boolean,
         IdlType::Int(_, _) => Category::Numeric,

@@ -3,9 +3,16 @@
 //! contract that the crates above use: [`effective_set`] lists each tuple of the standard's set once.
 #![tactic(auto)]
 
+mod callees;
 mod category;
 mod distinct;
 mod inheritance;
+mod sets;
+mod tuple;
 
+pub use callees::overloads;
 pub use category::Category;
 pub use distinct::{distinguishable, distinguishable_from_itself, distinguishable_is_symmetric};
+pub use inheritance::inherits;
+pub use sets::effective_set;
+pub use tuple::{OverloadSet, Tuple};
