@@ -2,3 +2,4 @@ pub mod Inheritance
 pub mod Distinct
 pub mod Pairs
 pub mod Sets
+pub mod Index

@@ -6,6 +6,7 @@
 mod callees;
 mod category;
 mod distinct;
+mod index;
 mod inheritance;
 mod sets;
 mod tuple;
@@ -13,6 +14,7 @@ mod tuple;
 pub use callees::overloads;
 pub use category::Category;
 pub use distinct::{distinguishable, distinguishable_from_itself, distinguishable_is_symmetric};
+pub use index::distinguishing_index;
 pub use inheritance::inherits;
 pub use sets::effective_set;
 pub use tuple::{OverloadSet, Tuple};

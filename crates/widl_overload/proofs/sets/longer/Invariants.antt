@@ -8,5 +8,5 @@ abbrev pub invariant-loop-copy : goal.invariant-loop-copy
 invariant-loop-copy l = record {
   number : l.tuple.overload ≡ l.fn.number;
   types : type_terms l.tuple.types ≡ declared_types l.fn.args ++ replicate l._copy (type_term l.last.ty);
-  opts : l.tuple.opts ≡ declared_opts l.fn.args ++ replicate l._copy Variadic
+  opts : l.tuple.opts ≡ declared_opts l.fn.args ++ replicate l._copy Variadic;
 }
