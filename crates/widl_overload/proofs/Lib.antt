@@ -3,3 +3,4 @@ pub mod Parents
 pub mod Closed
 pub mod Lengths
 pub mod Shorter
+pub mod Constructed

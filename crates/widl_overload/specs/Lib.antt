@@ -3,3 +3,4 @@ pub mod Distinct
 pub mod Pairs
 pub mod Sets
 pub mod Index
+pub mod Construction

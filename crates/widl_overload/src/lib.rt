@@ -16,5 +16,5 @@ pub use category::Category;
 pub use distinct::{distinguishable, distinguishable_from_itself, distinguishable_is_symmetric};
 pub use index::distinguishing_index;
 pub use inheritance::inherits;
-pub use sets::effective_set;
+pub use sets::{effective_set, effective_set_is_as_constructed};
 pub use tuple::{OverloadSet, Tuple};

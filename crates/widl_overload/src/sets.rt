@@ -1,10 +1,12 @@
 //! Effective overload sets.
 
-ghost use Rattle.std.specs.Prelude.{◌≡◌, ◌+◌, ◌-◌, ◌<◌, ◌≤◌, ◌++◌, [], Some, None, IfOk, IsSome, OnOk, Option, drop, length, map, replicate, slice_get, take};
+ghost use Rattle.std.specs.Prelude.{◌≡◌, ◌+◌, ◌-◌, ◌<◌, ◌≤◌, ◌++◌, [], ◌↔◌, ℕ, List, Contains, Some, None, IfOk, IsSome, OnOk, Option, drop, length, map, replicate, slice_get, take};
 ghost use Rattle.std.specs.List.{list_all, list_any};
 ghost use Rattle.std.specs.Option.{option_copied, option_map};
 ghost use Rattle.widl_idl.specs.Counts.{IsNumbered, IsNumberedList, NumberedSig};
 ghost use Rattle.widl_idl.specs.Terms.{type_term, type_terms};
+ghost use Rattle.widl_idl.specs.declared.signature.Sig as signatures;
+ghost use Rattle.widl_overload.specs.Construction.{constructed};
 ghost use Rattle.widl_overload.specs.Sets.{TupleTerm, declared_opts, declared_types, effective_set_of, effective_tuples, has_variadic, is_free, is_variadic, longer as longer_of, longest, of_length, of_lengths, overloads_of, shorter as shorter_of, tuple_of, tuple_term, tuples_in, variadic_last, with_tuple};
 
 use crate::callees::overloads;
@@ -33,6 +35,13 @@ pub fn effective_set(
         Some(sigs) => set_of(alloc, sigs.as_slice(), n),
         None => unreachable!(),
     }
+}
+
+/// The standard's own construction, which grows the declared lists of each overload and cuts them at
+/// their end, gives the same tuples.
+pub fn effective_set_is_as_constructed()
+    ensures { (sigs : List signatures.Sig) (n : ℕ) (t : TupleTerm) → Contains (constructed sigs n) t ↔ Contains (effective_tuples sigs n) t }
+{
 }
 
 /// The effective overload set of these overloads.
