@@ -95,18 +95,18 @@ of_lengths_has : (count m : ℕ) (sigs : List Sig) (t : TupleTerm) → In (of_le
 of_lengths_has zero m sigs t h = absurd h
 of_lengths_has (suc count) m sigs t h =
     elim (in_either (of_length m 0 sigs) (of_lengths (m + 1) count sigs) t h) [
-      inl here ↦ (m, omega arith, omega arith, of_length_has sigs m 0 t here)
-    | inr later ↦ (let r : (k : ℕ) × (m + 1 ≤ k) × (k < m + 1 + count) × HasAt k 0 sigs t = of_lengths_has count (m + 1) sigs t later in (r.0, omega (arith, r.1), omega (arith, r.2), r.3))
+      | inl here ↦ (m, omega arith, omega arith, of_length_has sigs m 0 t here)
+      | inr later ↦ (let r : (k : ℕ) × (m + 1 ≤ k) × (k < m + 1 + count) × HasAt k 0 sigs t = of_lengths_has count (m + 1) sigs t later in (r.0, omega (arith, r.1), omega (arith, r.2), r.3))
     ]
 
 has_of_lengths : (count m : ℕ) (sigs : List Sig) (t : TupleTerm) (k : ℕ) → m ≤ k → k < m + count → HasAt k 0 sigs t → In (of_lengths m count sigs) t
 has_of_lengths zero m sigs t k above below h = absurd (omega arith)
 has_of_lengths (suc count) m sigs t k above below h =
     elim (compared m k) [
-      inl l ↦ in_right (of_length m 0 sigs) (of_lengths (m + 1) count sigs) t (has_of_lengths count (m + 1) sigs t k (omega arith) (omega arith) h)
-    | inr r ↦ elim r [
-        inl e ↦ in_left (of_length m 0 sigs) (of_lengths (m + 1) count sigs) t (has_of_length sigs m 0 t (let P : ℕ → Type 0 = λ j. HasAt j 0 sigs t in subst P (sym e) h))
-      | inr g ↦ absurd (omega arith)
+      | inl l ↦ in_right (of_length m 0 sigs) (of_lengths (m + 1) count sigs) t (has_of_lengths count (m + 1) sigs t k (omega arith) (omega arith) h)
+      | inr r ↦ elim r [
+        | inl e ↦ in_left (of_length m 0 sigs) (of_lengths (m + 1) count sigs) t (has_of_length sigs m 0 t (let P : ℕ → Type 0 = λ j. HasAt j 0 sigs t in subst P (sym e) h))
+        | inr g ↦ absurd (omega arith)
       ]
     ]
 
@@ -148,8 +148,8 @@ grown_has (suc count) k number args last t h =
     let P : List TupleTerm → Type 0 = λ ts. In ts t in
     let g : (copies number args last (suc k) ≡ t) ⊎ In (grown last (copies number args last (suc k)) count) t = subst P (grown_step number args last k count) h in
     elim g [
-      inl e ↦ (suc k, omega arith, omega arith, e)
-    | inr later ↦ (let r : (j : ℕ) × (suc k < j) × (j ≤ suc k + count) × (copies number args last j ≡ t) = grown_has count (suc k) number args last t later in (r.0, omega (arith, r.1), omega (arith, r.2), r.3))
+      | inl e ↦ (suc k, omega arith, omega arith, e)
+      | inr later ↦ (let r : (j : ℕ) × (suc k < j) × (j ≤ suc k + count) × (copies number args last j ≡ t) = grown_has count (suc k) number args last t later in (r.0, omega (arith, r.1), omega (arith, r.2), r.3))
     ]
 
 has_grown : (count k number : ℕ) (args : List Arg) (last : TypeTerm) (t : TupleTerm) (j : ℕ) → k < j → j ≤ k + count → copies number args last j ≡ t → In (grown last (copies number args last k) count) t
@@ -157,10 +157,10 @@ has_grown zero k number args last t j above below e = absurd (omega arith)
 has_grown (suc count) k number args last t j above below e =
     let P : List TupleTerm → Type 0 = λ ts. In ts t in
     let g : (copies number args last (suc k) ≡ t) ⊎ In (grown last (copies number args last (suc k)) count) t =
-      elim (compared (suc k) j) [
-        inl l ↦ inr (has_grown count (suc k) number args last t j l (omega arith) e)
+    elim (compared (suc k) j) [
+      | inl l ↦ inr (has_grown count (suc k) number args last t j l (omega arith) e)
       | inr r ↦ elim r [ inl same ↦ inl (ap (copies number args last) same ∙ e) | inr g ↦ absurd (omega arith) ]
-      ] in
+    ] in
     subst P (sym (grown_step number args last k count)) g
 
 -- a tuple beyond the declared length
@@ -262,10 +262,10 @@ have_cuts (suc n) number args t m le below free e =
     let here : is_free r.0.opt ≡ true = left (is_free r.0.opt) (free_from args (suc n)) (sym (free_step args n r.0 r.2) ∙ free_later args m n (omega arith) free) in
     let P : List TupleTerm → Type 0 = λ ts. In ts t in
     let g : (cut_to n (declared_tuple number args) ≡ t) ⊎ In (cuts (cut_to n (declared_tuple number args)) n) t =
-      elim (compared m n) [
-        inl l ↦ inr (have_cuts n number args t m (omega arith) l free e)
+    elim (compared m n) [
+      | inl l ↦ inr (have_cuts n number args t m (omega arith) l free e)
       | inr q ↦ elim q [ inl same ↦ inl (ap (λ k. cut_to k (declared_tuple number args)) (sym same) ∙ e) | inr g ↦ absurd (omega arith) ]
-      ] in
+    ] in
     subst P (sym (cuts_step number args n r.0 inside r.1 ∙ ap (λ b. cond b (cut_to n (declared_tuple number args) ∷ cuts (cut_to n (declared_tuple number args)) n) []) here)) g
 
 -- the tuple of a length up to the declared one
@@ -296,12 +296,12 @@ one_has number args most t le (inl e) =
     (length args, le, short_is number args (length args) (omega arith) ∙ shorter_is number args (length args) (free_at_end args) ∙ ap Some (cut_whole number args ∙ e))
 one_has number args most t le (inr h) =
     elim (in_either (grown_if_variadic (variadic_last args) (declared_tuple number args) (most - length args)) (cuts (declared_tuple number args) (length args)) t h) [
-      inl g ↦ grown_one number args most t (variadic_last args) refl le g
-    | inr k ↦ (
-        let P : TupleTerm → Type 0 = λ d. In (cuts d (length args)) t in
-        let r : CutAt number args (length args) t = cuts_have (length args) number args t (omega arith) (free_at_end args) (subst P (sym (cut_whole number args)) k) in
-        let short : r.0 < length args = r.1 in
-        (r.0, omega arith, short_is number args r.0 (omega arith) ∙ shorter_is number args r.0 r.2 ∙ ap Some r.3))
+      | inl g ↦ grown_one number args most t (variadic_last args) refl le g
+      | inr k ↦ (
+          let P : TupleTerm → Type 0 = λ d. In (cuts d (length args)) t in
+          let r : CutAt number args (length args) t = cuts_have (length args) number args t (omega arith) (free_at_end args) (subst P (sym (cut_whole number args)) k) in
+          let short : r.0 < length args = r.1 in
+          (r.0, omega arith, short_is number args r.0 (omega arith) ∙ shorter_is number args r.0 r.2 ∙ ap Some r.3))
     ]
 
 long_one : (number : ℕ) (args : List Arg) (most : ℕ) (t : TupleTerm) (m : ℕ) (last : Option Arg) → variadic_last args ≡ last → length args < m → m ≤ most → longer number args (m - length args) last ≡ Some t
@@ -319,20 +319,20 @@ has_one number args most t o =
     let m = o.0 in
     let le : m ≤ most = o.1 in
     let whole : In (declared_tuple number args ∷ (grown_if_variadic (variadic_last args) (declared_tuple number args) (most - length args) ++ cuts (declared_tuple number args) (length args))) t =
-      elim (compared (length args) m) [
-        inl beyond ↦ inr (in_left (grown_if_variadic (variadic_last args) (declared_tuple number args) (most - length args)) (cuts (declared_tuple number args) (length args)) t
+    elim (compared (length args) m) [
+      | inl beyond ↦ inr (in_left (grown_if_variadic (variadic_last args) (declared_tuple number args) (most - length args)) (cuts (declared_tuple number args) (length args)) t
           (long_one number args most t m (variadic_last args) refl beyond le (sym (long_is number args m beyond) ∙ o.2)))
       | inr q ↦ elim q [
-          inl same ↦ (
+        | inl same ↦ (
             let r : (free_from args m ≡ true) × (cut_to m (declared_tuple number args) ≡ t) = shorter_some number args m t (free_from args m) refl (sym (short_is number args m (omega arith)) ∙ o.2) in
             inl (sym (cut_whole number args) ∙ ap (λ k. cut_to k (declared_tuple number args)) same ∙ r.1))
         | inr short ↦ (
             let r : (free_from args m ≡ true) × (cut_to m (declared_tuple number args) ≡ t) = shorter_some number args m t (free_from args m) refl (sym (short_is number args m (omega arith)) ∙ o.2) in
             let P : TupleTerm → Type 0 = λ d. In (cuts d (length args)) t in
             inr (in_right (grown_if_variadic (variadic_last args) (declared_tuple number args) (most - length args)) (cuts (declared_tuple number args) (length args)) t
-              (subst P (cut_whole number args) (have_cuts (length args) number args t m (omega arith) short r.0 r.1))))
-        ]
-      ] in
+            (subst P (cut_whole number args) (have_cuts (length args) number args t m (omega arith) short r.0 r.1))))
+      ]
+    ] in
     whole
 
 of_overloads_have : (sigs : List Sig) (number most : ℕ) (t : TupleTerm) → longest sigs ≤ most → In (of_overloads number sigs most) t → Has number sigs most t
@@ -340,8 +340,8 @@ unfolding Has
 of_overloads_have [] number most t le h = h
 of_overloads_have (s ∷ sigs) number most t le h =
     elim (in_either (of_overload number s.args most) (of_overloads (number + 1) sigs most) t h) [
-      inl here ↦ inl (one_has number s.args most t (omega arith) here)
-    | inr later ↦ inr (of_overloads_have sigs (number + 1) most t (omega arith) later)
+      | inl here ↦ inl (one_has number s.args most t (omega arith) here)
+      | inr later ↦ inr (of_overloads_have sigs (number + 1) most t (omega arith) later)
     ]
 
 have_of_overloads : (sigs : List Sig) (number most : ℕ) (t : TupleTerm) → Has number sigs most t → In (of_overloads number sigs most) t

@@ -5,12 +5,11 @@ use Rattle.std.specs.List.{list_any}
 use Rattle.std.proofs.lemmas.List.{append_assoc, take_more}
 use Rattle.widl_idl.specs.declared.signature.Sig.{Sig}
 use Rattle.widl_idl.specs.declared.argument.Arg.{Arg}
-use Rattle.widl_idl.specs.Counts.{IsNumbered, NumberedSig}
-use Rattle.widl_overload.specs.Sets.{TupleTerm, effective_tuples, has_variadic, longer, longest, of_length, of_lengths, shorter, tuple_of, variadic_last, with_tuple}
+use Rattle.widl_overload.specs.Sets.{AreNumbered, TupleTerm, effective_tuples, has_variadic, longer, longest, of_length, of_lengths, shorter, tuple_of, variadic_last, with_tuple}
 
 -- the argument list of an overload at a place is short enough to be numbered
-pub args_few : (sigs : List Sig) (i : ℕ) (s : Sig) → IsNumbered NumberedSig sigs → i < length sigs → s ≡ get_or sigs i s → length s.args < 4294967296
-args_few sigs i s numbered below is = let P : Sig → Type 0 = λ u. length u.args < 4294967296 in subst P (sym is) (numbered.each i s below).args.few
+pub args_few : (sigs : List Sig) (i : ℕ) (s : Sig) → AreNumbered sigs → i < length sigs → s ≡ get_or sigs i s → length s.args < 4294967296
+args_few sigs i s numbered below is = let P : Sig → Type 0 = λ u. length u.args < 4294967296 in subst P (sym is) (numbered.each i s below)
 
 longest-append : (sigs : List Sig) (s : Sig) → longest (sigs ++ s ∷ []) ≡ max (longest sigs) (length s.args)
 longest-append [] s = omega arith

@@ -4,3 +4,4 @@ pub mod Closed
 pub mod Lengths
 pub mod Shorter
 pub mod Constructed
+pub mod Numbered

@@ -1,5 +1,5 @@
 -- The effective overload set of a callee, each tuple in closed form (Web IDL, "effective overload set").
-use Rattle.std.specs.Prelude.{◌≡◌, ℕ, ◌+◌, ◌-◌, ◌++◌, Bool, true, false, List, [], ◌∷◌, length, take, drop, slice_get, replicate, zero, suc, max, map, nat_lt, Option, None, Some, option_map, option_and_then, is_some, if◌then◌else◌}
+use Rattle.std.specs.Prelude.{◌≡◌, ℕ, ◌+◌, ◌-◌, ◌<◌, ◌++◌, Bool, true, false, List, [], ◌∷◌, length, take, drop, slice_get, replicate, zero, suc, max, map, nat_lt, Option, None, Some, option_map, option_and_then, is_some, if◌then◌else◌}
 use Rattle.std.specs.List.{list_all, list_any}
 use Rattle.widl_idl.specs.declared.argument.Arg.{Arg}
 use Rattle.widl_idl.specs.declared.argument.Optionality.{Optionality}
@@ -14,6 +14,7 @@ use Rattle.widl_idl.specs.declared.interface.Iface.{Iface}
 use Rattle.widl_idl.specs.declared.namespace.Space.{Space}
 use Rattle.widl_idl.specs.declared.operation.OpName.{OpName}
 use Rattle.widl_idl.specs.declared.signature.Sig.{Sig}
+use Rattle.widl_idl.specs.Counts.{IsNumbered}
 use Rattle.widl_idl.specs.Terms.{TypeTerm, type_term, type_terms}
 use Rattle.widl_overload.specs.declared.tuple.Tuple.{Tuple}
 use Rattle.widl_overload.specs.declared.tuple.OverloadSet.{OverloadSet}
@@ -124,3 +125,10 @@ effective_or_none (Some sigs) n = effective_tuples sigs n
 -- the effective overload set of a callee
 abbrev pub effective_set_of : Defs → Callee → ℕ → List TupleTerm
 effective_set_of defs callee n = effective_or_none (overloads_of defs callee) n
+
+abbrev pub HasFewArgs : Sig → Type 0
+HasFewArgs s = length s.args < 4294967296
+
+-- overloads that 32 bits can number, as their arguments
+abbrev pub AreNumbered : List Sig → Type 0
+AreNumbered sigs = IsNumbered HasFewArgs sigs

@@ -9,6 +9,8 @@ mod distinct;
 mod index;
 mod inheritance;
 mod sets;
+#[cfg(test)]
+mod tests;
 mod tuple;
 
 pub use callees::overloads;

@@ -2,12 +2,11 @@
 
 ghost use Rattle.std.specs.Prelude.{◌≡◌, ◌+◌, ◌-◌, ◌<◌, ◌≤◌, ◌++◌, [], ◌↔◌, ℕ, List, Contains, Some, None, IfOk, IsSome, OnOk, Option, drop, length, map, replicate, slice_get, take};
 ghost use Rattle.std.specs.List.{list_all, list_any};
-ghost use Rattle.std.specs.Option.{option_copied, option_map};
-ghost use Rattle.widl_idl.specs.Counts.{IsNumbered, IsNumberedList, NumberedSig};
+ghost use Rattle.std.specs.Option.{ForSome, option_copied, option_map};
 ghost use Rattle.widl_idl.specs.Terms.{type_term, type_terms};
 ghost use Rattle.widl_idl.specs.declared.signature.Sig as signatures;
 ghost use Rattle.widl_overload.specs.Construction.{constructed};
-ghost use Rattle.widl_overload.specs.Sets.{TupleTerm, declared_opts, declared_types, effective_set_of, effective_tuples, has_variadic, is_free, is_variadic, longer as longer_of, longest, of_length, of_lengths, overloads_of, shorter as shorter_of, tuple_of, tuple_term, tuples_in, variadic_last, with_tuple};
+ghost use Rattle.widl_overload.specs.Sets.{AreNumbered, TupleTerm, declared_opts, declared_types, effective_set_of, effective_tuples, has_variadic, is_free, is_variadic, longer as longer_of, longest, of_length, of_lengths, overloads_of, shorter as shorter_of, tuple_of, tuple_term, tuples_in, variadic_last, with_tuple};
 
 use crate::callees::overloads;
 use crate::tuple::{OverloadSet, Tuple};
@@ -16,7 +15,8 @@ use widl_idl::{Arg, Callee, Defs, IdlTypes, Optionalities, Optionality, Sig};
 
 /// The effective overload set of an operation name or of the constructors of an interface, for
 /// calls with up to `n` arguments: each tuple once, by length, then overload (Web IDL, "effective
-/// overload set").
+/// overload set"). It asks for fewer than 4,294,967,296 overloads, each with fewer arguments than
+/// that.
 ///
 /// # Errors
 ///
@@ -28,7 +28,7 @@ pub fn effective_set(
     n: u32,
 ) -> Result<OverloadSet, AllocError>
     requires callee { IsSome (overloads_of defs.now callee.now) }
-    requires numbered { IsNumberedList defs.now }
+    requires numbered { ForSome (overloads_of defs.now callee.now) AreNumbered }
     ensures { IfOk result (λ set. tuples_in set ≡ effective_set_of defs.now callee.now n) }
 {
     match overloads(defs, callee) {
@@ -41,12 +41,11 @@ pub fn effective_set(
 /// their end, gives the same tuples.
 pub fn effective_set_is_as_constructed()
     ensures { (sigs : List signatures.Sig) (n : ℕ) (t : TupleTerm) → Contains (constructed sigs n) t ↔ Contains (effective_tuples sigs n) t }
-{
-}
+{}
 
 /// The effective overload set of these overloads.
 fn set_of(alloc: Global, sigs: &[Sig], n: u32) -> Result<OverloadSet, AllocError>
-    requires { IsNumbered NumberedSig sigs.now }
+    requires { AreNumbered sigs.now }
     ensures { IfOk result (λ set. tuples_in set ≡ effective_tuples sigs.now n) }
 {
     let mut set = OverloadSet {
@@ -62,7 +61,7 @@ fn set_of(alloc: Global, sigs: &[Sig], n: u32) -> Result<OverloadSet, AllocError
 /// The greatest length that the set has tuples of: beyond the longest list of arguments only a
 /// variadic overload has any.
 fn greatest_length(sigs: &[Sig], n: u32) -> usize
-    requires { IsNumbered NumberedSig sigs.now }
+    requires { AreNumbered sigs.now }
     ensures few { result < 4294967296 }
     ensures all { of_lengths 0 (result + 1) sigs.now ≡ effective_tuples sigs.now n }
 {
@@ -76,7 +75,7 @@ fn greatest_length(sigs: &[Sig], n: u32) -> usize
 
 /// The length of the longest list of arguments.
 fn longest_list(sigs: &[Sig]) -> usize
-    requires { IsNumbered NumberedSig sigs.now }
+    requires { AreNumbered sigs.now }
     ensures is { result ≡ longest sigs.now }
     ensures few { result < 4294967296 }
 {
@@ -122,7 +121,7 @@ fn add_length(
     sigs: &[Sig],
     m: usize,
 ) -> Result<(), AllocError>
-    requires { IsNumbered NumberedSig sigs.now }
+    requires { AreNumbered sigs.now }
     ensures { OnOk result (tuples_in set.new ≡ tuples_in set.old ++ of_length m 0 sigs.now) }
 {
     for (number, sig) in sigs.iter().enumerate() {
