@@ -1,15 +1,13 @@
 -- Distinguishability as one test of all pairs of innermost types, and its laws.
-use Rattle.std.proofs.Common.{◌≡◌, ℕ, Bool, true, false, ◌||◌, ◌&&◌, ◌++◌, not, List, [], ◌∷◌, arith, refl, sym, ap, ◌∙◌, inl, inr}
-use Rattle.std.specs.Prelude.{Option, None, Some, ◌⊎◌}
-use Rattle.std.specs.List.{list_any, list_all}
+use Rattle.std.proofs.Common.{◌≡◌, Bool, true, false, ◌||◌, ◌&&◌, ◌++◌, not, List, [], ◌∷◌, arith, refl, sym, ap, ◌∙◌, inl, inr}
+use Rattle.std.specs.Prelude.{None, Some, ◌⊎◌}
+use Rattle.std.specs.List.{list_all}
 use Rattle.widl_idl.specs.declared.interface.Iface.{Iface}
-use Rattle.widl_idl.specs.Terms.{TypeTerm, TypeTerms, AnyType, UndefinedType, BooleanType, IntegerType, StringType, EnumerationType, InterfaceType, CallbackFunctionType, CallbackInterfaceType, DictionaryType, ObjectType, SequenceType, RecordType, PromiseType, NullableType, UnionType, no_types, more_types}
+use Rattle.widl_idl.specs.Terms.{TypeTerm, NullableType, UnionType, no_types, more_types}
 use Rattle.widl_idl.specs.Flattened.{flattened_member, flattened_members, includes_nullable_type}
 use Rattle.widl_overload.specs.declared.category.Category.{Category}
-use Rattle.widl_overload.specs.declared.category.Category.TheVariants.{Never, Undefined, Boolean, Numeric, String, Object, Interface, Function, DictionaryLike, SequenceLike}
-use Rattle.widl_overload.specs.Inheritance.{inherits}
 use Rattle.widl_overload.specs.Pairs.{each_apart, is_apart}
-use Rattle.widl_overload.specs.Distinct.{HaveMembers, AllHaveMembers, are_apart, are_unrelated, categories_apart, category, distinguishable, has_dictionary, innermost, is_never, is_same, nullable_clash, overlaps, parts_apart, union_members}
+use Rattle.widl_overload.specs.Distinct.{HaveMembers, are_apart, categories_apart, category, distinguishable, has_dictionary, innermost, nullable_clash, parts_apart, union_members}
 
 -- a type is flattened to the members of its union, or to its innermost type
 Parts : TypeTerm → Type 0

@@ -1,5 +1,5 @@
 -- The closed form of the effective overload set and the standard's construction give the same tuples.
-use Rattle.std.proofs.Common.{◌≡◌, ◌≢◌, ℕ, zero, suc, ◌+◌, ◌-◌, ◌<◌, ◌≤◌, ◌++◌, ◌&&◌, Bool, true, false, cond, max, List, [], ◌∷◌, length, take, drop, map, replicate, get_or, nat_lt, arith, refl, sym, ap, subst, ◌∙◌, inl, inr, append-nil}
+use Rattle.std.proofs.Common.{◌≡◌, ℕ, zero, suc, ◌+◌, ◌-◌, ◌<◌, ◌≤◌, ◌++◌, ◌&&◌, Bool, true, false, cond, max, List, [], ◌∷◌, length, take, drop, replicate, get_or, nat_lt, arith, refl, sym, ap, subst, ◌∙◌, inl, inr, append-nil}
 use Rattle.std.specs.Prelude.{Option, None, Some, ◌⊎◌, ◌↔◌, Contains, slice_get, option_map}
 use Rattle.std.specs.List.{list_all}
 use Rattle.std.proofs.lemmas.Bool.{lt-ltb}
@@ -7,7 +7,6 @@ use Rattle.std.proofs.lemmas.List.{append_assoc, take-take, length-map, replicat
 use Rattle.std.proofs.lemmas.Option.{slice_get-map}
 use Rattle.std.proofs.Math.Seq.{take-length, drop-nil}
 use Rattle.widl_idl.specs.declared.argument.Arg.{Arg}
-use Rattle.widl_idl.specs.declared.argument.Optionality.{Optionality}
 use Rattle.widl_idl.specs.declared.argument.Optionality.TheVariants.{Variadic}
 use Rattle.widl_idl.specs.declared.signature.Sig.{Sig}
 use Rattle.widl_idl.specs.Terms.{TypeTerm, type_term}

@@ -1,5 +1,5 @@
 -- The overloads of a callee in a list that 32 bits can number.
-use Rattle.std.proofs.Common.{◌≡◌, ℕ, ◌<◌, List, length, get_or, refl, subst}
+use Rattle.std.proofs.Common.{◌≡◌, ℕ, List, refl, subst}
 use Rattle.std.specs.Prelude.{Option, None, Some, slice_get, option_and_then, option_map}
 use Rattle.std.specs.List.{All}
 use Rattle.std.specs.Option.{ForSome}
@@ -15,7 +15,7 @@ use Rattle.widl_idl.specs.declared.namespace.Space.{Space}
 use Rattle.widl_idl.specs.declared.operation.OpName.{OpName}
 use Rattle.widl_idl.specs.declared.signature.Sig.{Sig}
 use Rattle.widl_idl.specs.Counts.{IsNumbered, IsNumberedList, NumberedInterface, NumberedNamespace, NumberedOp, NumberedSig}
-use Rattle.widl_overload.specs.Sets.{AreNumbered, HasFewArgs, interface_overloads, namespace_overloads, overloads_in, overloads_named, overloads_of}
+use Rattle.widl_overload.specs.Sets.{AreNumbered, interface_overloads, namespace_overloads, overloads_in, overloads_of}
 
 each_at : {X : Type 0} (P : X → Type 0) (xs : List X) (n : ℕ) (x : X) → All P xs → slice_get xs n ≡ Some x → P x
 each_at P xs n x all e = subst P (get_or_from_slice_get xs n x x e) (all n x (slice_get_within xs n x e))

@@ -1,6 +1,6 @@
 -- The tuple of the first of the declared arguments.
-use Rattle.std.proofs.Common.{◌≡◌, ℕ, Bool, true, cond, List, take, drop, map, refl, sym, ap, ◌∙◌}
-use Rattle.std.specs.Prelude.{Option, None, Some}
+use Rattle.std.proofs.Common.{◌≡◌, ℕ, Bool, true, cond, List, take, drop, sym, ap, ◌∙◌}
+use Rattle.std.specs.Prelude.{None, Some}
 use Rattle.std.specs.List.{list_all}
 use Rattle.std.proofs.lemmas.List.{take-map}
 use Rattle.widl_idl.specs.declared.argument.Arg.{Arg}

@@ -1,5 +1,5 @@
 -- The standard's own construction of the effective overload set: of each overload the declared lists, grown at their end and cut at their end (Web IDL, "compute the effective overload set").
-use Rattle.std.specs.Prelude.{ℕ, ◌+◌, ◌-◌, ◌++◌, Bool, true, false, List, [], ◌∷◌, length, take, slice_get, zero, suc, max, Option, None, Some, if◌then◌else◌}
+use Rattle.std.specs.Prelude.{ℕ, ◌+◌, ◌-◌, ◌++◌, Bool, false, List, [], ◌∷◌, length, take, slice_get, zero, suc, max, Option, None, Some, if◌then◌else◌}
 use Rattle.widl_idl.specs.declared.argument.Arg.{Arg}
 use Rattle.widl_idl.specs.declared.argument.Optionality.{Optionality}
 use Rattle.widl_idl.specs.declared.argument.Optionality.TheVariants.{Variadic}

@@ -1,9 +1,9 @@
 -- When two types are distinguishable (Web IDL, "distinguishable").
-use Rattle.std.specs.Prelude.{◌≡◌, ℕ, Bool, true, false, ◌||◌, ◌&&◌, not, List, [], nat_eq, Option, None, Some}
+use Rattle.std.specs.Prelude.{Bool, true, false, ◌||◌, ◌&&◌, not, List, nat_eq, Option, None, Some}
 use Rattle.std.specs.List.{list_any, list_all}
 use Rattle.widl_idl.specs.declared.interface.Iface.{Iface}
 use Rattle.widl_idl.specs.Terms.{TypeTerm, TypeTerms, AnyType, UndefinedType, BooleanType, IntegerType, StringType, EnumerationType, InterfaceType, CallbackFunctionType, CallbackInterfaceType, DictionaryType, ObjectType, SequenceType, RecordType, PromiseType, NullableType, UnionType, no_types, more_types}
-use Rattle.widl_idl.specs.Flattened.{flattened_member, flattened_members, includes_nullable_type, unannotated}
+use Rattle.widl_idl.specs.Flattened.{flattened_members, includes_nullable_type, unannotated}
 use Rattle.widl_overload.specs.declared.category.Category.{Category}
 use Rattle.widl_overload.specs.declared.category.Category.TheVariants.{Never, Undefined, Boolean, Numeric, String, Object, Interface, Function, DictionaryLike, SequenceLike}
 use Rattle.widl_overload.specs.Inheritance.{inherits}

@@ -1,5 +1,5 @@
 -- The distinguishing argument index (Web IDL, "distinguishing argument index").
-use Rattle.std.specs.Prelude.{◌≡◌, ℕ, ◌<◌, ◌≤◌, Bool, true, false, ◌&&◌, List, [], ◌∷◌, length, map, filter, nat_eq, slice_get, Option, None, Some, MatchOption}
+use Rattle.std.specs.Prelude.{◌≡◌, ℕ, ◌<◌, ◌≤◌, Bool, true, false, ◌&&◌, List, [], ◌∷◌, length, map, filter, nat_eq, slice_get, Option, Some, MatchOption}
 use Rattle.std.specs.List.{list_all}
 use Rattle.widl_idl.specs.declared.interface.Iface.{Iface}
 use Rattle.widl_idl.specs.Terms.{TypeTerm}

@@ -1,6 +1,6 @@
 -- The effective overload set of a callee, each tuple in closed form (Web IDL, "effective overload set").
-use Rattle.std.specs.Prelude.{◌≡◌, ℕ, ◌+◌, ◌-◌, ◌<◌, ◌++◌, Bool, true, false, List, [], ◌∷◌, length, take, drop, slice_get, replicate, zero, suc, max, map, nat_lt, Option, None, Some, option_map, option_and_then, is_some, if◌then◌else◌}
-use Rattle.std.specs.List.{list_all, list_any}
+use Rattle.std.specs.Prelude.{ℕ, ◌+◌, ◌-◌, ◌<◌, ◌++◌, Bool, true, false, List, [], ◌∷◌, length, take, drop, slice_get, replicate, zero, suc, max, map, nat_lt, Option, None, Some, option_map, option_and_then, is_some, if◌then◌else◌}
+use Rattle.std.specs.List.{list_all}
 use Rattle.widl_idl.specs.declared.argument.Arg.{Arg}
 use Rattle.widl_idl.specs.declared.argument.Optionality.{Optionality}
 use Rattle.widl_idl.specs.declared.argument.Optionality.TheVariants.{Required, Optional, Variadic}

@@ -1,6 +1,4 @@
-use Rattle.std.proofs.Common.{◌≡◌, false, sym, ◌∙◌}
-use Rattle.std.specs.List.{list_any}
-use Rattle.widl_overload.specs.Sets.{has_variadic}
+use Rattle.std.proofs.Common.{sym, ◌∙◌}
 use Rattle.widl_overload.proofs.Lengths.{all_lengths}
 use Rattle.widl_overload.proofs.sets.greatest_length.Goals as goal
 

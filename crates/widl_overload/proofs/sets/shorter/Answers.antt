@@ -1,7 +1,7 @@
-use Rattle.std.proofs.Common.{◌≡◌, ap, ◌∙◌}
+use Rattle.std.proofs.Common.{ap, ◌∙◌}
 use Rattle.std.specs.List.{list_all}
 use Rattle.widl_idl.specs.declared.argument.Arg.{Arg}
-use Rattle.widl_overload.specs.Sets.{TupleTerm, declared_opts, declared_types, is_free, tuple_term}
+use Rattle.widl_overload.specs.Sets.{declared_opts, declared_types, is_free, tuple_term}
 use Rattle.widl_overload.proofs.Shorter.{cut_short}
 use Rattle.widl_overload.proofs.sets.shorter.Goals as goal
 
