@@ -1,0 +1,5 @@
+pub mod Terms
+pub mod Flattened
+pub mod Sameness
+pub mod Resolution
+pub mod Counts

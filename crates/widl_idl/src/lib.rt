@@ -1,7 +1,51 @@
-//! The definitions and types of Web IDL, as plain data. It stands on `widl_text`. The crates above
-//! speak of an integer type by its [`IntKind`] and of the way it is converted by its [`Mode`].
+//! The definitions and types of Web IDL, as plain data: what a set of files declares once its
+//! partials and mixins are put together and its types are resolved. It stands on `widl_text`. Each
+//! list in it is an [`Items`], which contracts see as a list, but for [`IdlTypes`]; a type holds
+//! itself in boxes, and contracts speak of its term without them. The contracts that the crates above
+//! use most: [`flattened`] gives the flattened member types of a union, and [`same_type`] tells
+//! whether two terms are equal.
 #![tactic(auto)]
 
+mod argument;
+mod attribute;
+mod callback;
+mod callee;
+mod constant;
+mod defs;
+mod dictionary;
+mod enumeration;
 mod int_kind;
+mod interface;
+mod items;
+mod literal;
+mod namespace;
+mod operation;
+mod refusal;
+mod sameness;
+mod signature;
+#[cfg(test)]
+mod tests;
+mod text_kind;
+mod types;
+mod unions;
 
+pub use argument::{Arg, Args, Optionalities, Optionality};
+pub use attribute::{Attr, Attrs};
+pub use callback::{Callback, Callbacks};
+pub use callee::{Callee, Owner, Part};
+pub use constant::{Constant, Constants};
+pub use defs::Defs;
+pub use dictionary::{Dict, Dicts, Member, Members};
+pub use enumeration::{Choice, Choices, Texts};
 pub use int_kind::{IntKind, Mode};
+pub use interface::{Iface, Ifaces, Pair, Slot, Slots, Stringify};
+pub use items::Items;
+pub use literal::Literal;
+pub use namespace::{Space, Spaces};
+pub use operation::{OpName, OpNames};
+pub use refusal::Refusal;
+pub use sameness::same_type;
+pub use signature::{Sig, Sigs};
+pub use text_kind::TextKind;
+pub use types::{IdlType, IdlTypes};
+pub use unions::{flattened, includes_nullable, nullable_count};

@@ -1,0 +1,3 @@
+pub mod Members
+mod Resolved
+pub mod Same

@@ -1,0 +1,7 @@
+use Rattle.std.proofs.Common.{◌≡◌, take}
+use Rattle.widl_idl.specs.Terms.{type_terms}
+use Rattle.widl_overload.specs.Sets.{declared_types}
+use Rattle.widl_overload.proofs.sets.types_of.Given as goal
+
+abbrev pub invariant-loop-arg : goal.invariant-loop-arg
+invariant-loop-arg l = type_terms l.types ≡ declared_types (take l.arg-index l.args)

@@ -1,0 +1,64 @@
+//! The overloads of a callee.
+
+ghost use Rattle.std.specs.Prelude.{◌≡◌, slice_get, option_and_then};
+ghost use Rattle.std.specs.Option.{option_copied};
+ghost use Rattle.widl_overload.specs.Sets.{interface_overloads, namespace_overloads, overloads_named, overloads_of};
+
+use widl_idl::{Callee, Defs, Iface, OpName, Owner, Part, Sigs, Space};
+
+/// The overloads of a callee; none where it is no operation name and no constructor of the list.
+pub fn overloads<'a>(defs: &'a Defs, callee: &Callee) -> Option<&'a Sigs>
+    ensures { option_copied result ≡ overloads_of defs.now callee.now }
+{
+    match callee.owner {
+        Owner::Iface(number) => of_interface(defs.ifaces.as_slice(), number, callee.part),
+        Owner::Space(number) => of_namespace(defs.spaces.as_slice(), number, callee.part),
+    }
+}
+
+fn of_interface(ifaces: &[Iface], number: u32, part: Part) -> Option<&Sigs>
+    ensures { option_copied result ≡ option_and_then (interface_overloads part) (slice_get ifaces.now number) }
+{
+    match ifaces.get(number as usize) {
+        None => None,
+        Some(iface) => interface_part(iface, part),
+    }
+}
+
+fn interface_part(iface: &Iface, part: Part) -> Option<&Sigs>
+    ensures { option_copied result ≡ interface_overloads part iface.now }
+{
+    match part {
+        Part::Op(name) => named(iface.ops.as_slice(), name),
+        Part::Constructor => Some(&iface.ctors),
+        Part::Get(_) | Part::Set(_) | Part::Text => None,
+    }
+}
+
+fn of_namespace(spaces: &[Space], number: u32, part: Part) -> Option<&Sigs>
+    ensures { option_copied result ≡ option_and_then (namespace_overloads part) (slice_get spaces.now number) }
+{
+    match spaces.get(number as usize) {
+        None => None,
+        Some(space) => namespace_part(space, part),
+    }
+}
+
+fn namespace_part(space: &Space, part: Part) -> Option<&Sigs>
+    ensures { option_copied result ≡ namespace_overloads part space.now }
+{
+    match part {
+        Part::Op(name) => named(space.ops.as_slice(), name),
+        Part::Constructor | Part::Get(_) | Part::Set(_) | Part::Text => None,
+    }
+}
+
+/// The overloads of the operations with this number.
+fn named(ops: &[OpName], number: u32) -> Option<&Sigs>
+    ensures { option_copied result ≡ overloads_named ops.now number }
+{
+    match ops.get(number as usize) {
+        None => None,
+        Some(op) => Some(&op.sigs),
+    }
+}
