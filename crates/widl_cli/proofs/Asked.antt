@@ -1,6 +1,6 @@
 -- Lemmas on the output of the words.
-use Rattle.std.proofs.Common.{◌≡◌, ℕ, List, refl, sym, subst, inl, inr}
-use Rattle.std.specs.Prelude.{◌⊎◌, ◌≢◌, Option, Some, None}
+use Rattle.std.proofs.Common.{◌≡◌, ℕ, List, subst, inl, inr}
+use Rattle.std.specs.Prelude.{◌⊎◌, ◌≢◌, Option}
 use Rattle.widl_trace.specs.Growth.{GrewByPrefix}
 use Rattle.widl_cli.specs.Causes.{fault_of}
 use Rattle.widl_cli.specs.Outputs.{Output, Answers, Writes, WritesPart, IsRequestOutput, IsOutput}

@@ -1,5 +1,5 @@
 -- Lemmas on what is found in a set of files.
-use Rattle.std.proofs.Common.{◌≡◌, ℕ, ◌+◌, ◌<◌, List, refl, subst, sym, arith, below_more}
+use Rattle.std.proofs.Common.{◌≡◌, ℕ, ◌+◌, ◌<◌, List, subst, sym, arith, below_more}
 use Rattle.std.specs.Prelude.{Option, Some, None, IsUtf8}
 use Rattle.std.specs.Option.{option_or}
 use Rattle.widl_lex.specs.Faults.{IsLexFault}

@@ -3,4 +3,6 @@ mod Budgets
 mod Endings
 mod Fetches
 mod Found
+mod OneFinding
+mod OneOutput
 mod Runs

@@ -1,5 +1,5 @@
 -- What the first two phases find in a set of files: a fault of the encoding, or of the grammar.
-use Rattle.std.specs.Prelude.{◌≡◌, ℕ, ◌+◌, ◌<◌, List, ◌++◌, Option, Some, None, IsUtf8, codes, decimal}
+use Rattle.std.specs.Prelude.{ℕ, ◌+◌, ◌<◌, List, ◌++◌, Option, Some, None, IsUtf8, codes, decimal}
 use Rattle.widl_text.specs.declared.place.Place.{Place}
 use Rattle.widl_lex.specs.Faults.{IsLexFault}
 use Rattle.widl_lex.specs.Tokens.{TokenList, AreTokensOf}

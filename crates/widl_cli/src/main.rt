@@ -10,6 +10,7 @@ mod fetching;
 mod finding;
 mod finding_line;
 mod help;
+pub mod laws;
 mod perform;
 mod reader;
 mod request;

@@ -1,4 +1,4 @@
-use Rattle.std.proofs.Common.{◌≡◌, ◌<◌, ◌-◌, length, arith}
+use Rattle.std.proofs.Common.{◌<◌, ◌-◌, length, arith}
 use Rattle.widl_cli.proofs.Found.{broken_found, kept_found}
 use Rattle.widl_cli.proofs.checking.find_fault.Goals as goal
 

@@ -1,4 +1,4 @@
-use Rattle.std.proofs.Common.{refl, ap, arith, sym, subst, ◌∙◌, ◌≤◌, ◌<◌, length}
+use Rattle.std.proofs.Common.{arith, sym, subst, ◌∙◌, ◌≤◌, length}
 use Rattle.widl_cli.specs.Outputs.{IsReadingOutput, IsCheckOutput}
 use Rattle.widl_cli.specs.Texts.{named}
 use Rattle.widl_cli.proofs.Endings.{plain_check_output, read_ends, never_usage, stopped_ends, answers_named}

@@ -1,4 +1,4 @@
-use Rattle.std.proofs.Common.{ap, sym, ◌∙◌, inl, inr, refl, ◌≡◌, ◌⊎◌}
+use Rattle.std.proofs.Common.{ap, sym, ◌∙◌, inl, refl, ◌≡◌}
 use Rattle.std.specs.Prelude.{Some, None}
 use Rattle.widl_cli.specs.Requests.{request_of}
 use Rattle.widl_cli.specs.declared.request.Request.TheVariants.{Help, Version, Check, Run}
