@@ -1,6 +1,8 @@
 //! What no clause says: that memory is found where there is some, what the worked runs print, and what
 //! is answered when the outside fails at each of its calls.
 
+ghost use Rattle.std.specs.Prelude.{◌<◌};
+
 use crate::{
     DiskFolder, Files, MemoryFolder, NamedFile, Status, SureFolder, Words, widl, widl_surely,
 };
@@ -330,8 +332,11 @@ fn each_failed_read_names_its_file(rt: HostRuntime) -> Result<(), Fail> {
     expect_read_fault(&rt, alloc, 7, Status::Done, TRACE)
 }
 
-/// The first run over a sink that takes at most so many bytes a call and fails in one call.
-fn expect_torn(rt: &impl Abort, alloc: Global, most: u32, call: u64) -> Result<bool, Fail> {
+/// The first run over a sink that takes at most so many bytes a call and fails in one call. Says
+/// whether the run ended without a fault.
+fn expect_torn(rt: &impl Abort, alloc: Global, most: u32, call: u64) -> Result<bool, Fail>
+    requires { 0 < most }
+{
     let mut folder = SureFolder::new(files_of(alloc, "do N.f(300)\n", FRAGMENT)?);
     let mut out = MemorySink::new(alloc, 1_000, most, numbers_of(alloc, call)?)?;
     let words = run_words(alloc, "5")?;
@@ -346,20 +351,27 @@ fn expect_torn(rt: &impl Abort, alloc: Global, most: u32, call: u64) -> Result<b
     Ok(false)
 }
 
+/// The same, with each call failing in turn, until a run ends without a fault.
+fn expect_each_torn(rt: &impl Abort, alloc: Global, most: u32) -> Result<(), Fail>
+    requires { 0 < most }
+{
+    let mut ended = false;
+    for call in 1..100u64 {
+        ended = expect_torn(rt, alloc, most, call)?;
+        if ended {
+            break;
+        }
+    }
+    assert!(rt; ended);
+    Ok(())
+}
+
 #[test]
 fn each_failed_write_leaves_a_prefix(rt: HostRuntime) -> Result<(), Fail> {
     let alloc = rt.alloc();
-    for most in [1u32, 10, 4_096] {
-        let mut ended = false;
-        for call in 1..100u64 {
-            ended = expect_torn(&rt, alloc, most, call)?;
-            if ended {
-                break;
-            }
-        }
-        assert!(rt; ended);
-    }
-    Ok(())
+    expect_each_torn(&rt, alloc, 1)?;
+    expect_each_torn(&rt, alloc, 10)?;
+    expect_each_torn(&rt, alloc, 4_096)
 }
 
 #[test]
