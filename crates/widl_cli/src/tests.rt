@@ -7,6 +7,7 @@ use crate::{
     DiskFolder, Files, MemoryFolder, NamedFile, Status, SureFolder, Words, widl, widl_surely,
 };
 use std::alloc::{AllocError, Global};
+use std::fs;
 use std::process::Abort;
 use std::test::Fail;
 use widl_trace::{MemorySink, Numbers, SureSink};
@@ -377,9 +378,11 @@ fn each_failed_write_leaves_a_prefix(rt: HostRuntime) -> Result<(), Fail> {
 #[test]
 fn the_disk_is_read(rt: HostRuntime) -> Result<(), Fail> {
     let alloc = rt.alloc();
+    fs::write(&rt, "script.txt", "do N.f(300)\n")?;
+    fs::write(&rt, "fragment.idl", FRAGMENT)?;
     let mut folder = DiskFolder::new(&rt);
     let mut out = MemorySink::new(alloc, 1_000, 1_000, Numbers::new(alloc))?;
-    let words = run_words(alloc, "5")?;
+    let words = words_of(alloc, &["run", "5", "script.txt", "fragment.idl"])?;
     assert_eq!(rt; widl(alloc, &words, &mut folder, &mut out), Status::Done);
     assert_eq!(rt; out.held(), TRACE.as_bytes());
     Ok(())

@@ -5,6 +5,7 @@ use crate::{
     SureFolder, fetch,
 };
 use std::alloc::{AllocError, Global};
+use std::fs;
 use std::test::Fail;
 use widl_trace::Numbers;
 
@@ -58,6 +59,7 @@ fn a_listed_call_fails(rt: HostRuntime) -> Result<(), Fail> {
 #[test]
 fn the_disk_gives_a_file_and_tells_what_is_missing(rt: HostRuntime) -> Result<(), Fail> {
     let alloc = rt.alloc();
+    fs::write(&rt, "greeting.txt", "hello\n")?;
     let mut folder = DiskFolder::new(&rt);
     assert_eq!(rt;
         fetch(alloc, &mut folder, "greeting.txt")?.as_slice(),
