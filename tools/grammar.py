@@ -449,6 +449,25 @@ def variants(names):
     return "{" + ", ".join(names) + "}"
 
 
+def coded(type_, one, case, names, keyword):
+    """The cases of a type by their numbers, both ways: `keyword` is how the list and the code are declared."""
+    def each(line):
+        return "".join(line(n, i) + "\n" for i, n in enumerate(names))
+
+    return f"""{keyword} all_{one}s : List {type_}
+all_{one}s = {" ∷ ".join(names)} ∷ []
+
+{keyword} {one}_code : {type_} → ℕ
+{each(lambda n, i: f"{one}_code {n} = {i}")}
+pub {one}_at : ({case} d : {type_}) → get_or all_{one}s ({one}_code {case}) d ≡ {case}
+{each(lambda n, i: f"{one}_at {n} d = refl")}
+pub {one}_below : ({case} : {type_}) → {one}_code {case} < length all_{one}s
+{each(lambda n, i: f"{one}_below {n} = lit< tt")}
+abbrev pub {one}s : Coded {type_}
+{one}s = record {{ all = all_{one}s; code = {one}_code; at = {one}_at; below = {one}_below }}
+"""
+
+
 def write_specs(rows):
     rule_use = (
         "use Rattle.widl_syntax.specs.declared.rule.Rule.{Rule}\n"
@@ -462,23 +481,12 @@ def write_specs(rows):
         return f"abbrev pub {name} : {type_}\n" + "".join(f"{name} {n} = {value(n)}\n" for n in of)
 
     terminals = [rows.terminal[s] for s in rows.terminals]
-    number = {n: i for i, n in enumerate(terminals)}
     write("specs/Terminals.antt", f"""-- The terminals by their numbers. Written by tools/grammar.py.
 use Rattle.std.specs.Prelude.{{◌≡◌, ◌<◌, ℕ, Option, Some, None, List, [], ◌∷◌, length, get_or, refl}}
 use Rattle.std.proofs.Common.{{lit<}}
 use Rattle.widl_predictive.specs.Coded.{{Coded}}
 {terminal_use}
-abbrev pub all_terminals : List Terminal
-all_terminals = {" ∷ ".join(terminals)} ∷ []
-
-{cases("terminal_code", "Terminal → ℕ", lambda n: number[n], terminals)}
-pub terminal_at : (t d : Terminal) → get_or all_terminals (terminal_code t) d ≡ t
-{"".join(f"terminal_at {n} d = refl{chr(10)}" for n in terminals)}
-pub terminal_below : (t : Terminal) → terminal_code t < length all_terminals
-{"".join(f"terminal_below {n} = lit< tt{chr(10)}" for n in terminals)}
-abbrev pub terminals : Coded Terminal
-terminals = record {{ all = all_terminals; code = terminal_code; at = terminal_at; below = terminal_below }}
-
+{coded("Terminal", "terminal", "t", terminals, "abbrev pub")}
 -- the column of the tables for what is ahead
 abbrev pub column : Option Terminal → ℕ
 column None = {rows.end}
@@ -605,24 +613,12 @@ abbrev pub printed : Nonterminal → Expression Terminal Nonterminal
 abbrev pub PrintedSentence : List Terminal → Type 0
 PrintedSentence w = Spells printed (rule {START}) w
 """)
-    number = {n: i for i, n in enumerate(names)}
     write("proofs/Names.antt", f"""-- The printed rules by their numbers. Written by tools/grammar.py.
 use Rattle.std.proofs.Common.{{◌≡◌, ◌<◌, ℕ, List, [], ◌∷◌, length, get_or, refl, lit<}}
 use Rattle.widl_predictive.specs.Coded.{{Coded}}
 use Rattle.widl_syntax.specs.Printed.{variants(["Nonterminal"] + names)}
 
-abbrev all_names : List Nonterminal
-all_names = {" ∷ ".join(names)} ∷ []
-
-abbrev name_code : Nonterminal → ℕ
-{"".join(f"name_code {n} = {number[n]}{chr(10)}" for n in names)}
-pub name_at : (p d : Nonterminal) → get_or all_names (name_code p) d ≡ p
-{"".join(f"name_at {n} d = refl{chr(10)}" for n in names)}
-pub name_below : (p : Nonterminal) → name_code p < length all_names
-{"".join(f"name_below {n} = lit< tt{chr(10)}" for n in names)}
-abbrev pub names : Coded Nonterminal
-names = record {{ all = all_names; code = name_code; at = name_at; below = name_below }}
-""")
+{coded("Nonterminal", "name", "p", names, "abbrev")}""")
     ruled = [n for n in names if n not in printed.inlined]
     parted = [n for n in rows.rules if n not in ruled]
     part = "".join(equation(printed, n, "part", printed.parts[n]) for n in parted)
