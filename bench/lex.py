@@ -6,9 +6,10 @@ Run at the top of the repository, after `rt run` in crates/widl_bench_lex has bu
     python3 bench/lex.py
 
 It prints MB/s and peak memory for 1, 4, 16 and 64 MiB of realistic IDL in files of 1 MiB, and the time of each
-hostile file of 1 MiB beside that of a realistic one. Times are those of the processor, the least of a few runs,
-without the start of the program: `user` is the program's own, `system` the kernel's, which is nearly all for the
-pages of the token list (32 bytes a token, so 32 MiB for a file of 1 MiB that is all signs).
+hostile file of 1 MiB beside that of a realistic one, each alone in a run of the program. Times are those of the
+processor, the least of some runs, without the start of the program: `user` is the program's own, `system` the
+kernel's, which is nearly all for the pages of the token list (32 bytes a token, so 32 MiB for a file of 1 MiB that is
+all signs).
 """
 import os
 import subprocess
@@ -49,8 +50,14 @@ def least(files, runs):
     return user, system, max(m[2] for m in measured)
 
 
+def alone(name, start):
+    """The least user and system seconds of a file by itself, without the start of the program."""
+    user, system, _ = least([name], 60)
+    return max(user - start[0], 0.0), max(system - start[1], 0.0)
+
+
 def main():
-    start = least([], 10)
+    start = least([], 60)
     with tempfile.TemporaryDirectory() as folder:
         realistic = []
         for seed in range(8):
@@ -66,16 +73,16 @@ def main():
             user, system, memory = least(files, 3 if count > 16 else 9)
             seconds = user + system - start[0] - start[1]
             print(f"| {count} MiB | {size / seconds / 1e6:.0f} | {seconds / size * MIB * 1e3:.1f} | {memory:.0f} MiB |")
-        usual = least(realistic, 5)
-        print("\n| file of 1 MiB | ms user | ms system | times the realistic one | by user time alone |\n|---|---|---|---|---|")
-        print(f"| realistic | {usual[0] / 8e-3:.1f} | {usual[1] / 8e-3:.1f} | 1.0 | 1.0 |")
+        usual = alone(realistic[0], start)
+        print("\n| file of 1 MiB | ms user | ms system | times the realistic one |\n|---|---|---|---|")
+        print(f"| realistic | {usual[0] * 1e3:.1f} | {usual[1] * 1e3:.1f} | 1.0 |")
         for title, text in HOSTILE.items():
             name = os.path.join(folder, "hostile.idl")
             with open(name, "wb") as out:
                 out.write((text * (MIB // len(text) + 1))[:MIB])
-            user, system, _ = least([name] * 8, 5)
-            whole = (user + system) / (usual[0] + usual[1])
-            print(f"| {title} | {user / 8e-3:.1f} | {system / 8e-3:.1f} | {whole:.1f} | {user / usual[0]:.1f} |")
+            user, system = alone(name, start)
+            times = (user + system) / (usual[0] + usual[1])
+            print(f"| {title} | {user * 1e3:.1f} | {system * 1e3:.1f} | {times:.1f} |")
 
 
 if __name__ == "__main__":

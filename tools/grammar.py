@@ -1,8 +1,8 @@
 #!/usr/bin/env python3
-"""Writes the generated files of crates/widl_syntax: the rows of the grammar with their tables, and the
+"""Writes the generated files of crates/widl_grammar: the rows of the grammar with their tables, and the
 printed grammar that they are compared with.
 
-    python3 tools/grammar.py && (cd crates/widl_syntax && rt fmt)
+    python3 tools/grammar.py && (cd crates/widl_grammar && rt fmt)
 
 `grammar.txt` has the rows, `printed.txt` the printed grammar, and `parts.txt` what each rule that only
 the rows have stands for in the printed one. Nothing that is written here is trusted: the check of the
@@ -14,7 +14,7 @@ import re
 import textwrap
 
 HERE = os.path.dirname(os.path.abspath(__file__))
-CRATE = os.path.join(HERE, "..", "crates", "widl_syntax")
+CRATE = os.path.join(HERE, "..", "crates", "widl_grammar")
 START = "Definitions"
 DEEP_LEVEL = 17
 NO_ROW = 99
@@ -314,7 +314,7 @@ def write_words(rows):
     write("src/spelling.rt", f"""//! The words and signs that the grammar quotes.
 
 {GENERATED}ghost use Rattle.std.specs.Prelude.{{◌≡◌, None, Some, MatchOption}};
-ghost use Rattle.widl_syntax.specs.Words.{{spelling}};
+ghost use Rattle.widl_grammar.specs.Words.{{spelling}};
 
 use crate::Terminal;
 
@@ -338,9 +338,9 @@ pub fn spelling(terminal: Terminal) -> Option<&'static str>
     write("specs/Words.antt", f"""-- The words and signs that the grammar quotes. Written by tools/grammar.py.
 use Rattle.std.specs.Prelude.{{ℕ, Bool, false, Option, Some, None, List, [], ◌∷◌, ◌+◌, find, codes, slice_range, slice_index}}
 use Rattle.std.specs.Str.{{bytes_eq}}
-use Rattle.widl_syntax.specs.declared.terminal.Terminal.{{Terminal}}
-use Rattle.widl_syntax.specs.declared.terminal.Terminal.TheVariants.{variants(names)}
-use Rattle.widl_syntax.specs.declared.spelling.TheConstants.{{QUOTED, QUOTED_FROM}}
+use Rattle.widl_grammar.specs.declared.terminal.Terminal.{{Terminal}}
+use Rattle.widl_grammar.specs.declared.terminal.Terminal.TheVariants.{variants(names)}
+use Rattle.widl_grammar.specs.declared.spelling.TheConstants.{{QUOTED, QUOTED_FROM}}
 
 -- the bytes of a quoted terminal
 abbrev pub spelling : Terminal → Option (List ℕ)
@@ -366,9 +366,9 @@ quoted (byte ∷ more) = quoted_among (beginning byte) (byte ∷ more)
     cases = "".join(f"quoted_is {n} text e = subst (λ x. quoted x ≡ Some {n}) (told e) refl\n" for n in names)
     write("proofs/Spellings.antt", f"""-- Each quoted terminal is the one that is spelled so. Written by tools/grammar.py.
 use Rattle.std.proofs.Common.{{◌≡◌, ℕ, Some, List, refl, subst}}
-use Rattle.widl_syntax.specs.declared.terminal.Terminal.{{Terminal}}
-use Rattle.widl_syntax.specs.declared.terminal.Terminal.TheVariants.{variants(names)}
-use Rattle.widl_syntax.specs.Words.{{spelling, quoted}}
+use Rattle.widl_grammar.specs.declared.terminal.Terminal.{{Terminal}}
+use Rattle.widl_grammar.specs.declared.terminal.Terminal.TheVariants.{variants(names)}
+use Rattle.widl_grammar.specs.Words.{{spelling, quoted}}
 
 told : {{X : Type 0}} {{x y : X}} → Some x ≡ Some y → x ≡ y
 told e = cc
@@ -411,7 +411,7 @@ def write_tables(rows):
     write("src/rows/all.rt", f"""//! The rows of all rules.
 
 {GENERATED}ghost use Rattle.std.specs.Prelude.{{◌≡◌, map}};
-ghost use Rattle.widl_syntax.specs.Rows.{{rows_of}};
+ghost use Rattle.widl_grammar.specs.Rows.{{rows_of}};
 
 use super::{{{groups}}};
 use crate::{{Rule, Terminal}};
@@ -429,7 +429,7 @@ pub fn rows(rule: Rule) -> &'static [&'static [Symbol<Terminal, Rule>]]
     write("src/picks/all.rt", f"""//! The tables of all rules.
 
 {GENERATED}ghost use Rattle.std.specs.Prelude.{{◌≡◌}};
-ghost use Rattle.widl_syntax.specs.Tables.{{picks_of}};
+ghost use Rattle.widl_grammar.specs.Tables.{{picks_of}};
 
 use super::{{{groups}}};
 use crate::Rule;
@@ -470,11 +470,11 @@ abbrev pub {one}s : Coded {type_}
 
 def write_specs(rows):
     rule_use = (
-        "use Rattle.widl_syntax.specs.declared.rule.Rule.{Rule}\n"
-        f"use Rattle.widl_syntax.specs.declared.rule.Rule.TheVariants.{variants(rows.rules)}\n")
+        "use Rattle.widl_grammar.specs.declared.rule.Rule.{Rule}\n"
+        f"use Rattle.widl_grammar.specs.declared.rule.Rule.TheVariants.{variants(rows.rules)}\n")
     terminal_use = (
-        "use Rattle.widl_syntax.specs.declared.terminal.Terminal.{Terminal}\n"
-        "use Rattle.widl_syntax.specs.declared.terminal.Terminal.TheVariants."
+        "use Rattle.widl_grammar.specs.declared.terminal.Terminal.{Terminal}\n"
+        "use Rattle.widl_grammar.specs.declared.terminal.Terminal.TheVariants."
         f"{variants(rows.terminal[s] for s in rows.terminals)}\n")
 
     def cases(name, type_, value, of=rows.rules):
@@ -510,14 +510,14 @@ abbrev pub rules : Coded Rule
 rules = record {{ all = all_rules; code = rule_code; at = rule_at; below = rule_below }}
 """)
     uses = "".join(
-        f"use Rattle.widl_syntax.specs.declared.rows.{group}.TheConstants."
+        f"use Rattle.widl_grammar.specs.declared.rows.{group}.TheConstants."
         f"{variants(map(constant, names))}\n" for group, names in rows.groups)
     pick_uses = "".join(
-        f"use Rattle.widl_syntax.specs.declared.picks.{group}.TheConstants."
+        f"use Rattle.widl_grammar.specs.declared.picks.{group}.TheConstants."
         f"{variants(constant(n) + '_PICKS' for n in names)}\n" for group, names in rows.groups)
     write("specs/Rows.antt", f"""-- The grammar, as the constants of the source have it. Written by tools/grammar.py.
 use Rattle.std.specs.Prelude.{{List, [], ◌∷◌, Bool, true, false}}
-{rule_use}use Rattle.widl_syntax.specs.declared.terminal.Terminal.{{Terminal}}
+{rule_use}use Rattle.widl_grammar.specs.declared.terminal.Terminal.{{Terminal}}
 use Rattle.widl_predictive.specs.declared.grammar.Symbol.{{Symbol}}
 use Rattle.widl_predictive.specs.Grammar.{{Grammar}}
 {uses}
@@ -542,10 +542,10 @@ grammar = record {{ rows = rows_of; starts = is_start; begins_level = begins_typ
 """)
     write("specs/Tables.antt", f"""-- The tables of the grammar. `Owed` computes that they serve. Written by tools/grammar.py.
 use Rattle.std.specs.Prelude.{{List, ℕ, Bool, true, false, Option, slice_index_or}}
-{rule_use}use Rattle.widl_syntax.specs.declared.terminal.Terminal.{{Terminal}}
-{pick_uses}use Rattle.widl_syntax.specs.Terminals.{{terminals, column}}
-use Rattle.widl_syntax.specs.Rules.{{rules}}
-use Rattle.widl_syntax.specs.Rows.{{grammar}}
+{rule_use}use Rattle.widl_grammar.specs.declared.terminal.Terminal.{{Terminal}}
+{pick_uses}use Rattle.widl_grammar.specs.Terminals.{{terminals, column}}
+use Rattle.widl_grammar.specs.Rules.{{rules}}
+use Rattle.widl_grammar.specs.Rows.{{grammar}}
 use Rattle.widl_predictive.specs.Lookahead.{{Sets}}
 use Rattle.widl_predictive.specs.Table.{{Table, sets_of}}
 
@@ -599,8 +599,8 @@ def equation(printed, name, subject, expression):
 def write_printed(rows, printed):
     names = list(printed.rules)
     terminal_use = (
-        "use Rattle.widl_syntax.specs.declared.terminal.Terminal.{Terminal}\n"
-        "use Rattle.widl_syntax.specs.declared.terminal.Terminal.TheVariants as word\n")
+        "use Rattle.widl_grammar.specs.declared.terminal.Terminal.{Terminal}\n"
+        "use Rattle.widl_grammar.specs.declared.terminal.Terminal.TheVariants as word\n")
     write("specs/Printed.antt", f"""-- The grammar of Web IDL as it is printed, with choices, options and repetitions. Written by tools/grammar.py.
 use Rattle.std.specs.Prelude.{{List}}
 {terminal_use}use Rattle.widl_predictive.specs.Expression.{{Expression, token, rule, ◌·◌, ◌∣◌, maybe, many, Spells}}
@@ -616,17 +616,17 @@ PrintedSentence w = Spells printed (rule {START}) w
     write("proofs/Names.antt", f"""-- The printed rules by their numbers. Written by tools/grammar.py.
 use Rattle.std.proofs.Common.{{◌≡◌, ◌<◌, ℕ, List, [], ◌∷◌, length, get_or, refl, lit<}}
 use Rattle.widl_predictive.specs.Coded.{{Coded}}
-use Rattle.widl_syntax.specs.Printed.{variants(["Nonterminal"] + names)}
+use Rattle.widl_grammar.specs.Printed.{variants(["Nonterminal"] + names)}
 
 {coded("Nonterminal", "name", "p", names, "abbrev")}""")
     ruled = [n for n in names if n not in printed.inlined]
     parted = [n for n in rows.rules if n not in ruled]
     part = "".join(equation(printed, n, "part", printed.parts[n]) for n in parted)
     write("proofs/Parts.antt", f"""-- What the rules stand for that the printed grammar lacks. Written by tools/grammar.py.
-{terminal_use}use Rattle.widl_syntax.specs.declared.rule.Rule.{{Rule}}
-use Rattle.widl_syntax.specs.declared.rule.Rule.TheVariants.{variants(parted)}
-use Rattle.widl_syntax.specs.Printed.{{Nonterminal}}
-use Rattle.widl_syntax.specs.Printed as printing
+{terminal_use}use Rattle.widl_grammar.specs.declared.rule.Rule.{{Rule}}
+use Rattle.widl_grammar.specs.declared.rule.Rule.TheVariants.{variants(parted)}
+use Rattle.widl_grammar.specs.Printed.{{Nonterminal}}
+use Rattle.widl_grammar.specs.Printed as printing
 use Rattle.widl_predictive.specs.Expression.{{Expression, token, rule, ◌·◌, ◌∣◌, maybe, many}}
 
 -- of the rules that the printed grammar has nothing is asked
@@ -636,8 +636,8 @@ abbrev pub part : Rule → Expression Terminal Nonterminal
     ranked = [n for n in rows.rules if printed.ranks[n]]
     write("proofs/Ranks.antt", f"""-- An order of the rules. Written by tools/grammar.py.
 use Rattle.std.proofs.Common.{{ℕ}}
-use Rattle.widl_syntax.specs.declared.rule.Rule.{{Rule}}
-use Rattle.widl_syntax.specs.declared.rule.Rule.TheVariants.{variants(ranked)}
+use Rattle.widl_grammar.specs.declared.rule.Rule.{{Rule}}
+use Rattle.widl_grammar.specs.declared.rule.Rule.TheVariants.{variants(ranked)}
 
 -- a rule that the printed grammar lacks is below those in whose rows it stands where nothing before it takes
 -- a token
@@ -646,19 +646,19 @@ abbrev pub rank : Rule → ℕ
 """)
     write("proofs/Prints.antt", f"""-- The rules that both grammars have. Written by tools/grammar.py.
 use Rattle.std.proofs.Common.{{Option, Some, None}}
-use Rattle.widl_syntax.specs.declared.rule.Rule.{{Rule}}
-use Rattle.widl_syntax.specs.declared.rule.Rule.TheVariants.{variants(ruled)}
-use Rattle.widl_syntax.specs.Printed.{{Nonterminal}}
-use Rattle.widl_syntax.specs.Printed as printing
+use Rattle.widl_grammar.specs.declared.rule.Rule.{{Rule}}
+use Rattle.widl_grammar.specs.declared.rule.Rule.TheVariants.{variants(ruled)}
+use Rattle.widl_grammar.specs.Printed.{{Nonterminal}}
+use Rattle.widl_grammar.specs.Printed as printing
 
 abbrev pub prints : Rule → Option Nonterminal
 {"".join(f"prints {n} = Some printing.{n}{chr(10)}" for n in ruled)}prints _ = None
 """)
     write("proofs/RuleOf.antt", f"""-- The rules that both grammars have. Written by tools/grammar.py.
 use Rattle.std.proofs.Common.{{Option, Some, None}}
-use Rattle.widl_syntax.specs.declared.rule.Rule.{{Rule}}
-use Rattle.widl_syntax.specs.declared.rule.Rule.TheVariants as row
-use Rattle.widl_syntax.specs.Printed.{variants(["Nonterminal"] + ruled)}
+use Rattle.widl_grammar.specs.declared.rule.Rule.{{Rule}}
+use Rattle.widl_grammar.specs.declared.rule.Rule.TheVariants as row
+use Rattle.widl_grammar.specs.Printed.{variants(["Nonterminal"] + ruled)}
 
 -- none where the printed rule is put in place of its name
 abbrev pub rule_of : Nonterminal → Option Rule

@@ -1,12 +1,12 @@
 //! Checks the syntax of each file that is named, and prints how many bytes and tokens they have and how many
-//! are Web IDL. It stands on `widl_syntax`, and serves to measure it: `bench/syntax.py` runs it.
+//! are Web IDL. It stands on `widl_grammar`, and serves to measure it: `bench/syntax.py` runs it.
 #![tactic(auto)]
 
 use anyhow::{Result, bail};
 use std::rt::{Env, Files};
 use std::{env, fs};
+use widl_grammar::check_syntax;
 use widl_lex::Tokens;
-use widl_syntax::check_syntax;
 
 /// How many bytes and tokens a file has, and whether it is Web IDL.
 fn check<R: Files + AllocGlobal>(rt: &R, name: &str) -> Result<(usize, usize, bool)> {

@@ -9,7 +9,7 @@ use Rattle.widl_cli.specs.Findings.{IsWellFormed, HasSyntaxFault, IsFileFinding,
 use Rattle.widl_cli.specs.Texts.{named}
 use Rattle.widl_cli.specs.declared.finding.Finding.{Finding}
 use Rattle.widl_cli.specs.declared.finding.Finding.TheVariants.{Encoding, Syntax, Deep}
-use Rattle.widl_syntax.specs.declared.fault.SyntaxFault.{SyntaxFault}
+use Rattle.widl_grammar.specs.declared.fault.SyntaxFault.{SyntaxFault}
 
 -- so each file is UTF-8
 file_utf8 : (file : ℕ) (bytes : List ℕ) (finding : Option Finding) → KeepsEncoding finding → IsFileFinding file bytes finding → IsUtf8 bytes

@@ -12,12 +12,12 @@ use Rattle.widl_lex.specs.declared.fault.LexFault.TheVariants.{NotUtf8}
 use Rattle.widl_predictive.specs.Grammar.{IsAccepted, IsFault}
 use Rattle.widl_predictive.specs.declared.fault.Fault.{Fault}
 use Rattle.widl_predictive.specs.declared.fault.Fault.TheVariants as machine
-use Rattle.widl_syntax.specs.Rows.{grammar}
-use Rattle.widl_syntax.specs.Source.{place_of, IsFaultOf}
-use Rattle.widl_syntax.specs.declared.rule.Rule.TheVariants.{Definitions}
-use Rattle.widl_syntax.specs.declared.terminal.Terminal.{Terminal}
-use Rattle.widl_syntax.specs.declared.fault.SyntaxFault.{SyntaxFault}
-use Rattle.widl_syntax.specs.declared.fault.SyntaxFault.TheVariants as faults
+use Rattle.widl_grammar.specs.Rows.{grammar}
+use Rattle.widl_grammar.specs.Source.{place_of, IsFaultOf}
+use Rattle.widl_grammar.specs.declared.rule.Rule.TheVariants.{Definitions}
+use Rattle.widl_grammar.specs.declared.terminal.Terminal.{Terminal}
+use Rattle.widl_grammar.specs.declared.fault.SyntaxFault.{SyntaxFault}
+use Rattle.widl_grammar.specs.declared.fault.SyntaxFault.TheVariants as faults
 use Rattle.widl_cli.specs.Findings.{IsWellFormed, HasSyntaxFault, IsFirstSyntaxFault, IsFoundIn}
 use Rattle.widl_cli.specs.Texts.{named}
 use Rattle.widl_cli.specs.declared.finding.Finding.{Finding}

@@ -5,11 +5,11 @@ use Rattle.widl_lex.specs.Faults.{IsLexFault}
 use Rattle.widl_lex.specs.Tokens.{TokenList, AreTokensOf}
 use Rattle.widl_lex.specs.declared.fault.LexFault.TheVariants.{NotUtf8}
 use Rattle.widl_predictive.specs.Grammar.{IsAccepted}
-use Rattle.widl_syntax.specs.Rows.{grammar}
-use Rattle.widl_syntax.specs.Source.{terminals_of, IsFaultOf}
-use Rattle.widl_syntax.specs.declared.rule.Rule.TheVariants.{Definitions}
-use Rattle.widl_syntax.specs.declared.fault.SyntaxFault.{SyntaxFault}
-use Rattle.widl_syntax.specs.declared.fault.SyntaxFault.TheVariants as faults
+use Rattle.widl_grammar.specs.Rows.{grammar}
+use Rattle.widl_grammar.specs.Source.{terminals_of, IsFaultOf}
+use Rattle.widl_grammar.specs.declared.rule.Rule.TheVariants.{Definitions}
+use Rattle.widl_grammar.specs.declared.fault.SyntaxFault.{SyntaxFault}
+use Rattle.widl_grammar.specs.declared.fault.SyntaxFault.TheVariants as faults
 use Rattle.widl_cli.specs.Texts.{named}
 use Rattle.widl_cli.specs.declared.finding.Finding.{Finding}
 use Rattle.widl_cli.specs.declared.finding.Finding.TheVariants.{Encoding, Syntax, Deep}

@@ -7,8 +7,8 @@ ghost use Rattle.widl_cli.specs.Texts.{AreShort};
 use crate::finding::Finding;
 use crate::texts::Texts;
 use std::alloc::{AllocError, Global};
+use widl_grammar::{SyntaxFault, check_syntax};
 use widl_lex::{LexFault, Tokens};
-use widl_syntax::{SyntaxFault, check_syntax};
 
 /// The first fault of the texts from a place on, of which the first is file 0: of the encoding of any of
 /// them, or else of the grammar of one.

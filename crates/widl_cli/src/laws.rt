@@ -3,8 +3,8 @@
 ghost use Rattle.std.specs.Prelude.{◌≡◌, ℕ, List};
 ghost use Rattle.widl_cli.specs.Outputs.{Output, IsOutput};
 
+use widl_grammar::laws::{accepted_has_no_fault, one_fault};
 use widl_lex::each_text_has_one_cut;
-use widl_syntax::laws::{accepted_has_no_fault, one_fault};
 
 /// The words and the files have at most one output: what is written, and the status, are determined.
 pub fn one_output()

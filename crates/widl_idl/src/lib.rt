@@ -26,6 +26,7 @@ mod signature;
 #[cfg(test)]
 mod tests;
 mod text_kind;
+pub mod tree;
 mod types;
 mod unions;
 
@@ -47,5 +48,6 @@ pub use refusal::Refusal;
 pub use sameness::same_type;
 pub use signature::{Sig, Sigs};
 pub use text_kind::TextKind;
+pub use tree::{Fragment, Fragments};
 pub use types::{IdlType, IdlTypes};
 pub use unions::{flattened, includes_nullable, nullable_count};

@@ -4,6 +4,8 @@ pub mod Steps
 pub mod Places
 pub mod Unique
 pub mod Running
+pub mod Inversion
+pub mod Taking
 pub mod Check
 pub mod Alternatives
 pub mod Comparison

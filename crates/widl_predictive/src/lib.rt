@@ -2,10 +2,11 @@
 //! being the beginning of a sentence or begins a nested part too deep.
 //!
 //! It stands on nothing. The theory, the computed check of a grammar's tables and the machine are
-//! proved once, for every grammar that implements [`Rule`]. The one contract that the crates above
-//! use is that of [`read_sentence`]: `Ok` exactly for the sentences without a deep place, and
-//! otherwise the fault of the list at its exact place. The laws on sentences and places are the
-//! contracts of the functions of [`laws`].
+//! proved once, for every grammar that implements [`Rule`]. The crates above learn which lists are
+//! accepted from the contract of [`read_sentence`]: `Ok` exactly for the sentences without a deep
+//! place, and otherwise the fault of the list at its exact place. In tokens that are known to be a
+//! sentence, [`next_token`] reads what one rule derives, token by token, however deep it is nested.
+//! The laws on sentences and places are the contracts of the functions of [`laws`].
 #![tactic(auto)]
 
 mod fault;
@@ -15,4 +16,4 @@ mod machine;
 
 pub use fault::Fault;
 pub use grammar::{Rule, Symbol};
-pub use machine::read_sentence;
+pub use machine::{Frame, next_token, read_sentence};

@@ -6,14 +6,17 @@ ghost use Rattle.std.specs.Prelude.{◌≡◌, ◌++◌, ◌∷◌, ◌⊎◌, t
 ghost use Rattle.widl_predictive.specs.Derivation.{Symbol as StackSymbol, Terminal};
 ghost use Rattle.widl_predictive.specs.Grammar.{row_at, at_level, Leveled, is_deep, next_level, IsAccepted, IsFault};
 ghost use Rattle.widl_predictive.specs.Machine.{stack_of, symbol_of, IsSettled, WantsOther, Unfolds, Reached, IsFound};
+ghost use Rattle.widl_predictive.specs.Runs.{left_of, Takes};
 
 use crate::{Fault, Rule, Symbol};
 use std::alloc::{AllocError, Global};
 
-/// What is still to be read: a token, or what a rule derives at a level.
+/// What is still to be read, as it lies on the machine's stack.
 #[derive(Clone, Copy, Debug)]
 pub enum Frame<T, R> {
+    /// A token.
     Wanted(T),
+    /// What the rule derives at the level.
     Open(R, u8),
 }
 
@@ -168,4 +171,20 @@ pub fn read_sentence<R: Rule>(alloc: Global, start: R, tokens: &[R::Terminal]) -
     ensures complete { IsAccepted R.grammar start tokens.now → IsOkUnless result Fault.Memory }
 {
     run_machine(alloc, start, tokens)
+}
+
+/// Takes the next token of a part, of which the stack holds what is still to be read, where `ahead`
+/// is the token ahead, or `None` at the end; `false` where nothing of the part is left before it.
+///
+/// It is for tokens that are known to be a sentence. What a rule derives is read by calls that begin
+/// with a stack of `Frame::Open(rule, 1)` alone, one for each token, until one answers `false`. What
+/// the stack holds after want of memory is not said.
+pub fn next_token<R: Rule>(
+    stack: &mut Vec<Frame<R::Terminal, R>>,
+    ahead: Option<R::Terminal>,
+) -> Result<bool, AllocError>
+    ensures { IfOk result (Takes R.grammar R.sets ahead (left_of stack.old.items) (left_of stack.new.items)) }
+{
+    let _top = unfold::<R>(stack, ahead)?;
+    Ok(stack.pop().is_some())
 }

@@ -1,8 +1,8 @@
-pub mod Terminals
-pub mod Rules
-pub mod Rows
-pub mod Tables
-pub mod Owed
-pub mod Printed
-pub mod Words
-pub mod Source
+pub mod Signs
+pub mod SpelledNames
+pub mod SpelledTypes
+pub mod SpelledMembers
+pub mod SpelledDefinitions
+pub mod MemberLists
+pub mod TypeWords
+pub mod Reading

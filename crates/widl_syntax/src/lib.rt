@@ -1,31 +1,16 @@
-//! The syntax of Web IDL: which token lists are sentences, and where exactly the fault of any other
-//! list is.
+//! The syntax tree of a file of Web IDL.
 //!
-//! It stands on the tokens of `widl_lex` and on `widl_predictive`, whose machine reads the grammar of
-//! [`Rule`]. The one contract that the crates above use is that of [`check_syntax`]: `Ok` exactly for the
-//! sentences of the grammar without a type of level 17, and otherwise the place of the fault. That the
-//! rows have the sentences of the printed grammar is a law of [`laws`].
+//! It stands on the tokens of `widl_lex`, on the grammar of `widl_grammar` and on the tree's types in
+//! `widl_idl`. The one contract that the crates above use is that of [`parse`]: `Ok` exactly for the
+//! sentences of the grammar without a type of level 17, with the tree that spells the file's tokens, and
+//! otherwise the place of the fault.
 #![tactic(auto)]
 
-mod fault;
-mod grammar;
-pub mod laws;
-mod lookup;
-mod picks;
-mod rows;
-mod rule;
-mod sentence;
-mod source;
-mod spelling;
-mod table;
-mod terminal;
+mod build;
+mod fragment;
 
-pub use fault::SyntaxFault;
-pub use lookup::quoted;
-pub use rule::Rule;
-pub use sentence::read_definitions;
-pub use source::{check_syntax, terminal_of};
-pub use terminal::Terminal;
+pub use fragment::parse;
+pub use widl_grammar::SyntaxFault;
 
 #[cfg(test)]
 mod tests;

@@ -1,0 +1,10 @@
+pub mod Names
+pub mod Parts
+pub mod Ranks
+pub mod Prints
+pub mod RuleOf
+pub mod SameSentences
+pub mod Spellings
+pub mod FaultPlaces
+pub mod QuotedTokens
+pub mod FirstBytes

@@ -1,0 +1,72 @@
+-- The tokens of an extended attribute behind its name, which the machine of the grammar reads.
+use Rattle.std.proofs.Common.{◌≡◌, ℕ, ◌+◌, ◌<◌, ◌≤◌, Bool, true, false, Option, None, List, [], ◌∷◌, ◌++◌, length, refl, sym, subst, arith, string_bytes}
+use Rattle.std.specs.Prelude.{map}
+use Rattle.widl_idl.specs.declared.tree.extended_attributes.SourceToken.{SourceToken}
+use Rattle.widl_lex.specs.Tokens.{Lexeme}
+use Rattle.widl_predictive.specs.Derivation.{Terminal as Token}
+use Rattle.widl_predictive.specs.Predictive.{ahead}
+use Rattle.widl_predictive.specs.Runs as runs
+use Rattle.widl_predictive.specs.Runs.{Takes, taken}
+use Rattle.widl_grammar.specs.declared.rule.Rule.TheVariants as rule
+use Rattle.widl_grammar.specs.declared.terminal.Terminal.{Terminal}
+use Rattle.widl_grammar.specs.Rows.{grammar}
+use Rattle.widl_grammar.specs.Tables.{sets}
+use Rattle.widl_grammar.specs.Source.{terminal_of}
+use Rattle.widl_syntax.specs.Signs.{Spells, all_signs}
+use Rattle.widl_syntax.specs.SpelledNames.{source_token}
+use Rattle.widl_syntax.specs.Reading.{Symbols, Runs, Reads, part, IfAhead, IsTaken}
+use Rattle.widl_syntax.proofs.Reading.{spells_append, took_text}
+use Rattle.widl_syntax.proofs.Words.{taken_shorter}
+use Rattle.widl_syntax.proofs.Lists.{fewer_left, all_signs_more}
+
+-- the tokens so far stand between two tokens of the file, the stack is what is still to be read from the second on, and each turn took a token
+pub record InMachine (start now : List Lexeme) (tokens : List SourceToken) (stack : Symbols) (turns : ℕ) : Type 0 where
+  pub so_far : (others : Symbols) → Runs (part rule.ExtendedAttributeRest ++ others) start → Spells (all_signs source_token tokens) start now × Runs (stack ++ others) now × (turns + length now ≤ length start)
+  pub shorter : length now ≤ length start
+
+pub machine_begins : (start : List Lexeme) (tokens : List SourceToken) (stack : Symbols) → tokens ≡ [] → stack ≡ part rule.ExtendedAttributeRest → InMachine start start tokens stack 0
+machine_begins start tokens stack none is = record {
+  so_far = λ others r. (subst (λ ts. Spells (all_signs source_token ts) start start) (sym none) refl, subst (λ s. Runs (s ++ others) start) (sym is) r, omega arith);
+  shorter = omega arith;
+}
+
+taken_first : (token : SourceToken) (after others : Symbols) (now next : List Lexeme) (a : Terminal) (v : List Terminal) → map terminal_of now ≡ a ∷ v → runs.Runs grammar sets (after ++ others) v → IsTaken token.at now next → IfAhead now (λ l. string_bytes token.text ≡ l.text) → Spells (source_token token) now next × Runs (after ++ others) next
+taken_first token after others now next a v e r t b = (took_text a (string_bytes token.text) t b).reads (after ++ others) (subst (runs.Runs grammar sets (Token a ∷ (after ++ others))) (sym e) (taken r))
+
+-- one token more
+pub machine_goes_on : {start now next : List Lexeme} {tokens : List SourceToken} {stack after : Symbols} {turns : ℕ} (ahead_is : Option Terminal) (goes : Bool) (token : SourceToken) → InMachine start now tokens stack turns → ahead_is ≡ ahead (map terminal_of now) → Takes grammar sets ahead_is stack after goes → goes ≡ true → IsTaken token.at now next → IfAhead now (λ l. string_bytes token.text ≡ l.text) → InMachine start next (tokens ++ token ∷ []) after (turns + 1)
+machine_goes_on l false token m is takes e t b = cc
+machine_goes_on {start} {now} {next} {tokens} {stack} {after} {turns} l true token m is takes e t b = record {
+  so_far = λ others r.
+      let g = m.so_far others r in
+      let k = takes others (map terminal_of now) (sym is) g.1 in
+      let one = taken_first token after others now next k.0 k.1 k.2 k.3 t b in
+      let fewer : length next < length now = fewer_left (source_token token) now next refl one.0 in
+      let le = g.2 in
+      (subst (λ signs. Spells signs start next) (sym (all_signs_more source_token tokens token)) (spells_append (all_signs source_token tokens) (source_token token) start now next g.0 one.0), one.1, omega arith);
+  shorter = taken_shorter (length start) t m.shorter;
+}
+
+-- nothing is left on the stack
+pub machine_over : {start now : List Lexeme} {tokens : List SourceToken} {stack : Symbols} {turns : ℕ} (after : Symbols) (ahead_is : Option Terminal) (goes : Bool) → InMachine start now tokens stack turns → ahead_is ≡ ahead (map terminal_of now) → Takes grammar sets ahead_is stack after goes → goes ≡ false → Reads (part rule.ExtendedAttributeRest) (all_signs source_token tokens) start now
+machine_over after l true m is takes e = cc
+machine_over {start} {now} after l false m is takes e = record {
+  reads = λ others r. let g = m.so_far others r in (g.0, takes others (map terminal_of now) (sym is) g.1);
+}
+
+-- the tokens have come to their end
+none_left : (now : List Lexeme) (turns all : ℕ) → turns + length now ≤ all → all ≤ turns → now ≡ []
+none_left [] turns all le used = refl
+none_left (l ∷ now) turns all le used = absurd (omega arith)
+
+takes_none : (stack after others : Symbols) (goes : Bool) → Takes grammar sets None stack after goes → Runs (stack ++ others) [] → Runs others []
+takes_none stack after others false takes r = takes others [] refl r
+takes_none stack after others true takes r = let k = takes others [] refl r in let bad : [] ≡ k.0 ∷ k.1 = k.2 in cc
+
+pub machine_used_up : {start now : List Lexeme} {tokens : List SourceToken} {stack : Symbols} {turns : ℕ} (after : Symbols) (goes : Bool) → InMachine start now tokens stack turns → Takes grammar sets None stack after goes → length start ≤ turns → Reads (part rule.ExtendedAttributeRest) (all_signs source_token tokens) start now
+machine_used_up {start} {now} {tokens} {stack} {turns} after goes m takes used = record {
+  reads = λ others r.
+      let g = m.so_far others r in
+      let none = none_left now turns (length start) g.2 used in
+      (g.0, subst (λ w. Runs others w) (sym none) (takes_none stack after others goes takes (subst (λ w. Runs (stack ++ others) w) none g.1)));
+}

@@ -1,0 +1,25 @@
+-- Items with a separator between each two.
+use Rattle.std.proofs.Common.{◌≡◌, List, [], ◌∷◌, ◌++◌, refl, sym, ◌∙◌, ap, subst}
+use Rattle.widl_lex.specs.Tokens.{Lexeme}
+use Rattle.widl_idl.specs.declared.tree.extended_attributes.ExtendedAttribute.{ExtendedAttribute}
+use Rattle.widl_grammar.specs.declared.rule.Rule.{Rule}
+use Rattle.widl_grammar.specs.declared.terminal.Terminal.{Terminal}
+use Rattle.widl_grammar.specs.declared.terminal.Terminal.TheVariants.{Comma, OpenBracket, CloseBracket}
+use Rattle.widl_syntax.specs.Signs.{Sign, word, behind, separated, ◌⧺◌}
+use Rattle.widl_syntax.specs.SpelledNames.{extended_attribute, extended_attributes}
+use Rattle.widl_syntax.specs.Reading.{Symbols, Reads, Appends, part}
+use Rattle.widl_syntax.proofs.Reading.{and_then}
+
+-- the items begin with the one that was there
+pub first_item : {X : Type 0} {rule : Rule} {one : X → List Sign} {old items : List X} {start now : List Lexeme} {x : X} → old ≡ x ∷ [] → Appends rule one old items start now → (more : List X) × (items ≡ x ∷ more)
+first_item e added = (added.more, added.is ∙ ap (λ l. l ++ added.more) e)
+
+-- an item, and more behind separators
+pub separated_items : {X : Type 0} {rule : Rule} (separator : Terminal) {one : X → List Sign} {old items : List X} {α : Symbols} {start middle now : List Lexeme} {x : X} → old ≡ x ∷ [] → Reads α (one x) start middle → Appends rule (behind separator one) old items middle now → Reads (α ++ part rule) (separated separator one items) start now
+separated_items {rule} separator {one} {α} {start} {now} e first added =
+    subst (λ items. Reads (α ++ part rule) (separated separator one items) start now) (sym (added.is ∙ ap (λ l. l ++ added.more) e)) (and_then first added.reads)
+
+-- extended attributes stand in brackets where there is one
+pub in_brackets : {α : Symbols} {items : List ExtendedAttribute} {start now : List Lexeme} (more : List ExtendedAttribute) (x : ExtendedAttribute) → items ≡ x ∷ more → Reads α (word OpenBracket ⧺ separated Comma extended_attribute items ⧺ word CloseBracket) start now → Reads α (extended_attributes items) start now
+in_brackets {α} {items} {start} {now} more x e r =
+    subst (λ signs. Reads α signs start now) (subst (λ l. (word OpenBracket ⧺ separated Comma extended_attribute l ⧺ word CloseBracket) ≡ extended_attributes l) (sym e) refl) r

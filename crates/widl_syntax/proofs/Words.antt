@@ -1,0 +1,77 @@
+-- Tokens by their bytes, and rules of which each row is one token.
+use Rattle.std.proofs.Common.{◌≡◌, ℕ, ◌≤◌, Bool, true, false, Option, Some, None, List, [], ◌∷◌, ◌++◌, length, length-drop, refl, ◌∙◌, ap, subst, arith, inl, inr}
+use Rattle.std.specs.Prelude.{◌||◌, ◌&&◌, map}
+use Rattle.widl_text.specs.declared.place.Place.{Place}
+use Rattle.widl_idl.specs.declared.tree.names.Name.{Name}
+use Rattle.widl_lex.specs.Tokens.{Lexeme}
+use Rattle.widl_predictive.specs.declared.grammar.Symbol.{Symbol as RowSymbol}
+use Rattle.widl_predictive.specs.declared.grammar.Symbol.TheVariants.{Token, Part, Inner}
+use Rattle.widl_predictive.specs.Lookahead.{nth}
+use Rattle.widl_predictive.specs.Predictive.{ahead}
+use Rattle.widl_predictive.specs.Runs.{plain}
+use Rattle.widl_predictive.proofs.Booleans.{or_cases, and_cases}
+use Rattle.widl_grammar.specs.declared.rule.Rule.{Rule}
+use Rattle.widl_grammar.specs.declared.terminal.Terminal.{Terminal}
+use Rattle.widl_grammar.specs.Rows.{rows_of}
+use Rattle.widl_grammar.specs.Tables.{picked}
+use Rattle.widl_grammar.specs.Terminals.{all_terminals}
+use Rattle.widl_grammar.specs.Source.{terminal_of}
+use Rattle.widl_syntax.specs.Signs.{OfBytes, at, ◌⧺◌}
+use Rattle.widl_syntax.specs.SpelledNames.{any_name}
+use Rattle.widl_syntax.specs.Reading.{Runs, Reads, token, part, terminal_ahead, IfAhead, IsTaken, IsPassedBy, IsName}
+use Rattle.widl_syntax.proofs.Reading.{always, took_bytes, took_name, part_first, and_other_than, is_among, pass_all, passes}
+
+-- a token of the terminal, with its bytes
+pub took_whole : (a : Terminal) (bytes : List ℕ) {w m : List Lexeme} {place : Place} → IsTaken place w m → IfAhead w (λ l. bytes ≡ l.text) → Reads (token a) (at place ⧺ OfBytes a bytes ∷ []) w m
+took_whole a bytes {w} {m} {place} t b = took_bytes a bytes t (always w (λ l. bytes ≡ l.text) (λ l. terminal_of l ≡ a) b)
+
+-- the terminal is none of these
+abbrev pub NoneOf : List Terminal → Terminal → Type 0
+NoneOf [] t = Unit {0}
+NoneOf (a ∷ more) t = (t ≡ a → ⊥) × NoneOf more t
+
+pub none_of : (others : List Terminal) (t u : Terminal) → t ≡ u → NoneOf others t → is_among others u ≡ false
+none_of [] t u e h = refl
+none_of (a ∷ more) t u e h = and_other_than a more u (λ same. h.0 (e ∙ same)) (none_of more t u e h.1)
+
+-- the row is one token, or there is none
+abbrev pub is_word : Option (List (RowSymbol Terminal Rule)) → Bool
+is_word None = true
+is_word (Some []) = false
+is_word (Some (Token a ∷ [])) = true
+is_word (Some (Token a ∷ x ∷ more)) = false
+is_word (Some (Part rule ∷ more)) = false
+is_word (Some (Inner rule ∷ more)) = false
+
+-- each other terminal, and the end, picks a row of one token or none
+abbrev pub is_words : Rule → List Terminal → Bool
+is_words rule others = pass_all (λ t. is_among others t || is_word (nth (rows_of rule) (picked rule (Some t)))) all_terminals && is_word (nth (rows_of rule) (picked rule None))
+
+picks_word : (rule : Rule) (others : List Terminal) (w : List Lexeme) → is_words rule others ≡ true → is_among others (terminal_ahead w) ≡ false → is_word (nth (rows_of rule) (picked rule (ahead (map terminal_of w)))) ≡ true
+picks_word rule others [] h differ = (and_cases _ _ h).1
+picks_word rule others (l ∷ w) h differ =
+    let both = passes (λ t. is_among others t || is_word (nth (rows_of rule) (picked rule (Some t)))) (and_cases _ _ h).0 (terminal_of l) in
+    elim (or_cases (is_among others (terminal_of l)) _ both) [ inl yes_among ↦ cc | inr row ↦ row ]
+
+word_row : (row : List (RowSymbol Terminal Rule)) → is_word (Some row) ≡ true → (a : Terminal) × (row ≡ Token a ∷ [])
+word_row [] h = cc
+word_row (Token a ∷ []) h = (a, refl)
+word_row (Token a ∷ x ∷ more) h = cc
+word_row (Part rule ∷ more) h = cc
+word_row (Inner rule ∷ more) h = cc
+
+-- a name, as a rule of words
+pub by_word : (rule : Rule) (others : List Terminal) {w m : List Lexeme} {name : Name} → is_words rule others ≡ true → is_among others (terminal_ahead w) ≡ false → IsName name w m → Reads (part rule) (any_name name) w m
+by_word rule others {w} {m} {name} test differ n = record {
+  reads = λ z r.
+      let p = part_first r in
+      let row = word_row p.0 (subst (λ o. is_word o ≡ true) p.1 (picks_word rule others w test differ)) in
+      (took_name row.0 n).reads z (subst (λ s. Runs (plain s ++ z) w) row.1 p.2);
+}
+
+-- no more tokens are left behind a token that is taken or passed by
+pub taken_shorter : {now next : List Lexeme} {place : Place} (n : ℕ) → IsTaken place now next → length now ≤ n → length next ≤ n
+taken_shorter {now} {next} n t le = omega (arith, ap length t.rest, length-drop 1 now)
+
+pub passed_shorter : {now next : List Lexeme} {t : Terminal} (n : ℕ) → IsPassedBy t now next → length now ≤ n → length next ≤ n
+passed_shorter {now} {next} n p le = omega (arith, ap length p.same)

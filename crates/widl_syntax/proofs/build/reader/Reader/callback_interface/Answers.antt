@@ -1,0 +1,11 @@
+use Rattle.widl_grammar.specs.declared.terminal.Terminal.TheVariants as terminal
+use Rattle.widl_syntax.proofs.Reading.{and_then, took, took_identifier}
+use Rattle.widl_syntax.proofs.build.reader.Reader.callback_interface.Goals as goal
+
+pub returns : goal.returns
+returns c = (and_then (took terminal.Interface c.take-word.ensures)
+    (and_then (took_identifier c.in_ok-name.ensures)
+    (and_then (took terminal.OpenBrace c.take-open.ensures)
+    (and_then c.in_ok-members.ensures
+    (and_then (took terminal.CloseBrace c.take-close.ensures)
+    (took terminal.Semicolon c.take-semicolon.ensures))))))

@@ -1,0 +1,14 @@
+use Rattle.std.proofs.Common.{refl}
+use Rattle.widl_grammar.specs.declared.rule.Rule.TheVariants as rule
+use Rattle.widl_grammar.specs.declared.terminal.Terminal.TheVariants as terminal
+use Rattle.widl_syntax.proofs.Reading.{by_only, and_then, took, took_identifier}
+use Rattle.widl_syntax.proofs.build.reader.Reader.namespace.Goals as goal
+
+pub returns-clause-reads : goal.returns-clause-reads
+returns-clause-reads c = by_only rule.Namespace refl
+    (and_then (took terminal.Namespace c.take-word.ensures)
+    (and_then (took_identifier c.in_ok-name.ensures)
+    (and_then (took terminal.OpenBrace c.take-open.ensures)
+    (and_then c.in_ok-members.ensures
+    (and_then (took terminal.CloseBrace c.take-close.ensures)
+    (took terminal.Semicolon c.take-semicolon.ensures))))))

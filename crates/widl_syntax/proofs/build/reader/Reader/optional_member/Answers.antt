@@ -1,0 +1,12 @@
+use Rattle.std.proofs.Common.{[], ◌∷◌, refl}
+use Rattle.widl_grammar.specs.declared.rule.Rule.TheVariants as rule
+use Rattle.widl_grammar.specs.declared.terminal.Terminal.TheVariants as terminal
+use Rattle.widl_syntax.proofs.Reading.{by_rest, other_than, and_then, took, took_identifier}
+use Rattle.widl_syntax.proofs.build.reader.Reader.optional_member.Goals as goal
+
+pub returns-clause-reads : goal.returns-clause-reads
+returns-clause-reads c = by_rest rule.DictionaryMemberRest (terminal.Required ∷ []) 1 refl refl (other_than terminal.Required _ c.requires)
+    (and_then c.in_ok-ty.ensures
+    (and_then (took_identifier c.in_ok-name.ensures)
+    (and_then c.in_ok-default.ensures
+    (took terminal.Semicolon c.take-semicolon.ensures))))

@@ -1,0 +1,13 @@
+use Rattle.std.proofs.Common.{refl, ap, ◌∙◌}
+use Rattle.widl_grammar.specs.declared.rule.Rule.TheVariants as rule
+use Rattle.widl_grammar.specs.declared.terminal.Terminal.TheVariants as terminal
+use Rattle.widl_syntax.proofs.Reading.{by_row, and_then, took}
+use Rattle.widl_syntax.specs.SpelledTypes.{form_signs}
+use Rattle.widl_syntax.proofs.TypeForms.{form-Integer}
+use Rattle.widl_syntax.proofs.Types.{of_signs}
+use Rattle.widl_syntax.proofs.build.reader.Reader.unsigned_form.Goals as goal
+
+pub returns-clause-reads : goal.returns-clause-reads
+returns-clause-reads c = of_signs (ap form_signs (form-Integer c.integer_kind.result) ∙ c.integer_kind.ensures.words)
+    (by_row rule.Primitive terminal.Unsigned c.requires refl refl
+    (and_then (took terminal.Unsigned c.take-unsigned.ensures) c.integer_kind.ensures.reads))

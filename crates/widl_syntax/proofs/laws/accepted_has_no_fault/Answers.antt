@@ -1,5 +1,0 @@
-use Rattle.widl_syntax.specs.declared.rule.Rule.TheVariants.{Definitions}
-use Rattle.widl_syntax.proofs.laws.accepted_has_no_fault.Goals as goal
-
-pub returns : goal.returns
-returns c = λ w e a b. c.accepted_has_no_fault.ensures Definitions w e a b

@@ -1,5 +1,0 @@
-use Rattle.widl_syntax.specs.declared.rule.Rule.TheVariants.{Definitions}
-use Rattle.widl_syntax.proofs.laws.deep_place_comes_first.Goals as goal
-
-pub returns : goal.returns
-returns c = λ w j k d p. c.deep_place_comes_first.ensures Definitions w j k d p

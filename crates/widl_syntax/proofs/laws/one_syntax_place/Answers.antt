@@ -1,5 +1,0 @@
-use Rattle.widl_syntax.specs.declared.rule.Rule.TheVariants.{Definitions}
-use Rattle.widl_syntax.proofs.laws.one_syntax_place.Goals as goal
-
-pub returns : goal.returns
-returns c = λ w j k a b. c.one_syntax_place.ensures Definitions w j k a b

@@ -1,6 +1,0 @@
-use Rattle.std.proofs.Common.{refl}
-use Rattle.widl_syntax.specs.declared.rule.Rule.TheVariants.{Definitions}
-use Rattle.widl_syntax.proofs.laws.one_tree.Goals as goal
-
-pub returns : goal.returns
-returns c = λ w d e. c.one_tree.ensures Definitions w refl d e

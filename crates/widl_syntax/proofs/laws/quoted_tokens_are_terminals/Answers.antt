@@ -1,5 +1,0 @@
-use Rattle.widl_syntax.proofs.QuotedTokens.{quoted_some}
-use Rattle.widl_syntax.proofs.laws.quoted_tokens_are_terminals.Goals as goal
-
-pub returns : goal.returns
-returns c = λ text h. quoted_some text h

@@ -1,5 +1,0 @@
-use Rattle.widl_syntax.specs.declared.rule.Rule.TheVariants.{Definitions}
-use Rattle.widl_syntax.proofs.laws.sentence_has_no_syntax_place.Goals as goal
-
-pub returns : goal.returns
-returns c = λ w k d p. c.sentence_has_no_syntax_place.ensures Definitions w k d p

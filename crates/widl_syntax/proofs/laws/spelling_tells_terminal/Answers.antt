@@ -1,5 +1,0 @@
-use Rattle.widl_syntax.proofs.Spellings.{quoted_is}
-use Rattle.widl_syntax.proofs.laws.spelling_tells_terminal.Goals as goal
-
-pub returns : goal.returns
-returns c = λ t text e. quoted_is t text e

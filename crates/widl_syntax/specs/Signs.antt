@@ -1,0 +1,51 @@
+-- What a tree says of the tokens that it stands for.
+use Rattle.std.specs.Prelude.{◌≡◌, ℕ, List, [], ◌∷◌, ◌++◌}
+use Rattle.widl_text.specs.declared.place.Place.{Place}
+use Rattle.widl_lex.specs.Tokens.{Lexeme}
+use Rattle.widl_grammar.specs.declared.terminal.Terminal.{Terminal}
+use Rattle.widl_grammar.specs.Source.{terminal_of}
+
+-- a sign of a token: the next token stands at the place (which is no token of its own); a token of the terminal; one of the terminal with these bytes; one with these bytes
+pub data Sign : Type 0 where
+  AtPlace : Place → Sign
+  OfTerminal : Terminal → Sign
+  OfBytes : Terminal → List ℕ → Sign
+  OfText : List ℕ → Sign
+
+-- the sign stands for the tokens between two of a file
+abbrev pub Stands : Sign → List Lexeme → List Lexeme → Type 0
+Stands (AtPlace place) from to = (l : Lexeme) × (rest : List Lexeme) × (from ≡ l ∷ rest) × (l.at ≡ place) × (to ≡ from)
+Stands (OfTerminal t) from to = (l : Lexeme) × (from ≡ l ∷ to) × (terminal_of l ≡ t)
+Stands (OfBytes t bytes) from to = (l : Lexeme) × (from ≡ l ∷ to) × (terminal_of l ≡ t) × (l.text ≡ bytes)
+Stands (OfText bytes) from to = (l : Lexeme) × (from ≡ l ∷ to) × (l.text ≡ bytes)
+
+-- the signs in order stand for the tokens between two of a file
+abbrev pub Spells : List Sign → List Lexeme → List Lexeme → Type 0
+Spells [] from to = from ≡ to
+Spells (sign ∷ more) from to = (next : List Lexeme) × Stands sign from next × Spells more next to
+
+infixr 60 ◌⧺◌
+-- signs one after the other
+abbrev pub ◌⧺◌ : List Sign → List Sign → List Sign
+a ⧺ b = a ++ b
+
+-- one sign
+abbrev pub word : Terminal → List Sign
+word t = OfTerminal t ∷ []
+
+abbrev pub at : Place → List Sign
+at place = AtPlace place ∷ []
+
+-- the signs of each item, one after the other
+abbrev pub all_signs : {X : Type 0} → (X → List Sign) → List X → List Sign
+all_signs one [] = []
+all_signs one (x ∷ more) = one x ⧺ all_signs one more
+
+-- an item behind a separator
+abbrev pub behind : {X : Type 0} → Terminal → (X → List Sign) → X → List Sign
+behind separator one x = word separator ⧺ one x
+
+-- items with a separator between each two
+abbrev pub separated : {X : Type 0} → Terminal → (X → List Sign) → List X → List Sign
+separated separator one [] = []
+separated separator one (x ∷ more) = one x ⧺ all_signs (behind separator one) more

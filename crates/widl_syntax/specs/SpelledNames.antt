@@ -1,0 +1,67 @@
+-- The signs of names, extended attributes and literals.
+use Rattle.std.specs.Prelude.{ℕ, Bool, true, false, Option, None, Some, List, [], ◌∷◌, ◌++◌, if◌then◌else◌, string_bytes}
+use Rattle.widl_idl.specs.declared.tree.extended_attributes.ExtendedAttribute.{ExtendedAttribute}
+use Rattle.widl_idl.specs.declared.tree.extended_attributes.SourceToken.{SourceToken}
+use Rattle.widl_idl.specs.declared.tree.literals.Literal.{Literal}
+use Rattle.widl_idl.specs.declared.tree.literals.LiteralValue.{LiteralValue}
+use Rattle.widl_idl.specs.declared.tree.literals.LiteralValue.TheVariants as value
+use Rattle.widl_idl.specs.declared.tree.names.Name.{Name}
+use Rattle.widl_grammar.specs.declared.terminal.Terminal.{Terminal}
+use Rattle.widl_grammar.specs.declared.terminal.Terminal.TheVariants.{Identifier, Integer, Decimal, String, Equals, Comma, OpenBracket, CloseBracket, OpenBrace, CloseBrace, Null, Undefined, True, False, Infinity, MinusInfinity, Nan}
+use Rattle.widl_syntax.specs.Signs.{Sign, OfBytes, OfText, at, word, all_signs, separated, ◌⧺◌}
+
+-- the bytes of a name, with the `_` before it
+abbrev pub name_bytes : Name → List ℕ
+name_bytes name = if name.escaped then 0x5F ∷ string_bytes name.text else string_bytes name.text
+
+-- an identifier
+abbrev pub identifier : Name → List Sign
+identifier name = at name.at ⧺ OfBytes Identifier (name_bytes name) ∷ []
+
+-- an identifier or a word that is allowed as a name
+abbrev pub any_name : Name → List Sign
+any_name name = at name.at ⧺ OfText (name_bytes name) ∷ []
+
+abbrev pub optional_name : Option Name → List Sign
+optional_name None = []
+optional_name (Some name) = any_name name
+
+abbrev pub word_if : Bool → Terminal → List Sign
+word_if true t = word t
+word_if false t = []
+
+abbrev pub source_token : SourceToken → List Sign
+source_token t = at t.at ⧺ OfText (string_bytes t.text) ∷ []
+
+abbrev pub extended_attribute : ExtendedAttribute → List Sign
+extended_attribute a = identifier a.name ⧺ all_signs source_token a.arguments
+
+-- extended attributes in brackets, and nothing where there are none
+abbrev pub extended_attributes : List ExtendedAttribute → List Sign
+extended_attributes [] = []
+extended_attributes (a ∷ more) = word OpenBracket ⧺ separated Comma extended_attribute (a ∷ more) ⧺ word CloseBracket
+
+-- a text in quotation marks
+abbrev pub quoted_bytes : List ℕ → List ℕ
+quoted_bytes text = 0x22 ∷ (text ++ 0x22 ∷ [])
+
+abbrev pub literal_value : LiteralValue → List Sign
+literal_value value.Null = word Null
+literal_value value.Undefined = word Undefined
+literal_value (value.Boolean true) = word True
+literal_value (value.Boolean false) = word False
+literal_value (value.Integer text) = OfBytes Integer (string_bytes text) ∷ []
+literal_value (value.Decimal text) = OfBytes Decimal (string_bytes text) ∷ []
+literal_value value.Infinity = word Infinity
+literal_value value.MinusInfinity = word MinusInfinity
+literal_value value.NotANumber = word Nan
+literal_value (value.Text text) = OfBytes String (quoted_bytes (string_bytes text)) ∷ []
+literal_value value.EmptySequence = word OpenBracket ⧺ word CloseBracket
+literal_value value.EmptyDictionary = word OpenBrace ⧺ word CloseBrace
+
+abbrev pub literal : Literal → List Sign
+literal l = at l.at ⧺ literal_value l.value
+
+abbrev pub default_value : Option Literal → List Sign
+default_value None = []
+default_value (Some l) = word Equals ⧺ literal l

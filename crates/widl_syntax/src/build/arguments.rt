@@ -1,0 +1,105 @@
+//! Arguments.
+
+ghost use Rattle.std.specs.Prelude.{◌≡◌, ◌≢◌, ◌++◌, List, IfOk};
+ghost use Rattle.widl_lex.specs.Tokens.{Lexeme};
+ghost use Rattle.widl_grammar.specs.declared.rule.Rule.TheVariants as rule;
+ghost use Rattle.widl_grammar.specs.declared.terminal.Terminal.TheVariants as terminal;
+ghost use Rattle.widl_syntax.specs.Reading.{Symbols, Reads, Appends, part, token, terminal_ahead};
+ghost use Rattle.widl_syntax.specs.Signs.{Sign, behind, separated};
+ghost use Rattle.widl_syntax.specs.SpelledMembers.{argument, argument_rest, in_parentheses};
+ghost use Rattle.widl_syntax.specs.SpelledNames.{extended_attributes};
+
+use super::Reader;
+use std::alloc::AllocError;
+use widl_grammar::Terminal;
+use widl_idl::tree::{Argument, ArgumentKind, Arguments, ExtendedAttributes};
+
+impl<'t, 's> Reader<'t, 's> {
+    /// Arguments between parentheses.
+    pub fn arguments(&mut self) -> Result<Arguments, AllocError>
+        ensures { IfOk result (λ arguments. Reads (token terminal.OpenParen ++ part rule.ArgumentList ++ token terminal.CloseParen) (in_parentheses arguments) self.old self.new) }
+    {
+        let _open = self.take();
+        let arguments = self.argument_list()?;
+        let _close = self.take();
+        Ok(arguments)
+    }
+
+    /// The arguments up to the parenthesis behind them.
+    fn argument_list(&mut self) -> Result<Arguments, AllocError>
+        ensures { IfOk result (λ arguments. Reads (part rule.ArgumentList) (separated terminal.Comma argument arguments) self.old self.new) }
+    {
+        let mut arguments = Arguments::new(self.alloc());
+        if self.is_ahead(Terminal::CloseParen) {
+            return Ok(arguments);
+        }
+        arguments.push(self.argument()?)?;
+        self.more_arguments(&mut arguments)?;
+        Ok(arguments)
+    }
+
+    /// Adds the arguments behind the first one.
+    fn more_arguments(&mut self, arguments: &mut Arguments) -> Result<(), AllocError>
+        ensures { IfOk result (λ _. Appends rule.MoreArguments (behind terminal.Comma argument) arguments.old arguments.new self.old self.new) }
+    {
+        for _ in 0..self.left() {
+            if self.take_if(Terminal::Comma).is_none() {
+                break;
+            }
+            arguments.push(self.argument()?)?;
+        }
+        Ok(())
+    }
+
+    fn argument(&mut self) -> Result<Argument, AllocError>
+        ensures { IfOk result (λ read. Reads (part rule.Argument) (argument read) self.old self.new) }
+    {
+        let attributes = self.extended_attributes()?;
+        if self.is_ahead(Terminal::Optional) {
+            self.optional_argument(attributes)
+        } else {
+            self.other_argument(attributes)
+        }
+    }
+
+    /// An argument from the word `optional` on.
+    fn optional_argument(&mut self, attributes: ExtendedAttributes) -> Result<Argument, AllocError>
+        ensures { IfOk result (λ read. (start : List Lexeme) → Reads (part rule.ExtendedAttributeList) (extended_attributes attributes) start self.old → terminal_ahead self.old ≡ terminal.Optional → Reads (part rule.Argument) (argument read) start self.new) }
+    {
+        let _optional = self.take();
+        let ty = self.annotated_type()?;
+        let name = self.name()?;
+        let kind = ArgumentKind::Optional(self.default_value()?);
+        Ok(Argument {
+            attributes,
+            kind,
+            ty,
+            name,
+        })
+    }
+
+    /// An argument from its type on.
+    fn other_argument(&mut self, attributes: ExtendedAttributes) -> Result<Argument, AllocError>
+        ensures { IfOk result (λ read. (start : List Lexeme) → Reads (part rule.ExtendedAttributeList) (extended_attributes attributes) start self.old → terminal_ahead self.old ≢ terminal.Optional → Reads (part rule.Argument) (argument read) start self.new) }
+    {
+        let ty = self.unannotated_type()?;
+        let kind = self.ellipsis();
+        let name = self.name()?;
+        Ok(Argument {
+            attributes,
+            kind,
+            ty,
+            name,
+        })
+    }
+
+    /// Whether an ellipsis stands here, between a type and a name.
+    fn ellipsis(&mut self) -> ArgumentKind
+        ensures { (start end : List Lexeme) (before behind : Symbols) (ty name : List Sign) → Reads before ty start self.old → Reads behind name self.new end → Reads (before ++ (part rule.Ellipsis ++ behind)) (argument_rest result ty name) start end }
+    {
+        match self.take_if(Terminal::Ellipsis) {
+            Some(at) => ArgumentKind::Variadic(at),
+            None => ArgumentKind::Required,
+        }
+    }
+}

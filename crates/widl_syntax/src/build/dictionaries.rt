@@ -1,0 +1,169 @@
+//! Dictionaries and enumerations.
+
+ghost use Rattle.std.specs.Prelude.{◌≡◌, ◌≢◌, ◌++◌, IfOk, List, true, false};
+ghost use Rattle.widl_grammar.specs.declared.rule.Rule.TheVariants as rule;
+ghost use Rattle.widl_grammar.specs.declared.terminal.Terminal.TheVariants as terminal;
+ghost use Rattle.widl_idl.specs.declared.tree.enumerations.EnumerationValue.{EnumerationValue};
+ghost use Rattle.widl_syntax.specs.Reading.{Reads, part, token, terminal_ahead};
+ghost use Rattle.widl_syntax.specs.Signs.{all_signs, behind, ◌⧺◌};
+ghost use Rattle.widl_syntax.specs.SpelledDefinitions.{dictionary, dictionary_member, dictionary_member_rest, enumeration, enumeration_value};
+ghost use Rattle.widl_syntax.specs.SpelledNames.{word_if};
+
+use super::Reader;
+use std::alloc::AllocError;
+use widl_grammar::Terminal;
+use widl_idl::tree::{
+    Dictionary, DictionaryMember, DictionaryMembers, Enumeration, EnumerationValue,
+    EnumerationValues, ExtendedAttributes,
+};
+
+impl<'t, 's> Reader<'t, 's> {
+    pub fn dictionary(&mut self) -> Result<Dictionary, AllocError>
+        ensures partial { IfOk result (λ read. read.partial ≡ false) }
+        ensures reads { IfOk result (λ read. Reads (part rule.Dictionary) (dictionary read) self.old self.new) }
+    {
+        let _word = self.take();
+        let name = self.name()?;
+        let parent = self.parent()?;
+        let _open = self.take();
+        let members = self.dictionary_members()?;
+        let _close = self.take();
+        let _semicolon = self.take();
+        Ok(Dictionary {
+            partial: false,
+            name,
+            parent,
+            members,
+        })
+    }
+
+    /// A part of a dictionary from the word `dictionary` on.
+    pub fn partial_dictionary(&mut self) -> Result<Dictionary, AllocError>
+        ensures partial { IfOk result (λ read. read.partial ≡ true) }
+        ensures reads { IfOk result (λ read. Reads (token terminal.Dictionary ++ token terminal.Identifier ++ token terminal.OpenBrace ++ part rule.DictionaryMembers ++ token terminal.CloseBrace ++ token terminal.Semicolon) (dictionary read) self.old self.new) }
+    {
+        let _word = self.take();
+        let name = self.name()?;
+        let _open = self.take();
+        let members = self.dictionary_members()?;
+        let _close = self.take();
+        let _semicolon = self.take();
+        Ok(Dictionary {
+            partial: true,
+            name,
+            parent: None,
+            members,
+        })
+    }
+
+    /// The members between two braces.
+    fn dictionary_members(&mut self) -> Result<DictionaryMembers, AllocError>
+        ensures { IfOk result (λ members. Reads (part rule.DictionaryMembers) (all_signs dictionary_member members) self.old self.new) }
+    {
+        let mut members = DictionaryMembers::new(self.alloc());
+        for _ in 0..self.left() {
+            if self.is_ahead(Terminal::CloseBrace) {
+                break;
+            }
+            members.push(self.dictionary_member()?)?;
+        }
+        Ok(members)
+    }
+
+    fn dictionary_member(&mut self) -> Result<DictionaryMember, AllocError>
+        ensures { IfOk result (λ read. Reads (part rule.DictionaryMember) (dictionary_member read) self.old self.new) }
+    {
+        let attributes = self.extended_attributes()?;
+        if self.is_ahead(Terminal::Required) {
+            self.required_member(attributes)
+        } else {
+            self.optional_member(attributes)
+        }
+    }
+
+    /// A member from the word `required` on.
+    fn required_member(
+        &mut self,
+        attributes: ExtendedAttributes,
+    ) -> Result<DictionaryMember, AllocError>
+        requires { terminal_ahead self.old ≡ terminal.Required }
+        ensures attributes { IfOk result (λ read. read.attributes ≡ attributes) }
+        ensures reads { IfOk result (λ read. Reads (part rule.DictionaryMemberRest) (dictionary_member_rest read) self.old self.new) }
+    {
+        let _word = self.take();
+        let ty = self.annotated_type()?;
+        let name = self.name()?;
+        let _semicolon = self.take();
+        Ok(DictionaryMember {
+            attributes,
+            required: true,
+            ty,
+            name,
+            default: None,
+        })
+    }
+
+    /// A member from its type on.
+    fn optional_member(
+        &mut self,
+        attributes: ExtendedAttributes,
+    ) -> Result<DictionaryMember, AllocError>
+        requires { terminal_ahead self.old ≢ terminal.Required }
+        ensures attributes { IfOk result (λ read. read.attributes ≡ attributes) }
+        ensures reads { IfOk result (λ read. Reads (part rule.DictionaryMemberRest) (dictionary_member_rest read) self.old self.new) }
+    {
+        let ty = self.unannotated_type()?;
+        let name = self.name()?;
+        let default = self.default_value()?;
+        let _semicolon = self.take();
+        Ok(DictionaryMember {
+            attributes,
+            required: false,
+            ty,
+            name,
+            default,
+        })
+    }
+
+    pub fn enumeration(&mut self) -> Result<Enumeration, AllocError>
+        ensures { IfOk result (λ read. Reads (part rule.Enum) (enumeration read) self.old self.new) }
+    {
+        let _word = self.take();
+        let name = self.name()?;
+        let _open = self.take();
+        let mut values = EnumerationValues::new(self.alloc());
+        values.push(self.enumeration_value()?)?;
+        let trailing_comma = self.more_values(&mut values)?;
+        let _close = self.take();
+        let _semicolon = self.take();
+        Ok(Enumeration {
+            name,
+            values,
+            trailing_comma,
+        })
+    }
+
+    /// Adds the values behind the first one, and tells whether a comma stands behind the last.
+    fn more_values(&mut self, values: &mut EnumerationValues) -> Result<bool, AllocError>
+        ensures { IfOk result (λ trailing_comma. (more : List EnumerationValue) × (values.new ≡ values.old ++ more) × Reads (part rule.EnumMore) (all_signs (behind terminal.Comma enumeration_value) more ⧺ word_if trailing_comma terminal.Comma) self.old self.new) }
+    {
+        for _ in 0..self.left() {
+            if self.take_if(Terminal::Comma).is_none() {
+                return Ok(false);
+            }
+            if !self.is_ahead(Terminal::String) {
+                return Ok(true);
+            }
+            values.push(self.enumeration_value()?)?;
+        }
+        Ok(false)
+    }
+
+    fn enumeration_value(&mut self) -> Result<EnumerationValue, AllocError>
+        ensures { IfOk result (λ value. Reads (token terminal.String) (enumeration_value value) self.old self.new) }
+    {
+        let text = self.quoted_text()?;
+        let at = self.take();
+        Ok(EnumerationValue { at, text })
+    }
+}

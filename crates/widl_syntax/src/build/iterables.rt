@@ -1,0 +1,121 @@
+//! Iterable, maplike and setlike declarations.
+
+ghost use Rattle.std.specs.Prelude.{◌≡◌, IfOk};
+ghost use Rattle.widl_grammar.specs.declared.rule.Rule.TheVariants as rule;
+ghost use Rattle.widl_syntax.specs.Reading.{Reads, part};
+ghost use Rattle.widl_syntax.specs.SpelledMembers.{iterable, async_iterable, async_words, maplike_rest, setlike_rest, optional_arguments};
+ghost use Rattle.widl_syntax.specs.SpelledTypes.{second_type};
+
+use super::Reader;
+use std::alloc::AllocError;
+use widl_grammar::Terminal;
+use widl_idl::tree::{
+    AnnotatedType, Arguments, AsyncIterable, AsyncWord, Iterable, Maplike, Setlike,
+};
+
+impl<'t, 's> Reader<'t, 's> {
+    /// A second type behind a comma, if there is one.
+    fn second_type(&mut self) -> Result<Option<AnnotatedType>, AllocError>
+        ensures { IfOk result (λ ty. Reads (part rule.SecondType) (second_type ty) self.old self.new) }
+    {
+        if self.take_if(Terminal::Comma).is_none() {
+            return Ok(None);
+        }
+        Ok(Some(self.annotated_type()?))
+    }
+
+    /// Arguments between parentheses, if a parenthesis stands here.
+    fn arguments_if(&mut self) -> Result<Option<Arguments>, AllocError>
+        ensures { IfOk result (λ arguments. Reads (part rule.AsyncArguments) (optional_arguments arguments) self.old self.new) }
+    {
+        if self.is_ahead(Terminal::OpenParen) {
+            return Ok(Some(self.arguments()?));
+        }
+        Ok(None)
+    }
+
+    pub fn iterable(&mut self) -> Result<Iterable, AllocError>
+        ensures { IfOk result (λ read. Reads (part rule.Iterable) (iterable read) self.old self.new) }
+    {
+        let at = self.take();
+        let _less = self.take();
+        let first = self.annotated_type()?;
+        let second = self.second_type()?;
+        let _greater = self.take();
+        let _semicolon = self.take();
+        Ok(Iterable { at, first, second })
+    }
+
+    fn async_word(&mut self) -> AsyncWord
+        ensures { Reads (part rule.AsyncWord) (async_words result) self.old self.new }
+    {
+        match self.ahead() {
+            Terminal::AsyncIterable => {
+                let _word = self.take();
+                AsyncWord::OneWord
+            }
+            _ => {
+                let _async = self.take();
+                let _iterable = self.take();
+                AsyncWord::TwoWords
+            }
+        }
+    }
+
+    pub fn async_iterable(&mut self) -> Result<AsyncIterable, AllocError>
+        ensures { IfOk result (λ read. Reads (part rule.AsyncIterable) (async_iterable read) self.old self.new) }
+    {
+        let at = self.at();
+        let word = self.async_word();
+        let _less = self.take();
+        let first = self.annotated_type()?;
+        let second = self.second_type()?;
+        let _greater = self.take();
+        let arguments = self.arguments_if()?;
+        let _semicolon = self.take();
+        Ok(AsyncIterable {
+            at,
+            word,
+            first,
+            second,
+            arguments,
+        })
+    }
+
+    /// A maplike declaration from its word on.
+    pub fn maplike(&mut self, readonly: bool) -> Result<Maplike, AllocError>
+        ensures readonly { IfOk result (λ read. read.readonly ≡ readonly) }
+        ensures reads { IfOk result (λ read. Reads (part rule.Maplike) (maplike_rest read) self.old self.new) }
+    {
+        let at = self.take();
+        let _less = self.take();
+        let key = self.annotated_type()?;
+        let _comma = self.take();
+        let value = self.annotated_type()?;
+        let _greater = self.take();
+        let _semicolon = self.take();
+        Ok(Maplike {
+            at,
+            readonly,
+            key,
+            value,
+        })
+    }
+
+    /// A setlike declaration from its word on.
+    pub fn setlike(&mut self, readonly: bool) -> Result<Setlike, AllocError>
+        ensures readonly { IfOk result (λ read. read.readonly ≡ readonly) }
+        ensures reads { IfOk result (λ read. Reads (part rule.Setlike) (setlike_rest read) self.old self.new) }
+    {
+        let at = self.take();
+        let _less = self.take();
+        let value = self.annotated_type()?;
+        let _greater = self.take();
+        let _semicolon = self.take();
+        Ok(Setlike {
+            at,
+            readonly,
+            value,
+        })
+    }
+}
