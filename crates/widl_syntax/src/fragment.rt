@@ -18,6 +18,10 @@ use widl_lex::Tokens;
 /// The tree of a file ([Web IDL, IDL grammar](https://webidl.spec.whatwg.org/#idl-grammar)). The time is
 /// linear in the number of tokens.
 ///
+/// The tree spells the file: the signs that it stands for, one case for each alternative of the grammar,
+/// are the file's tokens in order, with their texts where the tree has texts and their places where it
+/// has places. Its number is the file's, and its count of tokens theirs.
+///
 /// `Ok` exactly for a sentence of the grammar without a type of level 17. Otherwise the lower of the
 /// file's two places: [`SyntaxFault::Syntax`] at the first token up to and including which no sentence
 /// begins, or at the file's length where the file ends too early; [`SyntaxFault::TooDeep`] at the first

@@ -51,6 +51,7 @@ impl<'t, 's> Reader<'t, 's> {
         Ok(())
     }
 
+    /// An argument with the extended attributes before it.
     fn argument(&mut self) -> Result<Argument, AllocError>
         ensures { IfOk result (λ read. Reads (part rule.Argument) (argument read) self.old self.new) }
     {

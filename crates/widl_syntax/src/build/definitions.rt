@@ -31,6 +31,7 @@ impl<'t, 's> Reader<'t, 's> {
         Ok(definitions)
     }
 
+    /// A definition with the extended attributes before it.
     fn definition(&mut self) -> Result<Definition, AllocError>
         ensures { IfOk result (λ read. Reads (part rule.ExtendedAttributeList ++ part rule.Definition) (definition read) self.old self.new) }
     {
@@ -39,6 +40,7 @@ impl<'t, 's> Reader<'t, 's> {
         Ok(Definition { attributes, kind })
     }
 
+    /// A definition behind its extended attributes.
     fn definition_kind(&mut self) -> Result<DefinitionKind, AllocError>
         ensures { IfOk result (λ kind. Reads (part rule.Definition) (definition_kind kind) self.old self.new) }
     {
@@ -142,6 +144,7 @@ impl<'t, 's> Reader<'t, 's> {
         })
     }
 
+    /// A namespace from its word on.
     fn namespace(&mut self, partial: bool) -> Result<Namespace, AllocError>
         ensures partial { IfOk result (λ read. read.partial ≡ partial) }
         ensures reads { IfOk result (λ read. Reads (part rule.Namespace) (namespace read) self.old self.new) }
@@ -210,6 +213,7 @@ impl<'t, 's> Reader<'t, 's> {
         })
     }
 
+    /// A typedef.
     fn typedef(&mut self) -> Result<Typedef, AllocError>
         ensures { IfOk result (λ read. Reads (part rule.Typedef) (typedef read) self.old self.new) }
     {
@@ -220,6 +224,7 @@ impl<'t, 's> Reader<'t, 's> {
         Ok(Typedef { ty, name })
     }
 
+    /// An includes statement.
     fn includes(&mut self) -> Result<Includes, AllocError>
         ensures { IfOk result (λ read. Reads (part rule.Includes) (includes read) self.old self.new) }
     {

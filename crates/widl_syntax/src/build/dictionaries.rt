@@ -18,6 +18,7 @@ use widl_idl::tree::{
 };
 
 impl<'t, 's> Reader<'t, 's> {
+    /// A dictionary.
     pub fn dictionary(&mut self) -> Result<Dictionary, AllocError>
         ensures partial { IfOk result (λ read. read.partial ≡ false) }
         ensures reads { IfOk result (λ read. Reads (part rule.Dictionary) (dictionary read) self.old self.new) }
@@ -70,6 +71,7 @@ impl<'t, 's> Reader<'t, 's> {
         Ok(members)
     }
 
+    /// A member of a dictionary.
     fn dictionary_member(&mut self) -> Result<DictionaryMember, AllocError>
         ensures { IfOk result (λ read. Reads (part rule.DictionaryMember) (dictionary_member read) self.old self.new) }
     {
@@ -125,6 +127,7 @@ impl<'t, 's> Reader<'t, 's> {
         })
     }
 
+    /// An enumeration.
     pub fn enumeration(&mut self) -> Result<Enumeration, AllocError>
         ensures { IfOk result (λ read. Reads (part rule.Enum) (enumeration read) self.old self.new) }
     {
@@ -159,6 +162,7 @@ impl<'t, 's> Reader<'t, 's> {
         Ok(false)
     }
 
+    /// A value of an enumeration.
     fn enumeration_value(&mut self) -> Result<EnumerationValue, AllocError>
         ensures { IfOk result (λ value. Reads (token terminal.String) (enumeration_value value) self.old self.new) }
     {

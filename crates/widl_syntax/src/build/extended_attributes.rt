@@ -46,6 +46,7 @@ impl<'t, 's> Reader<'t, 's> {
         Ok(())
     }
 
+    /// An extended attribute.
     fn extended_attribute(&mut self) -> Result<ExtendedAttribute, AllocError>
         ensures reads { IfOk result (λ attribute. Reads (part rule.ExtendedAttribute) (extended_attribute attribute) self.old self.new) }
         ensures shorter { IfOk result (λ _. length self.new ≤ length self.old) }

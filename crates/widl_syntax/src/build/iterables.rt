@@ -34,6 +34,7 @@ impl<'t, 's> Reader<'t, 's> {
         Ok(None)
     }
 
+    /// An iterable declaration.
     pub fn iterable(&mut self) -> Result<Iterable, AllocError>
         ensures { IfOk result (λ read. Reads (part rule.Iterable) (iterable read) self.old self.new) }
     {
@@ -46,6 +47,7 @@ impl<'t, 's> Reader<'t, 's> {
         Ok(Iterable { at, first, second })
     }
 
+    /// The word or the two words that such a declaration begins with.
     fn async_word(&mut self) -> AsyncWord
         ensures { Reads (part rule.AsyncWord) (async_words result) self.old self.new }
     {
@@ -62,6 +64,7 @@ impl<'t, 's> Reader<'t, 's> {
         }
     }
 
+    /// An asynchronously iterable declaration.
     pub fn async_iterable(&mut self) -> Result<AsyncIterable, AllocError>
         ensures { IfOk result (λ read. Reads (part rule.AsyncIterable) (async_iterable read) self.old self.new) }
     {

@@ -42,6 +42,7 @@ impl<'t, 's> Reader<'t, 's> {
         Ok(members)
     }
 
+    /// A member with the extended attributes before it.
     fn member(&mut self, list: MemberList) -> Result<Member, AllocError>
         ensures { IfOk result (λ read. Reads (part rule.ExtendedAttributeList ++ part (member_rule list)) (member read) self.old self.new) }
     {
@@ -131,6 +132,7 @@ impl<'t, 's> Reader<'t, 's> {
         }
     }
 
+    /// A constant.
     fn constant(&mut self) -> Result<Constant, AllocError>
         ensures { IfOk result (λ read. Reads (part rule.Const) (constant read) self.old self.new) }
     {
@@ -148,6 +150,7 @@ impl<'t, 's> Reader<'t, 's> {
         })
     }
 
+    /// A constructor.
     fn constructor(&mut self) -> Result<Constructor, AllocError>
         ensures { IfOk result (λ read. Reads (part rule.Constructor) (constructor read) self.old self.new) }
     {
@@ -179,6 +182,7 @@ impl<'t, 's> Reader<'t, 's> {
         }
     }
 
+    /// A member from the word `static` on.
     fn static_member(&mut self) -> Result<MemberKind, AllocError>
         ensures { IfOk result (λ kind. Reads (part rule.Static) (member_kind kind) self.old self.new) }
     {
@@ -221,6 +225,7 @@ impl<'t, 's> Reader<'t, 's> {
         Ok(MemberKind::Attribute(attribute))
     }
 
+    /// A regular attribute without the word `readonly`.
     fn regular_attribute(&mut self) -> Result<MemberKind, AllocError>
         ensures { IfOk result (λ kind. Reads (part rule.Attribute) (member_kind kind) self.old self.new) }
     {
@@ -228,6 +233,7 @@ impl<'t, 's> Reader<'t, 's> {
         Ok(MemberKind::Attribute(attribute))
     }
 
+    /// An attribute from the word `inherit` on.
     fn inherited_attribute(&mut self) -> Result<MemberKind, AllocError>
         ensures { IfOk result (λ kind. Reads (token terminal.Inherit ++ part rule.Attribute) (member_kind kind) self.old self.new) }
     {
@@ -264,6 +270,7 @@ impl<'t, 's> Reader<'t, 's> {
         Ok(MemberKind::Operation(operation))
     }
 
+    /// An operation without a word before it.
     fn regular_operation(&mut self) -> Result<MemberKind, AllocError>
         ensures { IfOk result (λ kind. Reads (part rule.Operation) (member_kind kind) self.old self.new) }
     {
