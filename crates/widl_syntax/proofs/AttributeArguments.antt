@@ -1,5 +1,5 @@
 -- The tokens of an extended attribute behind its name, which the machine of the grammar reads.
-use Rattle.std.proofs.Common.{◌≡◌, ℕ, ◌+◌, ◌<◌, ◌≤◌, Bool, true, false, Option, None, List, [], ◌∷◌, ◌++◌, length, refl, sym, subst, arith, string_bytes}
+use Rattle.std.proofs.Common.{◌≡◌, ℕ, ◌+◌, ◌<◌, ◌≤◌, Bool, true, false, Option, None, List, [], ◌∷◌, ◌++◌, length, refl, sym, ◌∙◌, ap, subst, arith, string_bytes}
 use Rattle.std.specs.Prelude.{map}
 use Rattle.widl_idl.specs.declared.tree.extended_attributes.SourceToken.{SourceToken}
 use Rattle.widl_lex.specs.Tokens.{Lexeme}
@@ -12,12 +12,33 @@ use Rattle.widl_grammar.specs.declared.terminal.Terminal.{Terminal}
 use Rattle.widl_grammar.specs.Rows.{grammar}
 use Rattle.widl_grammar.specs.Tables.{sets}
 use Rattle.widl_grammar.specs.Source.{terminal_of}
-use Rattle.widl_syntax.specs.Signs.{Spells, all_signs}
-use Rattle.widl_syntax.specs.SpelledNames.{source_token}
+use Rattle.widl_syntax.specs.Signs.{Sign, Spells, AreTexts, OfText, all_signs, at, ◌⧺◌}
+use Rattle.widl_syntax.specs.SpelledNames.{text_of, attribute_rest}
 use Rattle.widl_syntax.specs.Reading.{Symbols, Runs, Reads, part, IfAhead, IsTaken}
 use Rattle.widl_syntax.proofs.Reading.{spells_append, took_text}
 use Rattle.widl_syntax.proofs.Words.{taken_shorter}
 use Rattle.widl_syntax.proofs.Lists.{fewer_left, all_signs_more}
+
+-- the signs of a token that was taken as it stands
+abbrev source_token : SourceToken → List Sign
+source_token t = at t.at ⧺ OfText (string_bytes t.text) ∷ []
+
+same_rest : (l m : Lexeme) (rest u w n : List Lexeme) → w ≡ l ∷ rest → n ≡ w → n ≡ m ∷ u → (l ≡ m) × (rest ≡ u)
+same_rest l m rest u w n e f g = (cc, cc)
+
+as_texts : (ts : List SourceToken) (w v : List Lexeme) → Spells (all_signs source_token ts) w v → AreTexts (map text_of ts) w v
+as_texts [] w v s = s
+as_texts (t ∷ ts) w v s =
+    let place = s.1 in
+    let token = s.2.1 in
+    let same = same_rest place.0 token.0 place.1 s.2.0 w s.0 place.2 place.4 token.1 in
+    (token.0, s.2.0, sym place.4 ∙ token.1, ap (λ l. l.at) (sym same.0) ∙ place.3, token.2, as_texts ts s.2.0 v s.2.2)
+
+-- they are the whole part of the rule
+as_part : (tokens : List SourceToken) (start now : List Lexeme) → Reads (part rule.ExtendedAttributeRest) (all_signs source_token tokens) start now → Reads (part rule.ExtendedAttributeRest) (attribute_rest tokens) start now
+as_part tokens start now f = record {
+  reads = λ others r. let g = f.reads others r in ((now, (as_texts tokens start now g.0, λ behind run. (f.reads behind run).1), refl), g.1);
+}
 
 -- the tokens so far stand between two tokens of the file, the stack is what is still to be read from the second on, and each turn took a token
 pub record InMachine (start now : List Lexeme) (tokens : List SourceToken) (stack : Symbols) (turns : ℕ) : Type 0 where
@@ -48,11 +69,11 @@ machine_goes_on {start} {now} {next} {tokens} {stack} {after} {turns} l true tok
 }
 
 -- nothing is left on the stack
-pub machine_over : {start now : List Lexeme} {tokens : List SourceToken} {stack : Symbols} {turns : ℕ} (after : Symbols) (ahead_is : Option Terminal) (goes : Bool) → InMachine start now tokens stack turns → ahead_is ≡ ahead (map terminal_of now) → Takes grammar sets ahead_is stack after goes → goes ≡ false → Reads (part rule.ExtendedAttributeRest) (all_signs source_token tokens) start now
+pub machine_over : {start now : List Lexeme} {tokens : List SourceToken} {stack : Symbols} {turns : ℕ} (after : Symbols) (ahead_is : Option Terminal) (goes : Bool) → InMachine start now tokens stack turns → ahead_is ≡ ahead (map terminal_of now) → Takes grammar sets ahead_is stack after goes → goes ≡ false → Reads (part rule.ExtendedAttributeRest) (attribute_rest tokens) start now
 machine_over after l true m is takes e = cc
-machine_over {start} {now} after l false m is takes e = record {
+machine_over {start} {now} {tokens} after l false m is takes e = as_part tokens start now (record {
   reads = λ others r. let g = m.so_far others r in (g.0, takes others (map terminal_of now) (sym is) g.1);
-}
+})
 
 -- the tokens have come to their end
 none_left : (now : List Lexeme) (turns all : ℕ) → turns + length now ≤ all → all ≤ turns → now ≡ []
@@ -63,10 +84,10 @@ takes_none : (stack after others : Symbols) (goes : Bool) → Takes grammar sets
 takes_none stack after others false takes r = takes others [] refl r
 takes_none stack after others true takes r = let k = takes others [] refl r in let bad : [] ≡ k.0 ∷ k.1 = k.2 in cc
 
-pub machine_used_up : {start now : List Lexeme} {tokens : List SourceToken} {stack : Symbols} {turns : ℕ} (after : Symbols) (goes : Bool) → InMachine start now tokens stack turns → Takes grammar sets None stack after goes → length start ≤ turns → Reads (part rule.ExtendedAttributeRest) (all_signs source_token tokens) start now
-machine_used_up {start} {now} {tokens} {stack} {turns} after goes m takes used = record {
+pub machine_used_up : {start now : List Lexeme} {tokens : List SourceToken} {stack : Symbols} {turns : ℕ} (after : Symbols) (goes : Bool) → InMachine start now tokens stack turns → Takes grammar sets None stack after goes → length start ≤ turns → Reads (part rule.ExtendedAttributeRest) (attribute_rest tokens) start now
+machine_used_up {start} {now} {tokens} {stack} {turns} after goes m takes used = as_part tokens start now (record {
   reads = λ others r.
       let g = m.so_far others r in
       let none = none_left now turns (length start) g.2 used in
       (g.0, subst (λ w. Runs others w) (sym none) (takes_none stack after others goes takes (subst (λ w. Runs (stack ++ others) w) none g.1)));
-}
+})

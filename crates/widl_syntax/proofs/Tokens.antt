@@ -9,13 +9,13 @@ use Rattle.widl_idl.specs.declared.tree.members.MemberKind.{MemberKind}
 use Rattle.widl_idl.specs.declared.tree.members.MemberKind.TheVariants as member_kinds
 use Rattle.widl_grammar.specs.declared.terminal.Terminal.TheVariants as t
 use Rattle.widl_syntax.specs.SpelledNames.{word_if, optional_name, extended_attributes}
-use Rattle.widl_syntax.specs.SpelledTypes.{written_type, annotated_type}
+use Rattle.widl_syntax.specs.SpelledTypes.{written_type}
 use Rattle.widl_syntax.specs.SpelledMembers.{member, member_kind, attribute_word, operation_word, async_words}
-use Rattle.widl_syntax.specs.SpelledDefinitions.{definition, definition_kind, dictionary_member}
+use Rattle.widl_syntax.specs.SpelledDefinitions.{definition, definition_kind, dictionary_member, member_type}
 use Rattle.widl_syntax.proofs.Lists.{has_token, token_in_rest}
 
 pub dictionary_member_has_token : (m : DictionaryMember) → has_token (dictionary_member m) ≡ true
-dictionary_member_has_token m = token_in_rest (extended_attributes m.attributes) _ (token_in_rest (word_if m.required t.Required) _ (token_in_rest (annotated_type m.ty) _ refl))
+dictionary_member_has_token m = token_in_rest (extended_attributes m.attributes) _ (token_in_rest (member_type m.required m.ty) _ refl)
 
 member_kind_has_token : (kind : MemberKind) → has_token (member_kind kind) ≡ true
 member_kind_has_token (member_kinds.Constant c) = refl

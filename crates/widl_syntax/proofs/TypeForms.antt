@@ -1,5 +1,5 @@
 -- The terms of types, level by level.
-use Rattle.std.proofs.Common.{◌≡◌, Box, Global, List, Option, ap, ◌∙◌, map, rules}
+use Rattle.std.proofs.Common.{◌≡◌, [], Box, Global, List, Option, ap, ◌∙◌, map, rules}
 use Rattle.widl_text.specs.declared.place.Place.{Place}
 use Rattle.widl_idl.specs.declared.int_kind.IntKind.{IntKind}
 use Rattle.widl_idl.specs.declared.text_kind.TextKind.{TextKind}
@@ -16,7 +16,7 @@ use Rattle.widl_idl.specs.TypeTrees.{FormTree, AnyForm, BooleanForm, BigIntForm,
 use Rattle.widl_idl.specs.Written.{members_in}
 use Rattle.widl_syntax.specs.Signs.{at, ◌⧺◌}
 use Rattle.widl_syntax.specs.SpelledNames.{extended_attributes}
-use Rattle.widl_syntax.specs.SpelledTypes.{form_signs, type_signs, annotated_signs, question_mark, written_type, annotated_type}
+use Rattle.widl_syntax.specs.SpelledTypes.{form_signs, type_signs, annotated_signs, question_mark, written_type, annotated_type, bare_signs, bare_type}
 
 pub form-Any : form_of form.Any ≡ AnyForm
 form-Any = search (rules, the_lemmas)
@@ -63,6 +63,9 @@ type-WrittenType place f tree question e = ap type_signs (tree-WrittenType place
 
 pub type-AnnotatedType : (place : Place) (attributes : List ExtendedAttribute) (ty : WrittenType) → annotated_type (roll-AnnotatedType (record { at = place; attributes = attributes; ty = ty })) ≡ at place ⧺ extended_attributes attributes ⧺ written_type ty
 type-AnnotatedType place attributes ty = ap annotated_signs (tree-AnnotatedType place attributes ty)
+
+pub type-bare : (place : Place) (attributes : List ExtendedAttribute) (ty : WrittenType) → attributes ≡ [] → bare_type (roll-AnnotatedType (record { at = place; attributes = attributes; ty = ty })) ≡ at place ⧺ written_type ty
+type-bare place attributes ty none = ap bare_signs (tree-AnnotatedType place attributes ty) ∙ ap (λ all. bare_signs (annotated_tree place all (tree_of_type ty))) none
 
 -- the signs of a type begin at its place
 pub type-at : (ty : WrittenType) → written_type ty ≡ at ty.at ⧺ form_signs (form_of ty.form) ⧺ question_mark ty.question

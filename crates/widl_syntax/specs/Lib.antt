@@ -1,3 +1,4 @@
+pub mod Deriving
 pub mod Signs
 pub mod SpelledNames
 pub mod SpelledTypes

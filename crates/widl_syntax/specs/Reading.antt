@@ -1,31 +1,15 @@
 -- What a part of the grammar reads of a file's tokens.
-use Rattle.std.specs.Prelude.{◌≡◌, ◌≢◌, drop, List, [], ◌∷◌, ◌++◌, map}
+use Rattle.std.specs.Prelude.{◌≡◌, ◌≢◌, drop, List, [], ◌∷◌, ◌++◌}
 use Rattle.widl_text.specs.declared.place.Place.{Place}
 use Rattle.widl_idl.specs.declared.tree.names.Name.{Name}
 use Rattle.widl_lex.specs.Tokens.{Lexeme}
-use Rattle.widl_predictive.specs.Derivation.{Symbol, Terminal as Token, Nonterminal}
-use Rattle.widl_predictive.specs.Runs as runs
 use Rattle.widl_grammar.specs.declared.rule.Rule.{Rule}
 use Rattle.widl_grammar.specs.declared.terminal.Terminal.{Terminal}
 use Rattle.widl_grammar.specs.declared.terminal.Terminal.TheVariants.{Other}
-use Rattle.widl_grammar.specs.Rows.{grammar}
-use Rattle.widl_grammar.specs.Tables.{sets}
 use Rattle.widl_grammar.specs.Source.{terminal_of}
+pub use Rattle.widl_syntax.specs.Deriving.{Symbols, token, part, Runs}
 use Rattle.widl_syntax.specs.SpelledNames.{name_bytes}
 use Rattle.widl_syntax.specs.Signs.{Sign, Spells, all_signs}
-
-abbrev pub Symbols : Type 0
-Symbols = List (Symbol Terminal Rule)
-
-abbrev pub token : Terminal → Symbols
-token t = Token t ∷ []
-
-abbrev pub part : Rule → Symbols
-part rule = Nonterminal rule ∷ []
-
--- the tokens are what the symbols derive, by the rows that the token ahead picks
-abbrev pub Runs : Symbols → List Lexeme → Type 0
-Runs symbols tokens = runs.Runs grammar sets symbols (map terminal_of tokens)
 
 -- where the tokens are what the symbols derive before any others, the signs stand for those of the symbols, and `to` is what the others derive
 pub record Reads (symbols : Symbols) (signs : List Sign) (from to : List Lexeme) : Type 0 where

@@ -2,15 +2,32 @@
 use Rattle.std.specs.Prelude.{◌≡◌, ℕ, List, [], ◌∷◌, ◌++◌}
 use Rattle.widl_text.specs.declared.place.Place.{Place}
 use Rattle.widl_lex.specs.Tokens.{Lexeme}
+use Rattle.widl_grammar.specs.declared.rule.Rule.{Rule}
 use Rattle.widl_grammar.specs.declared.terminal.Terminal.{Terminal}
 use Rattle.widl_grammar.specs.Source.{terminal_of}
+use Rattle.widl_syntax.specs.Deriving.{Symbols, Runs, part}
 
--- a sign of a token: the next token stands at the place (which is no token of its own); a token of the terminal; one of the terminal with these bytes; one with these bytes
+-- a token by its place and its bytes
+pub record Text : Type 0 where
+  pub at : Place
+  pub bytes : List ℕ
+
+-- a sign of tokens: the next token stands at the place (which is no token of its own); a token of the terminal; one of the terminal with these bytes; one with these bytes; all tokens of a part of the grammar
 pub data Sign : Type 0 where
   AtPlace : Place → Sign
   OfTerminal : Terminal → Sign
   OfBytes : Terminal → List ℕ → Sign
   OfText : List ℕ → Sign
+  OfPart : Rule → List Text → Sign
+
+-- the texts are the tokens between two of a file
+abbrev pub AreTexts : List Text → List Lexeme → List Lexeme → Type 0
+AreTexts [] from to = from ≡ to
+AreTexts (t ∷ more) from to = (l : Lexeme) × (rest : List Lexeme) × (from ≡ l ∷ rest) × (l.at ≡ t.at) × (l.text ≡ t.bytes) × AreTexts more rest to
+
+-- the rule's part ends at `to`: whatever may follow the rule goes on there
+abbrev pub EndsAt : Rule → List Lexeme → List Lexeme → Type 0
+EndsAt rule from to = (others : Symbols) → Runs (part rule ++ others) from → Runs others to
 
 -- the sign stands for the tokens between two of a file
 abbrev pub Stands : Sign → List Lexeme → List Lexeme → Type 0
@@ -18,6 +35,7 @@ Stands (AtPlace place) from to = (l : Lexeme) × (rest : List Lexeme) × (from �
 Stands (OfTerminal t) from to = (l : Lexeme) × (from ≡ l ∷ to) × (terminal_of l ≡ t)
 Stands (OfBytes t bytes) from to = (l : Lexeme) × (from ≡ l ∷ to) × (terminal_of l ≡ t) × (l.text ≡ bytes)
 Stands (OfText bytes) from to = (l : Lexeme) × (from ≡ l ∷ to) × (l.text ≡ bytes)
+Stands (OfPart rule texts) from to = AreTexts texts from to × EndsAt rule from to
 
 -- the signs in order stand for the tokens between two of a file
 abbrev pub Spells : List Sign → List Lexeme → List Lexeme → Type 0

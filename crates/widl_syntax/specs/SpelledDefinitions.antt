@@ -1,5 +1,5 @@
 -- The signs of definitions and of files.
-use Rattle.std.specs.Prelude.{Bool, false, Option, None, Some, List, [], ◌∷◌, string_bytes}
+use Rattle.std.specs.Prelude.{true, Bool, false, Option, None, Some, List, [], ◌∷◌, string_bytes}
 use Rattle.widl_idl.specs.declared.tree.callbacks.Callback.{Callback}
 use Rattle.widl_idl.specs.declared.tree.callbacks.CallbackInterface.{CallbackInterface}
 use Rattle.widl_idl.specs.declared.tree.definitions.Definition.{Definition}
@@ -16,10 +16,11 @@ use Rattle.widl_idl.specs.declared.tree.interfaces.Mixin.{Mixin}
 use Rattle.widl_idl.specs.declared.tree.interfaces.Namespace.{Namespace}
 use Rattle.widl_idl.specs.declared.tree.names.Name.{Name}
 use Rattle.widl_idl.specs.declared.tree.typedefs.Typedef.{Typedef}
+use Rattle.widl_idl.specs.declared.tree.types.AnnotatedType.{AnnotatedType}
 use Rattle.widl_grammar.specs.declared.terminal.Terminal.TheVariants as t
 use Rattle.widl_syntax.specs.Signs.{Sign, OfBytes, at, word, all_signs, separated, ◌⧺◌}
 use Rattle.widl_syntax.specs.SpelledNames.{identifier, word_if, extended_attributes, default_value, quoted_bytes}
-use Rattle.widl_syntax.specs.SpelledTypes.{written_type, annotated_type}
+use Rattle.widl_syntax.specs.SpelledTypes.{written_type, annotated_type, bare_type}
 use Rattle.widl_syntax.specs.SpelledMembers.{in_parentheses, member}
 
 abbrev pub parent : Option Name → List Sign
@@ -48,9 +49,14 @@ mixin_rest m = word t.Mixin ⧺ identifier m.name ⧺ body (all_signs member m.m
 abbrev pub namespace : Namespace → List Sign
 namespace n = word t.Namespace ⧺ identifier n.name ⧺ body (all_signs member n.members)
 
+-- the type of a dictionary's member, which has extended attributes of its own only where the member is required
+abbrev pub member_type : Bool → AnnotatedType → List Sign
+member_type true ty = word t.Required ⧺ annotated_type ty
+member_type false ty = bare_type ty
+
 -- a dictionary's member behind its extended attributes
 abbrev pub dictionary_member_rest : DictionaryMember → List Sign
-dictionary_member_rest m = word_if m.required t.Required ⧺ annotated_type m.ty ⧺ identifier m.name ⧺ default_value m.default ⧺ word t.Semicolon
+dictionary_member_rest m = member_type m.required m.ty ⧺ identifier m.name ⧺ default_value m.default ⧺ word t.Semicolon
 
 abbrev pub dictionary_member : DictionaryMember → List Sign
 dictionary_member m = extended_attributes m.attributes ⧺ dictionary_member_rest m

@@ -22,21 +22,22 @@ use Rattle.widl_idl.specs.declared.tree.operations.Operation.{Operation}
 use Rattle.widl_idl.specs.declared.tree.operations.OperationKind.{OperationKind}
 use Rattle.widl_idl.specs.declared.tree.operations.OperationKind.TheVariants as operation_kind
 use Rattle.widl_idl.specs.declared.tree.operations.SpecialWord.{SpecialWord}
+use Rattle.widl_idl.specs.declared.tree.types.AnnotatedType.{AnnotatedType}
 use Rattle.widl_idl.specs.declared.tree.operations.SpecialWord.TheVariants.{Getter, Setter, Deleter}
 use Rattle.widl_grammar.specs.declared.terminal.Terminal.{Terminal}
 use Rattle.widl_grammar.specs.declared.terminal.Terminal.TheVariants as t
 use Rattle.widl_syntax.specs.Signs.{Sign, at, word, separated, ◌⧺◌}
 use Rattle.widl_syntax.specs.SpelledNames.{identifier, any_name, optional_name, word_if, extended_attributes, literal, default_value}
-use Rattle.widl_syntax.specs.SpelledTypes.{written_type, annotated_type, second_type}
+use Rattle.widl_syntax.specs.SpelledTypes.{written_type, annotated_type, bare_type, second_type}
 
 -- an argument behind its extended attributes
-abbrev pub argument_rest : ArgumentKind → List Sign → List Sign → List Sign
-argument_rest argument_kind.Required ty name = ty ⧺ name
-argument_rest (argument_kind.Optional default) ty name = word t.Optional ⧺ ty ⧺ name ⧺ default_value default
-argument_rest (argument_kind.Variadic place) ty name = ty ⧺ at place ⧺ word t.Ellipsis ⧺ name
+abbrev pub argument_rest : ArgumentKind → AnnotatedType → List Sign → List Sign
+argument_rest argument_kind.Required ty name = bare_type ty ⧺ name
+argument_rest (argument_kind.Optional default) ty name = word t.Optional ⧺ annotated_type ty ⧺ name ⧺ default_value default
+argument_rest (argument_kind.Variadic place) ty name = bare_type ty ⧺ at place ⧺ word t.Ellipsis ⧺ name
 
 abbrev pub argument : Argument → List Sign
-argument a = extended_attributes a.attributes ⧺ argument_rest a.kind (annotated_type a.ty) (any_name a.name)
+argument a = extended_attributes a.attributes ⧺ argument_rest a.kind a.ty (any_name a.name)
 
 abbrev pub in_parentheses : List Argument → List Sign
 in_parentheses all = word t.OpenParen ⧺ separated t.Comma argument all ⧺ word t.CloseParen

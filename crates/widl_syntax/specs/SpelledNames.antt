@@ -1,14 +1,15 @@
 -- The signs of names, extended attributes and literals.
-use Rattle.std.specs.Prelude.{ℕ, Bool, true, false, Option, None, Some, List, [], ◌∷◌, ◌++◌, if◌then◌else◌, string_bytes}
+use Rattle.std.specs.Prelude.{ℕ, Bool, true, false, Option, None, Some, List, [], ◌∷◌, ◌++◌, if◌then◌else◌, string_bytes, map}
 use Rattle.widl_idl.specs.declared.tree.extended_attributes.ExtendedAttribute.{ExtendedAttribute}
 use Rattle.widl_idl.specs.declared.tree.extended_attributes.SourceToken.{SourceToken}
 use Rattle.widl_idl.specs.declared.tree.literals.Literal.{Literal}
 use Rattle.widl_idl.specs.declared.tree.literals.LiteralValue.{LiteralValue}
 use Rattle.widl_idl.specs.declared.tree.literals.LiteralValue.TheVariants as value
 use Rattle.widl_idl.specs.declared.tree.names.Name.{Name}
+use Rattle.widl_grammar.specs.declared.rule.Rule.TheVariants.{ExtendedAttributeRest}
 use Rattle.widl_grammar.specs.declared.terminal.Terminal.{Terminal}
 use Rattle.widl_grammar.specs.declared.terminal.Terminal.TheVariants.{Identifier, Integer, Decimal, String, Equals, Comma, OpenBracket, CloseBracket, OpenBrace, CloseBrace, Null, Undefined, True, False, Infinity, MinusInfinity, Nan}
-use Rattle.widl_syntax.specs.Signs.{Sign, OfBytes, OfText, at, word, all_signs, separated, ◌⧺◌}
+use Rattle.widl_syntax.specs.Signs.{Sign, Text, OfBytes, OfText, OfPart, at, word, separated, ◌⧺◌}
 
 -- the bytes of a name, with the `_` before it
 abbrev pub name_bytes : Name → List ℕ
@@ -30,11 +31,15 @@ abbrev pub word_if : Bool → Terminal → List Sign
 word_if true t = word t
 word_if false t = []
 
-abbrev pub source_token : SourceToken → List Sign
-source_token t = at t.at ⧺ OfText (string_bytes t.text) ∷ []
+abbrev pub text_of : SourceToken → Text
+text_of t = record { at = t.at; bytes = string_bytes t.text }
+
+-- what stands behind the name of an extended attribute
+abbrev pub attribute_rest : List SourceToken → List Sign
+attribute_rest tokens = OfPart ExtendedAttributeRest (map text_of tokens) ∷ []
 
 abbrev pub extended_attribute : ExtendedAttribute → List Sign
-extended_attribute a = identifier a.name ⧺ all_signs source_token a.arguments
+extended_attribute a = identifier a.name ⧺ attribute_rest a.arguments
 
 -- extended attributes in brackets, and nothing where there are none
 abbrev pub extended_attributes : List ExtendedAttribute → List Sign

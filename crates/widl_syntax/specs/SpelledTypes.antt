@@ -1,5 +1,5 @@
 -- The signs of types.
-use Rattle.std.specs.Prelude.{Option, None, Some, List, []}
+use Rattle.std.specs.Prelude.{◌∷◌, Option, None, Some, List, []}
 use Rattle.widl_text.specs.declared.place.Place.{Place}
 use Rattle.widl_idl.specs.declared.int_kind.IntKind.{IntKind}
 use Rattle.widl_idl.specs.declared.int_kind.IntKind.TheVariants as int
@@ -106,6 +106,14 @@ written_type ty = type_signs (tree_of_type ty)
 
 abbrev pub annotated_type : AnnotatedType → List Sign
 annotated_type ty = annotated_signs (tree_of_annotated ty)
+
+-- a type where no extended attributes may stand: with some of its own it would be a token that no sentence has
+abbrev pub bare_signs : AnnotatedTree → List Sign
+bare_signs (annotated_tree place [] inner) = at place ⧺ type_signs inner
+bare_signs (annotated_tree place (a ∷ more) inner) = word t.Other
+
+abbrev pub bare_type : AnnotatedType → List Sign
+bare_type ty = bare_signs (tree_of_annotated ty)
 
 -- the members of a union
 abbrev pub union_signs : List AnnotatedType → List Sign

@@ -1,6 +1,7 @@
 //! Arguments.
 
 ghost use Rattle.std.specs.Prelude.{◌≡◌, ◌≢◌, ◌++◌, List, IfOk};
+ghost use Rattle.widl_idl.specs.declared.tree.types.AnnotatedType.{AnnotatedType as TypeOfTree};
 ghost use Rattle.widl_lex.specs.Tokens.{Lexeme};
 ghost use Rattle.widl_grammar.specs.declared.rule.Rule.TheVariants as rule;
 ghost use Rattle.widl_grammar.specs.declared.terminal.Terminal.TheVariants as terminal;
@@ -8,6 +9,7 @@ ghost use Rattle.widl_syntax.specs.Reading.{Symbols, Reads, Appends, part, token
 ghost use Rattle.widl_syntax.specs.Signs.{Sign, behind, separated};
 ghost use Rattle.widl_syntax.specs.SpelledMembers.{argument, argument_rest, in_parentheses};
 ghost use Rattle.widl_syntax.specs.SpelledNames.{extended_attributes};
+ghost use Rattle.widl_syntax.specs.SpelledTypes.{bare_type};
 
 use super::Reader;
 use std::alloc::AllocError;
@@ -96,7 +98,7 @@ impl<'t, 's> Reader<'t, 's> {
 
     /// Whether an ellipsis stands here, between a type and a name.
     fn ellipsis(&mut self) -> ArgumentKind
-        ensures { (start end : List Lexeme) (before behind : Symbols) (ty name : List Sign) → Reads before ty start self.old → Reads behind name self.new end → Reads (before ++ (part rule.Ellipsis ++ behind)) (argument_rest result ty name) start end }
+        ensures { (start end : List Lexeme) (before behind : Symbols) (ty : TypeOfTree) (name : List Sign) → Reads before (bare_type ty) start self.old → Reads behind name self.new end → Reads (before ++ (part rule.Ellipsis ++ behind)) (argument_rest result ty name) start end }
     {
         match self.take_if(Terminal::Ellipsis) {
             Some(at) => ArgumentKind::Variadic(at),

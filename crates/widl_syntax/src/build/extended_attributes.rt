@@ -4,8 +4,8 @@ ghost use Rattle.std.specs.Prelude.{◌≤◌, IfOk, length};
 ghost use Rattle.widl_grammar.specs.declared.rule.Rule.TheVariants as rule;
 ghost use Rattle.widl_grammar.specs.declared.terminal.Terminal.TheVariants as terminal;
 ghost use Rattle.widl_syntax.specs.Reading.{Reads, Appends, part};
-ghost use Rattle.widl_syntax.specs.Signs.{all_signs, behind};
-ghost use Rattle.widl_syntax.specs.SpelledNames.{extended_attribute, extended_attributes, source_token};
+ghost use Rattle.widl_syntax.specs.Signs.{behind};
+ghost use Rattle.widl_syntax.specs.SpelledNames.{extended_attribute, extended_attributes, attribute_rest};
 
 use super::Reader;
 use std::alloc::AllocError;
@@ -59,7 +59,7 @@ impl<'t, 's> Reader<'t, 's> {
     /// The tokens of an attribute behind its name. The machine of the grammar reads them, since they nest
     /// without a bound.
     fn attribute_arguments(&mut self) -> Result<SourceTokens, AllocError>
-        ensures reads { IfOk result (λ tokens. Reads (part rule.ExtendedAttributeRest) (all_signs source_token tokens) self.old self.new) }
+        ensures reads { IfOk result (λ tokens. Reads (part rule.ExtendedAttributeRest) (attribute_rest tokens) self.old self.new) }
         ensures shorter { IfOk result (λ _. length self.new ≤ length self.old) }
     {
         let mut tokens = SourceTokens::new(self.alloc());

@@ -3,7 +3,10 @@
 use super::spelled::tree;
 use crate::SyntaxFault;
 use std::process::Abort;
-use widl_idl::tree::{ArgumentKind, AttributeKind, DefinitionKind, Member, MemberKind};
+use widl_idl::tree::{
+    AnnotatedType, ArgumentKind, AttributeKind, DefinitionKind, ExtendedAttributes, Member,
+    MemberKind,
+};
 use widl_text::Place;
 
 /// A place of the file with the number 3.
@@ -59,6 +62,47 @@ fn places_of_members(rt: HostRuntime) -> Result<(), SyntaxFault> {
                 assert_places(&rt, attribute, [18, 40, 44, 54]);
                 assert_places(&rt, operation, [61, 67, 68, 72]);
             }
+        }
+    }
+    Ok(())
+}
+
+/// Asserts how many extended attributes something has, none with arguments, and how many its type has.
+fn assert_counts(
+    rt: &impl Abort,
+    attributes: &ExtendedAttributes,
+    ty: &AnnotatedType,
+    counts: (usize, usize),
+) {
+    assert_eq!(rt; attributes.len(), counts.0);
+    for attribute in attributes.as_slice() {
+        assert_eq!(rt; attribute.arguments.len(), 0);
+    }
+    assert_eq!(rt; ty.attributes.len(), counts.1);
+}
+
+// Those at the start of an argument or of a dictionary's member are its own, those behind `optional` or
+// `required` are its type's, and each between two commas is one.
+#[test]
+fn each_extended_attribute_is_kept_by_its_owner(rt: HostRuntime) -> Result<(), SyntaxFault> {
+    let text = "callback C = any ([A, B] long a); callback O = any ([A] optional [B, C] long a); \
+                dictionary D { [A, B] long a; }; dictionary R { [A] required [B, C] long a; };";
+    let fragment = tree(rt.alloc(), 0, text)?;
+    assert_eq!(rt; fragment.definitions.len(), 4);
+    for (number, definition) in fragment.definitions.as_slice().iter().enumerate() {
+        let counts = if number % 2 == 0 { (2, 0) } else { (1, 2) };
+        match &definition.kind {
+            DefinitionKind::Callback(callback) => {
+                for argument in callback.arguments.as_slice() {
+                    assert_counts(&rt, &argument.attributes, &argument.ty, counts);
+                }
+            }
+            DefinitionKind::Dictionary(dictionary) => {
+                for member in dictionary.members.as_slice() {
+                    assert_counts(&rt, &member.attributes, &member.ty, counts);
+                }
+            }
+            _ => {}
         }
     }
     Ok(())
