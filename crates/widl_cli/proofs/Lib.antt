@@ -6,3 +6,5 @@ mod Found
 mod OneFinding
 mod OneOutput
 mod Runs
+pub mod Trees
+mod OneVerdict

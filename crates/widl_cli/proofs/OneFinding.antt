@@ -79,7 +79,7 @@ OneFaults = (terminals : List Terminal) (e f : Fault) → IsFault grammar Defini
 abbrev pub NoFaults : Type 0
 NoFaults = (terminals : List Terminal) (e : Fault) → IsAccepted grammar Definitions terminals → IsFault grammar Definitions terminals e → ⊥
 
-one_tokens : OneCuts → (file : ℕ) (bytes : List ℕ) (a b : TokenList) → IsUtf8 bytes → AreTokensOf file bytes a → AreTokensOf file bytes b → a ≡ b
+pub one_tokens : OneCuts → (file : ℕ) (bytes : List ℕ) (a b : TokenList) → IsUtf8 bytes → AreTokensOf file bytes a → AreTokensOf file bytes b → a ≡ b
 one_tokens cuts file bytes a b utf8 is other =
     let one = cuts bytes utf8 in
     let pieces = one.only is.cut.pieces is.cut.cut ∙ sym (one.only other.cut.pieces other.cut.cut) in

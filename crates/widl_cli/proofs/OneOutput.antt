@@ -1,17 +1,19 @@
 -- Lemmas: the words and the files have at most one output.
 use Rattle.std.proofs.Common.{◌≡◌, ℕ, ◌-◌, List, length, ap, sym, ◌∙◌}
 use Rattle.std.specs.Prelude.{Option, Some, None}
-use Rattle.widl_cli.specs.Outputs.{Output, found_output, IsFoundOutput, IsReadingOutput, IsRequestOutput, IsCheckOutput, IsRunOutput, IsOutput}
+use Rattle.widl_cli.specs.Outputs.{Output, IsVerdictOutput, IsReadingOutput, IsRequestOutput, IsCheckOutput, IsRunOutput, IsOutput}
 use Rattle.widl_cli.specs.Readings.{Reading, AllRead, MissingFile, LongFile, read_in_order}
 use Rattle.widl_cli.specs.Requests.{request_of, names_of}
 use Rattle.widl_cli.specs.declared.request.Request.{Request}
 use Rattle.widl_cli.specs.declared.request.Request.TheVariants.{Help, Version, Check, Run}
-use Rattle.widl_cli.proofs.OneFinding.{OneCuts, OneFaults, NoFaults, one_finding}
+use Rattle.widl_syntax.specs.OneTree.{EachSpellingHasOneTree}
+use Rattle.widl_cli.proofs.OneFinding.{OneCuts, OneFaults, NoFaults}
+use Rattle.widl_cli.proofs.OneVerdict.{one_verdict}
 
-one_found_output : OneCuts → OneFaults → NoFaults → (texts : List (List ℕ)) (first : ℕ) (others a b : Output) → IsFoundOutput texts first others a → IsFoundOutput texts first others b → a ≡ b
-one_found_output cuts one none texts first others a b is other =
+one_verdict_output : OneCuts → OneFaults → NoFaults → EachSpellingHasOneTree → (texts : List (List ℕ)) (first : ℕ) (others a b : Output) → IsVerdictOutput texts first others a → IsVerdictOutput texts first others b → a ≡ b
+one_verdict_output cuts one none trees texts first others a b is other =
     is.output_is
-    ∙ ap (λ found. found_output found others) (one_finding cuts one none texts first (length texts - first) is.found other.found is.found_is other.found_is)
+    ∙ one_verdict cuts one none trees texts first (length texts - first) others is.verdict other.verdict is.verdict_is other.verdict_is
     ∙ sym other.output_is
 
 one_reading : (P : List (List ℕ) → Output → Type 0) → ((texts : List (List ℕ)) (a b : Output) → P texts a → P texts b → a ≡ b) → (reading : Reading) (a b : Output) → IsReadingOutput P reading a → IsReadingOutput P reading b → a ≡ b
@@ -19,13 +21,13 @@ one_reading P one (AllRead texts) a b is other = one texts a b is other
 one_reading P one (MissingFile name) a b is other = is ∙ sym other
 one_reading P one (LongFile name) a b is other = is ∙ sym other
 
-one_request : OneCuts → OneFaults → NoFaults → (request : Option Request) (reading : Reading) (a b : Output) → IsRequestOutput request reading a → IsRequestOutput request reading b → a ≡ b
-one_request cuts one none None reading a b is other = is ∙ sym other
-one_request cuts one none (Some Help) reading a b is other = is ∙ sym other
-one_request cuts one none (Some Version) reading a b is other = is ∙ sym other
-one_request cuts one none (Some Check) reading a b is other = one_reading IsCheckOutput (λ texts. one_found_output cuts one none texts 0 _) reading a b is other
-one_request cuts one none (Some (Run budget)) reading a b is other = one_reading (IsRunOutput budget) (λ texts. one_found_output cuts one none texts 1 _) reading a b is other
+one_request : OneCuts → OneFaults → NoFaults → EachSpellingHasOneTree → (request : Option Request) (reading : Reading) (a b : Output) → IsRequestOutput request reading a → IsRequestOutput request reading b → a ≡ b
+one_request cuts one none trees None reading a b is other = is ∙ sym other
+one_request cuts one none trees (Some Help) reading a b is other = is ∙ sym other
+one_request cuts one none trees (Some Version) reading a b is other = is ∙ sym other
+one_request cuts one none trees (Some Check) reading a b is other = one_reading IsCheckOutput (λ texts. one_verdict_output cuts one none trees texts 0 _) reading a b is other
+one_request cuts one none trees (Some (Run budget)) reading a b is other = one_reading (IsRunOutput budget) (λ texts. one_verdict_output cuts one none trees texts 1 _) reading a b is other
 
-pub one_output : OneCuts → OneFaults → NoFaults → (words : List (List ℕ)) (files : List (List ℕ × List ℕ)) (a b : Output) → IsOutput words files a → IsOutput words files b → a ≡ b
+pub one_output : OneCuts → OneFaults → NoFaults → EachSpellingHasOneTree → (words : List (List ℕ)) (files : List (List ℕ × List ℕ)) (a b : Output) → IsOutput words files a → IsOutput words files b → a ≡ b
 unfolding IsOutput
-one_output cuts one none words files a b is other = one_request cuts one none (request_of words) (read_in_order files (names_of (request_of words) words)) a b is other
+one_output cuts one none trees words files a b is other = one_request cuts one none trees (request_of words) (read_in_order files (names_of (request_of words) words)) a b is other

@@ -6,3 +6,4 @@ pub mod Requests
 pub mod Runs
 pub mod Statuses
 pub mod Texts
+pub mod Verdicts

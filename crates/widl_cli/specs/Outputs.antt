@@ -9,17 +9,19 @@ use Rattle.widl_folder.specs.declared.whole_file.FetchError.TheVariants.{Memory,
 use Rattle.widl_first_form.specs.Plans.{plan_of}
 use Rattle.widl_first_form.specs.declared.planned.Plan as plans
 use Rattle.widl_first_form.specs.declared.planned.Plan.TheVariants as plan
-use Rattle.widl_cli.specs.Findings.{IsFoundIn, finding_line}
+use Rattle.widl_cli.specs.Findings.{finding_line}
 use Rattle.widl_cli.specs.Readings.{Reading, AllRead, MissingFile, LongFile, read_in_order}
 use Rattle.widl_cli.specs.Texts.{named}
 use Rattle.widl_cli.specs.Requests.{request_of, names_of}
 use Rattle.widl_cli.specs.Runs.{written, end_of}
-use Rattle.widl_cli.specs.declared.finding.Finding.{Finding}
 use Rattle.widl_cli.specs.declared.help.TheConstants.{HELP, VERSION}
 use Rattle.widl_cli.specs.declared.request.Request as requests
 use Rattle.widl_cli.specs.declared.request.Request.TheVariants.{Help, Version, Check, Run}
 use Rattle.widl_cli.specs.declared.status.Status.{Status}
 use Rattle.widl_cli.specs.declared.status.Status.TheVariants as ends
+use Rattle.widl_cli.specs.declared.verdict.Verdict.{Verdict}
+use Rattle.widl_cli.specs.declared.verdict.Verdict.TheVariants.{Fault, Broken, Unbroken}
+use Rattle.widl_cli.specs.Verdicts.{IsVerdict, refusal_line}
 
 -- the bytes and the status
 pub record Output : Type 0 where
@@ -59,24 +61,25 @@ unfoldable pub checked_output : List (List ℕ) → Output
 checked_output texts =
     if (length texts == 1) && is_served (plan_of (named texts 0) []) then last (codes "accepted") ends.Done else last (codes "refused later 0 0") ends.Refused
 
--- the first fault is named; where there is none, other things are written
-abbrev pub found_output : Option Finding → Output → Output
-found_output None others = others
-found_output (Some finding) others = last (finding_line finding) ends.Refused
+-- what is found is named; where nothing is, other things are written
+abbrev pub verdict_output : Verdict → Output → Output
+verdict_output (Fault finding) others = last (finding_line finding) ends.Refused
+verdict_output (Broken refusal) others = last (refusal_line refusal) ends.Refused
+verdict_output Unbroken others = others
 
 -- what is written for texts of which those from a place on are the fragments
-pub record IsFoundOutput (texts : List (List ℕ)) (first : ℕ) (others output : Output) : Type 0 where
-  pub found : Option Finding
-  pub found_is : IsFoundIn texts first (length texts - first) found
-  pub output_is : output ≡ found_output found others
+pub record IsVerdictOutput (texts : List (List ℕ)) (first : ℕ) (others output : Output) : Type 0 where
+  pub verdict : Verdict
+  pub verdict_is : IsVerdict texts first (length texts - first) verdict
+  pub output_is : output ≡ verdict_output verdict others
 
 -- the fragments are all texts
 abbrev pub IsCheckOutput : List (List ℕ) → Output → Type 0
-IsCheckOutput texts output = IsFoundOutput texts 0 (checked_output texts) output
+IsCheckOutput texts output = IsVerdictOutput texts 0 (checked_output texts) output
 
 -- the first text is the script, the others are the fragments
 abbrev pub IsRunOutput : ℕ → List (List ℕ) → Output → Type 0
-IsRunOutput budget texts output = IsFoundOutput texts 1 (run_output budget texts) output
+IsRunOutput budget texts output = IsVerdictOutput texts 1 (run_output budget texts) output
 
 -- the first file that isn't there or is too long is named
 abbrev pub IsReadingOutput : (List (List ℕ) → Output → Type 0) → Reading → Output → Type 0
@@ -92,7 +95,7 @@ IsRequestOutput (Some Check) reading output = IsReadingOutput IsCheckOutput read
 IsRequestOutput (Some (Run budget)) reading output = IsReadingOutput (IsRunOutput budget) reading output
 
 -- the order of causes: the words; the files in the order of reading; the encoding of the fragments; their
--- grammar; the fragment's form; the script's form; the run
+-- grammar; the rules of the profile and of merging; the fragment's form; the script's form; the run
 unfoldable pub IsOutput : List (List ℕ) → List (List ℕ × List ℕ) → Output → Type 0
 IsOutput words files output = IsRequestOutput (request_of words) (read_in_order files (names_of (request_of words) words)) output
 

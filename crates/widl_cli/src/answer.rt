@@ -7,6 +7,7 @@ ghost use Rattle.widl_trace.specs.Growth.{GrewByPrefix};
 ghost use Rattle.widl_trace.specs.Lines.{ended};
 ghost use Rattle.widl_cli.specs.Outputs.{plan_output, run_output, checked_output, is_served, unread_output, last, Answers, Answered, IsCheckOutput, IsRunOutput};
 ghost use Rattle.widl_cli.specs.Findings.{finding_line};
+ghost use Rattle.widl_cli.specs.Verdicts.{refusal_line};
 ghost use Rattle.widl_cli.specs.Texts.{named, AreShort};
 ghost use Rattle.widl_cli.specs.declared.status.Status.TheVariants as ends;
 ghost use Rattle.widl_cli.specs.Readings.{IsMemory};
@@ -15,14 +16,16 @@ ghost use Rattle.widl_first_form.specs.declared.planned.Plan.TheVariants as plan
 ghost use Rattle.widl_folder.specs.declared.whole_file.FetchError.TheVariants as causes;
 
 use crate::Status;
-use crate::checking::find_fault;
+use crate::checking::judge;
 use crate::finding::Finding;
-use crate::finding_line::line_of;
+use crate::finding_line::{line_of, line_of_refusal};
 use crate::perform::perform_steps;
 use crate::texts::Texts;
+use crate::verdict::Verdict;
 use std::alloc::{AllocError, Global};
 use widl_first_form::{Plan, Steps, make_plan};
 use widl_folder::FetchError;
+use widl_idl::Refusal;
 use widl_trace::{Line, Sink, WriteFailed, Writer};
 
 /// Says of some fragments whether they are a valid set.
@@ -31,10 +34,11 @@ pub fn answer_check<K: Sink>(alloc: Global, texts: &Texts, out: &mut K) -> Statu
     requires short { AreShort texts.now }
     ensures { Answered (IsCheckOutput texts.now) (K.held out.old) (K.held out.new) (K.faults out.old) (K.faults out.new) result }
 {
-    match find_fault(alloc, texts, 0) {
+    match judge(alloc, texts, 0) {
         Err(AllocError) => Status::Memory,
-        Ok(Some(finding)) => answer_finding(alloc, finding, out),
-        Ok(None) => answer_accepted(alloc, texts, out),
+        Ok(Verdict::Fault(finding)) => answer_finding(alloc, finding, out),
+        Ok(Verdict::Broken(refusal)) => answer_refusal(alloc, refusal, out),
+        Ok(Verdict::Unbroken) => answer_accepted(alloc, texts, out),
     }
 }
 
@@ -44,10 +48,11 @@ pub fn answer_run<K: Sink>(alloc: Global, budget: u64, texts: &Texts, out: &mut 
     requires short { AreShort texts.now }
     ensures { Answered (IsRunOutput budget texts.now) (K.held out.old) (K.held out.new) (K.faults out.old) (K.faults out.new) result }
 {
-    match find_fault(alloc, texts, 1) {
+    match judge(alloc, texts, 1) {
         Err(AllocError) => Status::Memory,
-        Ok(Some(finding)) => answer_finding(alloc, finding, out),
-        Ok(None) => answer_script(alloc, budget, texts, out),
+        Ok(Verdict::Fault(finding)) => answer_finding(alloc, finding, out),
+        Ok(Verdict::Broken(refusal)) => answer_refusal(alloc, refusal, out),
+        Ok(Verdict::Unbroken) => answer_script(alloc, budget, texts, out),
     }
 }
 
@@ -63,6 +68,16 @@ fn answer_finding<K: Sink>(alloc: Global, finding: Finding, out: &mut K) -> Stat
     ensures { Answers (last (finding_line finding) ends.Refused) (K.held out.old) (K.held out.new) (K.faults out.old) (K.faults out.new) result }
 {
     match line_of(alloc, finding) {
+        Err(AllocError) => Status::Memory,
+        Ok(line) => last_line(alloc, &line, b"", Status::Refused, out),
+    }
+}
+
+/// Names the least refusal of the files by a rule.
+fn answer_refusal<K: Sink>(alloc: Global, refusal: Refusal, out: &mut K) -> Status
+    ensures { Answers (last (refusal_line refusal) ends.Refused) (K.held out.old) (K.held out.new) (K.faults out.old) (K.faults out.new) result }
+{
+    match line_of_refusal(alloc, refusal) {
         Err(AllocError) => Status::Memory,
         Ok(line) => last_line(alloc, &line, b"", Status::Refused, out),
     }

@@ -1,29 +1,58 @@
-//! The first two phases: the encoding of all files, and then their grammar.
+//! The first phases: the encoding of all files, then their grammar, then the rules over their trees.
 
-ghost use Rattle.std.specs.Prelude.{◌≡◌, ◌+◌, ◌-◌, ◌≤◌, ◌<◌, ◌^◌, true, false, IfOk, length};
+ghost use Rattle.std.specs.Prelude.{◌≡◌, ◌+◌, ◌-◌, ◌≤◌, ◌<◌, ◌^◌, [], true, false, IfOk, length};
 ghost use Rattle.widl_cli.specs.Findings.{IsFileFinding, IsFoundIn, BreaksEncoding, KeepsEncoding};
 ghost use Rattle.widl_cli.specs.Texts.{AreShort};
+ghost use Rattle.widl_cli.specs.Verdicts.{AddsTree, TreesUnless, IsVerdict};
 
 use crate::finding::Finding;
 use crate::texts::Texts;
+use crate::verdict::Verdict;
 use std::alloc::{AllocError, Global};
-use widl_grammar::{SyntaxFault, check_syntax};
+use widl_idl::Fragments;
 use widl_lex::{LexFault, Tokens};
+use widl_merge::find_refusal;
+use widl_syntax::{SyntaxFault, parse};
 
-/// The first fault of the texts from a place on, of which the first is file 0: of the encoding of any of
-/// them, or else of the grammar of one.
+/// What is found in the texts from a place on, of which the first is file 0: a fault of the encoding of any
+/// of them, or else of the grammar of one, or else a broken rule over their trees.
 ///
 /// # Errors
 ///
 /// `AllocError` where there is no memory.
-pub fn find_fault(alloc: Global, texts: &Texts, first: usize) -> Result<Option<Finding>, AllocError>
+#[tactic(auto, using(crate::proofs::Trees::rules_found))]
+pub fn judge(alloc: Global, texts: &Texts, first: usize) -> Result<Verdict, AllocError>
     requires few { length texts.now ≤ first + 64 }
     requires short { AreShort texts.now }
-    ensures { IfOk result (λ found. IsFoundIn texts.now first (length texts.now - first) found) }
+    ensures { IfOk result (λ verdict. IsVerdict texts.now first (length texts.now - first) verdict) }
+{
+    let mut trees = Fragments::new(alloc);
+    match read_trees(alloc, texts, first, &mut trees)? {
+        Some(finding) => Ok(Verdict::Fault(finding)),
+        None => match find_refusal(alloc, &trees)? {
+            Some(refusal) => Ok(Verdict::Broken(refusal)),
+            None => Ok(Verdict::Unbroken),
+        },
+    }
+}
+
+/// The first fault of the texts from a place on: of the encoding of any of them, or else of the grammar of
+/// one. Where there is none, their trees are added.
+fn read_trees(
+    alloc: Global,
+    texts: &Texts,
+    first: usize,
+    trees: &mut Fragments,
+) -> Result<Option<Finding>, AllocError>
+    requires few { length texts.now ≤ first + 64 }
+    requires short { AreShort texts.now }
+    requires empty { trees.old ≡ [] }
+    ensures found { IfOk result (λ found. IsFoundIn texts.now first (length texts.now - first) found) }
+    ensures trees { IfOk result (λ found. TreesUnless texts.now first (length texts.now - first) trees.new found) }
 {
     let mut found = None;
     for file in 0..texts.len().saturating_sub(first) {
-        let finding = check_file(alloc, file as u16, texts.named(first + file))?;
+        let finding = read_tree(alloc, file as u16, texts.named(first + file), trees)?;
         if breaks_encoding(finding) {
             return Ok(finding);
         }
@@ -40,16 +69,25 @@ fn breaks_encoding(finding: Option<Finding>) -> bool
     matches!(finding, Some(Finding::Encoding(_)))
 }
 
-/// What is found in one file.
-fn check_file(alloc: Global, file: u16, bytes: &[u8]) -> Result<Option<Finding>, AllocError>
+/// What is found in one file; its tree is added where nothing is.
+fn read_tree(
+    alloc: Global,
+    file: u16,
+    bytes: &[u8],
+    trees: &mut Fragments,
+) -> Result<Option<Finding>, AllocError>
     requires { length bytes.now < 2 ^ 32 }
-    ensures { IfOk result (λ finding. IsFileFinding file bytes.now finding) }
+    ensures finding { IfOk result (λ finding. IsFileFinding file bytes.now finding) }
+    ensures tree { IfOk result (λ finding. AddsTree file bytes.now finding trees.old trees.new) }
 {
     match Tokens::read(alloc, file, bytes) {
         Err(LexFault::NotUtf8(place)) => Ok(Some(Finding::Encoding(place))),
         Err(LexFault::Memory) => Err(AllocError),
-        Ok(tokens) => match check_syntax(alloc, &tokens) {
-            Ok(()) => Ok(None),
+        Ok(tokens) => match parse(alloc, &tokens) {
+            Ok(tree) => {
+                trees.push(tree)?;
+                Ok(None)
+            }
             Err(SyntaxFault::Syntax(place)) => Ok(Some(Finding::Syntax(place))),
             Err(SyntaxFault::TooDeep(place)) => Ok(Some(Finding::Deep(place))),
             Err(SyntaxFault::Memory) => Err(AllocError),

@@ -1,11 +1,13 @@
-//! The line of a refusal.
+//! The lines of refusals.
 
 ghost use Rattle.std.specs.Prelude.{◌≡◌, IfOk};
 ghost use Rattle.widl_cli.specs.Findings.{finding_line, rule_of, place_of};
+ghost use Rattle.widl_cli.specs.Verdicts.{refusal_line, rule_prefix, rule_number};
 
 use crate::finding::Finding;
 use itoa::Buffer;
 use std::alloc::{AllocError, Global};
+use widl_idl::Refusal;
 use widl_text::Place;
 
 /// The line `refused RULE FILE OFFSET` of a finding, without its line feed.
@@ -45,4 +47,39 @@ fn place_of(finding: Finding) -> Place
     match finding {
         Finding::Encoding(place) | Finding::Syntax(place) | Finding::Deep(place) => place,
     }
+}
+
+/// The line `refused RULE FILE OFFSET` of a broken rule, without its line feed. The rules of the profile
+/// are `X1`, `X2` and so on.
+///
+/// # Errors
+///
+/// `AllocError` where there is no memory.
+#[tactic(auto, unfolding(crate::specs::Verdicts::refusal_line))]
+pub fn line_of_refusal(alloc: Global, refusal: Refusal) -> Result<Vec<u8>, AllocError>
+    ensures { IfOk result (λ line. line.items ≡ refusal_line refusal) }
+{
+    let mut rule = Buffer::new();
+    let mut file = Buffer::new();
+    let mut at = Buffer::new();
+    let mut bytes = Vec::from_slice(alloc, b"refused ")?;
+    bytes.extend_from_slice(rule_prefix(refusal.rule))?;
+    bytes.extend_from_slice(rule.format(rule_number(refusal.rule)).as_bytes())?;
+    bytes.extend_from_slice(b" ")?;
+    bytes.extend_from_slice(file.format(refusal.at.file).as_bytes())?;
+    bytes.extend_from_slice(b" ")?;
+    bytes.extend_from_slice(at.format(refusal.at.at).as_bytes())?;
+    Ok(bytes)
+}
+
+fn rule_prefix(number: u8) -> &'static [u8]
+    ensures { result.now ≡ rule_prefix number }
+{
+    if number > 100 { b"X" } else { b"" }
+}
+
+fn rule_number(number: u8) -> u8
+    ensures { result ≡ rule_number number }
+{
+    if number > 100 { number - 100 } else { number }
 }

@@ -21,6 +21,7 @@ mod tests;
 mod texts;
 mod top;
 mod unread;
+mod verdict;
 mod words;
 
 pub use status::Status;

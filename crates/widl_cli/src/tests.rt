@@ -12,6 +12,9 @@ use std::process::Abort;
 use std::test::Fail;
 use widl_trace::{MemorySink, Numbers, SureSink};
 
+mod merging;
+mod profile;
+
 const FRAGMENT: &str = "namespace N { undefined f(octet a); };";
 
 const TRACE: &str = "call #19 this #18 (300)\nop N.f#0 (44)\nret undefined\ndone\n";
@@ -244,7 +247,7 @@ fn the_least_fault_of_a_set_is_named(rt: HostRuntime) -> Result<(), Fail> {
             "refused deep 0 152\n",
         ),
         ("", "", "refused later 0 0\n"),
-        (FRAGMENT, FRAGMENT, "refused later 0 0\n"),
+        (FRAGMENT, FRAGMENT, "refused 1 1 10\n"),
     ];
     for (first, second, text) in rows {
         expect_check(&rt, alloc, &[first, second], Status::Refused, text)?;

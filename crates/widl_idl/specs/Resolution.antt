@@ -1,10 +1,11 @@
 -- What a written type means: typedefs replaced by their types, and annotations applied (Web IDL, "Typedefs" and "Annotated types").
-use Rattle.std.specs.Prelude.{ℕ, ◌++◌, Bool, true, false, ◌||◌, ◌&&◌, List, [], ◌∷◌, length, zero, suc, nat_eq, nat_lt, Option, None, Some, slice_get, if◌then◌else◌}
+use Rattle.std.specs.Prelude.{ℕ, ◌++◌, Bool, true, false, ◌||◌, ◌&&◌, List, [], ◌∷◌, length, zero, suc, Option, None, Some, slice_get, if◌then◌else◌}
 use Rattle.widl_text.specs.declared.place.Place.{Place}
 use Rattle.widl_idl.specs.declared.int_kind.Mode.{Mode}
 use Rattle.widl_idl.specs.declared.int_kind.Mode.TheVariants.{Wrap, Clamp, Enforce}
 use Rattle.widl_idl.specs.declared.text_kind.TextKind.{TextKind}
 use Rattle.widl_idl.specs.declared.text_kind.TextKind.TheVariants as texts
+use Rattle.widl_idl.specs.Least.{is_before}
 use Rattle.widl_idl.specs.Terms.{TypeTerm, TypeTerms, AnyType, IntegerType, StringType, SequenceType, RecordType, PromiseType, NullableType, UnionType, no_types, more_types}
 
 -- the annotations that change a type
@@ -39,9 +40,6 @@ pub record Typedef : Type 0 where
   pub notes : List Note
   pub written : WrittenType
 
-abbrev pub comes_before : Place → Place → Bool
-comes_before p q = nat_lt p.file q.file || (nat_eq p.file q.file && nat_lt p.at q.at)
-
 -- an annotation that sets a mode, and its place
 pub record ModeNote : Type 0 where
   pub mode : Mode
@@ -55,7 +53,7 @@ mode_note LegacyNullToEmptyString p = None
 abbrev pub earlier_mode : Option ModeNote → Option ModeNote → Option ModeNote
 earlier_mode None n = n
 earlier_mode (Some m) None = Some m
-earlier_mode (Some m) (Some n) = if comes_before n.at m.at then Some n else Some m
+earlier_mode (Some m) (Some n) = if is_before n.at m.at then Some n else Some m
 
 -- of the annotations that set a mode, the one whose name comes first
 abbrev pub first_mode : List Note → Option ModeNote

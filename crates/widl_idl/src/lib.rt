@@ -2,8 +2,9 @@
 //! partials and mixins are put together and its types are resolved. It stands on `widl_text`. Each
 //! list in it is an [`Items`], which contracts see as a list, but for [`IdlTypes`]; a type holds
 //! itself in boxes, and contracts speak of its term without them. The contracts that the crates above
-//! use most: [`flattened`] gives the flattened member types of a union, and [`same_type`] tells
-//! whether two terms are equal.
+//! use most: [`flattened`] gives the flattened member types of a union, [`same_type`] tells whether
+//! two terms are equal, [`Merged`] holds a set of files with its merged list, and [`lesser_spot`] and
+//! [`joined`] choose the least spot and the least refusal.
 #![tactic(auto)]
 
 mod argument;
@@ -17,12 +18,18 @@ mod enumeration;
 mod int_kind;
 mod interface;
 mod items;
+mod kind;
+mod least_refusal;
 mod literal;
+mod merged;
+mod merging_rule;
 mod namespace;
 mod operation;
+mod profile_rule;
 mod refusal;
 mod sameness;
 mod signature;
+mod spot;
 #[cfg(test)]
 mod tests;
 mod text_kind;
@@ -41,12 +48,18 @@ pub use enumeration::{Choice, Choices, Texts};
 pub use int_kind::{IntKind, Mode};
 pub use interface::{Iface, Ifaces, Pair, Slot, Slots, Stringify};
 pub use items::Items;
+pub use kind::Kind;
+pub use least_refusal::joined;
 pub use literal::Literal;
+pub use merged::Merged;
+pub use merging_rule::MergingRule;
 pub use namespace::{Space, Spaces};
 pub use operation::{OpName, OpNames};
+pub use profile_rule::{LeftOut, ProfileRule};
 pub use refusal::Refusal;
 pub use sameness::same_type;
 pub use signature::{Sig, Sigs};
+pub use spot::{Spot, lesser_spot};
 pub use text_kind::TextKind;
 pub use tree::{Fragment, Fragments};
 pub use types::{IdlType, IdlTypes};

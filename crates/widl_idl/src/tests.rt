@@ -5,12 +5,13 @@ ghost use Rattle.widl_idl.specs.Flattened.{IsUnion};
 ghost use Rattle.widl_idl.specs.Terms.{type_term};
 
 use crate::{
-    IdlType, IdlTypes, IntKind, Items, Mode, Optionality, TextKind, flattened, includes_nullable,
-    nullable_count, same_type,
+    Defs, Fragments, IdlType, IdlTypes, IntKind, Items, Merged, Mode, Optionality, Refusal, Spot,
+    TextKind, flattened, includes_nullable, joined, lesser_spot, nullable_count, same_type,
 };
 use std::alloc::{AllocError, Global};
 use std::process::Abort;
 use std::test::Fail;
+use widl_text::Place;
 
 fn long() -> IdlType {
     IdlType::Int(IntKind::Long, Mode::Wrap)
@@ -182,5 +183,77 @@ fn items_in_a_list(rt: HostRuntime) -> Result<(), Fail> {
     assert_eq!(rt; former, Optionality::Required);
     assert_eq!(rt; *items.at(0), Optionality::Optional);
     assert_eq!(rt; items.as_slice().len(), 2);
+    Ok(())
+}
+
+fn spot(file: u16, at: u32) -> Spot {
+    Spot::at(Place { file, at })
+}
+
+#[test]
+fn the_lesser_of_two_spots(rt: HostRuntime) -> Result<(), Fail> {
+    let late_in_first = spot(0, 90);
+    let early_in_second = spot(1, 5);
+    let late_in_second = spot(1, 6);
+    let chosen = lesser_spot(Some(early_in_second), Some(late_in_first));
+    assert_eq!(rt; chosen, Some(late_in_first));
+    let chosen = lesser_spot(Some(late_in_second), Some(early_in_second));
+    assert_eq!(rt; chosen, Some(early_in_second));
+    assert_eq!(rt;
+        lesser_spot(None, Some(late_in_second)),
+        Some(late_in_second)
+    );
+    assert_eq!(rt;
+        lesser_spot(Some(late_in_second), None),
+        Some(late_in_second)
+    );
+    Ok(())
+}
+
+#[test]
+fn the_spot_found_first_stays_on_a_tie(rt: HostRuntime) -> Result<(), Fail> {
+    let found_first = Spot {
+        at: Place { file: 2, at: 7 },
+        other: Some(Place { file: 2, at: 3 }),
+    };
+    assert_eq!(rt;
+        lesser_spot(Some(found_first), Some(spot(2, 7))),
+        Some(found_first)
+    );
+    Ok(())
+}
+
+#[test]
+fn the_lower_rule_number_comes_first_at_one_place(rt: HostRuntime) -> Result<(), Fail> {
+    let there = spot(0, 4);
+    let best = joined(12, Some(there), None);
+    let best = joined(9, Some(there), best);
+    let best = joined(30, Some(there), best);
+    let best = joined(1, Some(spot(0, 5)), best);
+    let best = joined(2, None, best);
+    let expected = Refusal {
+        rule: 9,
+        at: there.at,
+        other: None,
+    };
+    assert_eq!(rt; best, Some(expected));
+    Ok(())
+}
+
+#[test]
+#[tactic(auto, using(crate::proofs::Empty::empty_is_merged))]
+fn the_empty_set_is_merged(rt: HostRuntime) -> Result<(), Fail> {
+    let alloc = rt.alloc();
+    let defs = Defs {
+        ifaces: Items::new(alloc),
+        spaces: Items::new(alloc),
+        dicts: Items::new(alloc),
+        choices: Items::new(alloc),
+        callback_fns: Items::new(alloc),
+        callback_ifaces: Items::new(alloc),
+    };
+    let merged = Merged::new(defs, Fragments::new(alloc));
+    assert_eq!(rt; merged.defs().ifaces.len(), 0);
+    assert_eq!(rt; merged.fragments().len(), 0);
     Ok(())
 }

@@ -21,7 +21,7 @@ use Rattle.widl_syntax.proofs.Lists.{fewer_left, all_signs_more}
 
 -- the signs of a token that was taken as it stands
 abbrev source_token : SourceToken → List Sign
-source_token t = at t.at ⧺ OfText (string_bytes t.text) ∷ []
+source_token t = at t.at ⧺ OfText (λ terminal. true) (string_bytes t.text) ∷ []
 
 same_rest : (l m : Lexeme) (rest u w n : List Lexeme) → w ≡ l ∷ rest → n ≡ w → n ≡ m ∷ u → (l ≡ m) × (rest ≡ u)
 same_rest l m rest u w n e f g = (cc, cc)
@@ -32,12 +32,12 @@ as_texts (t ∷ ts) w v s =
     let place = s.1 in
     let token = s.2.1 in
     let same = same_rest place.0 token.0 place.1 s.2.0 w s.0 place.2 place.4 token.1 in
-    (token.0, s.2.0, sym place.4 ∙ token.1, ap (λ l. l.at) (sym same.0) ∙ place.3, token.2, as_texts ts s.2.0 v s.2.2)
+    (token.0, s.2.0, sym place.4 ∙ token.1, ap (λ l. l.at) (sym same.0) ∙ place.3, token.3, as_texts ts s.2.0 v s.2.2)
 
 -- they are the whole part of the rule
 as_part : (tokens : List SourceToken) (start now : List Lexeme) → Reads (part rule.ExtendedAttributeRest) (all_signs source_token tokens) start now → Reads (part rule.ExtendedAttributeRest) (attribute_rest tokens) start now
 as_part tokens start now f = record {
-  reads = λ others r. let g = f.reads others r in ((now, (as_texts tokens start now g.0, λ behind run. (f.reads behind run).1), refl), g.1);
+  reads = λ others r. let g = f.reads others r in ((now, (as_texts tokens start now g.0, (others, r), λ behind run. (f.reads behind run).1), refl), g.1);
 }
 
 -- the tokens so far stand between two tokens of the file, the stack is what is still to be read from the second on, and each turn took a token
@@ -52,7 +52,7 @@ machine_begins start tokens stack none is = record {
 }
 
 taken_first : (token : SourceToken) (after others : Symbols) (now next : List Lexeme) (a : Terminal) (v : List Terminal) → map terminal_of now ≡ a ∷ v → runs.Runs grammar sets (after ++ others) v → IsTaken token.at now next → IfAhead now (λ l. string_bytes token.text ≡ l.text) → Spells (source_token token) now next × Runs (after ++ others) next
-taken_first token after others now next a v e r t b = (took_text a (string_bytes token.text) t b).reads (after ++ others) (subst (runs.Runs grammar sets (Token a ∷ (after ++ others))) (sym e) (taken r))
+taken_first token after others now next a v e r t b = (took_text a (λ terminal. true) (string_bytes token.text) refl t b).reads (after ++ others) (subst (runs.Runs grammar sets (Token a ∷ (after ++ others))) (sym e) (taken r))
 
 -- one token more
 pub machine_goes_on : {start now next : List Lexeme} {tokens : List SourceToken} {stack after : Symbols} {turns : ℕ} (ahead_is : Option Terminal) (goes : Bool) (token : SourceToken) → InMachine start now tokens stack turns → ahead_is ≡ ahead (map terminal_of now) → Takes grammar sets ahead_is stack after goes → goes ≡ true → IsTaken token.at now next → IfAhead now (λ l. string_bytes token.text ≡ l.text) → InMachine start next (tokens ++ token ∷ []) after (turns + 1)

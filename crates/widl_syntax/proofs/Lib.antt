@@ -10,3 +10,4 @@ pub mod Members
 pub mod Types
 pub mod TypeForms
 pub mod Whole
+pub mod Unique

@@ -14,7 +14,7 @@ use Rattle.widl_grammar.specs.Rows.{grammar, rows_of}
 use Rattle.widl_grammar.specs.Tables.{sets, picked}
 use Rattle.widl_grammar.specs.Terminals.{all_terminals}
 use Rattle.widl_grammar.specs.Source.{terminal_of}
-use Rattle.widl_syntax.specs.Signs.{Sign, Spells, Text, AreTexts, AtPlace, OfTerminal, OfBytes, OfText, OfPart, all_signs, behind, separated}
+use Rattle.widl_syntax.specs.Signs.{Sign, Spells, Text, AreTexts, AtPlace, OfTerminal, OfBytes, OfText, OfPart, Nowhere, all_signs, behind, separated}
 use Rattle.widl_syntax.specs.Reading.{Symbols, Runs, Reads, Appends, part, terminal_ahead}
 use Rattle.widl_syntax.proofs.Reading.{part_first, ahead_is, that_row, rest_picks, spells_append, and_then, is_rest, is_among, is_other, is_row_or_none, pass_all, passes}
 
@@ -24,26 +24,29 @@ has_token [] = false
 has_token (AtPlace place ∷ more) = has_token more
 has_token (OfTerminal t ∷ more) = true
 has_token (OfBytes t bytes ∷ more) = true
-has_token (OfText bytes ∷ more) = true
+has_token (OfText test bytes ∷ more) = true
 has_token (OfPart rule texts ∷ more) = has_token more
+has_token (Nowhere ∷ more) = true
 
 pub token_in_first : (x y : List Sign) → has_token x ≡ true → has_token (x ++ y) ≡ true
 token_in_first [] y h = cc
 token_in_first (AtPlace place ∷ x) y h = token_in_first x y h
 token_in_first (OfTerminal t ∷ x) y h = refl
 token_in_first (OfBytes t bytes ∷ x) y h = refl
-token_in_first (OfText bytes ∷ x) y h = refl
+token_in_first (OfText test bytes ∷ x) y h = refl
 token_in_first (OfPart rule texts ∷ x) y h = token_in_first x y h
+token_in_first (Nowhere ∷ x) y h = refl
 
 pub token_in_rest : (x y : List Sign) → has_token y ≡ true → has_token (x ++ y) ≡ true
 token_in_rest [] y h = h
 token_in_rest (AtPlace place ∷ x) y h = token_in_rest x y h
 token_in_rest (OfTerminal t ∷ x) y h = refl
 token_in_rest (OfBytes t bytes ∷ x) y h = refl
-token_in_rest (OfText bytes ∷ x) y h = refl
+token_in_rest (OfText test bytes ∷ x) y h = refl
 token_in_rest (OfPart rule texts ∷ x) y h = token_in_rest x y h
+token_in_rest (Nowhere ∷ x) y h = refl
 
-texts_left : (ts : List Text) (w v : List Lexeme) → AreTexts ts w v → length v ≤ length w
+pub texts_left : (ts : List Text) (w v : List Lexeme) → AreTexts ts w v → length v ≤ length w
 texts_left [] w v s = let e : length w ≡ length v = ap length s in omega arith
 texts_left (t ∷ ts) w v s = let e : length w ≡ length (s.0 ∷ s.1) = ap length s.2 in let le = texts_left ts s.1 v s.5 in omega arith
 
@@ -53,16 +56,18 @@ no_more_left [] w v s = let e : length w ≡ length v = ap length s in omega ari
 no_more_left (AtPlace place ∷ x) w v s = let e : length s.0 ≡ length w = ap length s.1.4 in let le = no_more_left x s.0 v s.2 in omega arith
 no_more_left (OfTerminal t ∷ x) w v s = let e : length w ≡ length (s.1.0 ∷ s.0) = ap length s.1.1 in let le = no_more_left x s.0 v s.2 in omega arith
 no_more_left (OfBytes t bytes ∷ x) w v s = let e : length w ≡ length (s.1.0 ∷ s.0) = ap length s.1.1 in let le = no_more_left x s.0 v s.2 in omega arith
-no_more_left (OfText bytes ∷ x) w v s = let e : length w ≡ length (s.1.0 ∷ s.0) = ap length s.1.1 in let le = no_more_left x s.0 v s.2 in omega arith
+no_more_left (OfText test bytes ∷ x) w v s = let e : length w ≡ length (s.1.0 ∷ s.0) = ap length s.1.1 in let le = no_more_left x s.0 v s.2 in omega arith
 no_more_left (OfPart rule texts ∷ x) w v s = let part_le = texts_left texts w s.0 s.1.0 in let le = no_more_left x s.0 v s.2 in omega arith
+no_more_left (Nowhere ∷ x) w v s = absurd s.1
 
 pub fewer_left : (x : List Sign) (w v : List Lexeme) → has_token x ≡ true → Spells x w v → length v < length w
 fewer_left [] w v h s = cc
 fewer_left (AtPlace place ∷ x) w v h s = let e : length s.0 ≡ length w = ap length s.1.4 in let le = fewer_left x s.0 v h s.2 in omega arith
 fewer_left (OfTerminal t ∷ x) w v h s = let e : length w ≡ length (s.1.0 ∷ s.0) = ap length s.1.1 in let le = no_more_left x s.0 v s.2 in omega arith
 fewer_left (OfBytes t bytes ∷ x) w v h s = let e : length w ≡ length (s.1.0 ∷ s.0) = ap length s.1.1 in let le = no_more_left x s.0 v s.2 in omega arith
-fewer_left (OfText bytes ∷ x) w v h s = let e : length w ≡ length (s.1.0 ∷ s.0) = ap length s.1.1 in let le = no_more_left x s.0 v s.2 in omega arith
+fewer_left (OfText test bytes ∷ x) w v h s = let e : length w ≡ length (s.1.0 ∷ s.0) = ap length s.1.1 in let le = no_more_left x s.0 v s.2 in omega arith
 fewer_left (OfPart rule texts ∷ x) w v h s = let part_le = texts_left texts w s.0 s.1.0 in let le = fewer_left x s.0 v h s.2 in omega arith
+fewer_left (Nowhere ∷ x) w v h s = absurd s.1
 
 -- the signs of lists one after the other, and of one item more
 pub all_signs_append : {X : Type 0} (one : X → List Sign) (xs ys : List X) → all_signs one (xs ++ ys) ≡ all_signs one xs ++ all_signs one ys

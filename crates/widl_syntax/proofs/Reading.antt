@@ -3,7 +3,7 @@ use Rattle.widl_predictive.proofs.Check.{each, each_coded}
 use Rattle.widl_predictive.proofs.Booleans.{or_cases, and_cases, and_both}
 use Rattle.widl_grammar.specs.Terminals.{terminal_code, all_terminals, terminal_at, terminals}
 use Rattle.std.specs.Prelude.{◌||◌, ◌&&◌, nat_le}
-use Rattle.std.proofs.Common.{nat_eq, length, get_or, eqb-true, leb-true, arith, ◌≤◌, ◌≡◌, ℕ, zero, suc, Bool, true, false, Option, Some, None, List, [], ◌∷◌, ◌++◌, refl, sym, ◌∙◌, ap, subst, inl, inr, drop, append_assoc}
+use Rattle.std.proofs.Common.{string_bytes, if◌then◌else◌, nat_eq, length, get_or, eqb-true, leb-true, arith, ◌≤◌, ◌≡◌, ℕ, zero, suc, Bool, true, false, Option, Some, None, List, [], ◌∷◌, ◌++◌, refl, sym, ◌∙◌, ap, subst, inl, inr, drop, append_assoc}
 use Rattle.std.specs.Prelude.{map, is_some, not, MatchOption, Result, Ok, Err, IfOk}
 use Rattle.widl_text.specs.declared.place.Place.{Place}
 use Rattle.widl_idl.specs.declared.tree.names.Name.{Name}
@@ -21,8 +21,8 @@ use Rattle.widl_grammar.specs.declared.terminal.Terminal.TheVariants.{Other, Ide
 use Rattle.widl_grammar.specs.Rows.{grammar, rows_of}
 use Rattle.widl_grammar.specs.Tables.{sets, picked}
 use Rattle.widl_grammar.specs.Source.{terminal_of}
-use Rattle.widl_syntax.specs.Signs.{Sign, Spells, OfBytes, OfText, at, word, ◌⧺◌}
-use Rattle.widl_syntax.specs.SpelledNames.{name_bytes, identifier, any_name}
+use Rattle.widl_syntax.specs.Signs.{Sign, Spells, OfBytes, OfText, Nowhere, at, word, ◌⧺◌}
+use Rattle.widl_syntax.specs.SpelledNames.{name_bytes, is_escape_apart, escape_apart, identifier, is_word_of, any_name}
 use Rattle.widl_syntax.specs.Reading.{Symbols, Runs, Reads, token, part, terminal_ahead, IfAhead, IsTaken, IsTakenAs, IsPassedBy, IsName}
 
 abbrev pub Row : Type 0
@@ -101,27 +101,39 @@ took_bytes a bytes {w} {m} {place} t b = record {
       ((w, (f.lexeme, f.rest, f.is, sym (ahead_first (λ l. place ≡ l.at) w f.lexeme f.rest f.is t.place_is), refl), (m, (f.lexeme, f.is ∙ ap (λ u. f.lexeme ∷ u) (sym behind), f.terminal, text), refl)), subst (Runs z) (sym behind) f.runs);
 }
 
--- any token, by its bytes
-pub took_text : (a : Terminal) (bytes : List ℕ) {w m : List Lexeme} {place : Place} → IsTaken place w m → IfAhead w (λ l. bytes ≡ l.text) → Reads (token a) (at place ⧺ OfText bytes ∷ []) w m
-took_text a bytes {w} {m} {place} t b = record {
+-- a token that passes a test, by its bytes
+pub took_text : (a : Terminal) (test : Terminal → Bool) (bytes : List ℕ) {w m : List Lexeme} {place : Place} → test a ≡ true → IsTaken place w m → IfAhead w (λ l. bytes ≡ l.text) → Reads (token a) (at place ⧺ OfText test bytes ∷ []) w m
+took_text a test bytes {w} {m} {place} known t b = record {
   reads = λ z r.
       let f = first_of_token a z w r in
       let behind : m ≡ f.rest = t.rest ∙ ap (drop 1) f.is in
       let text : f.lexeme.text ≡ bytes = sym (ahead_first (λ l. bytes ≡ l.text) w f.lexeme f.rest f.is b) in
-      ((w, (f.lexeme, f.rest, f.is, sym (ahead_first (λ l. place ≡ l.at) w f.lexeme f.rest f.is t.place_is), refl), (m, (f.lexeme, f.is ∙ ap (λ u. f.lexeme ∷ u) (sym behind), text), refl)), subst (Runs z) (sym behind) f.runs);
+      let passed : test (terminal_of f.lexeme) ≡ true = ap test f.terminal ∙ known in
+      ((w, (f.lexeme, f.rest, f.is, sym (ahead_first (λ l. place ≡ l.at) w f.lexeme f.rest f.is t.place_is), refl), (m, (f.lexeme, f.is ∙ ap (λ u. f.lexeme ∷ u) (sym behind), passed, text), refl)), subst (Runs z) (sym behind) f.runs);
 }
 
 pub always : (w : List Lexeme) (P Q : Lexeme → Type 0) → IfAhead w P → IfAhead w (λ l. Q l → P l)
 always [] P Q h = tt
 always (l ∷ w) P Q h = λ q. h
 
+-- the `_` before a name is no part of its text
+escape_known : (a : Terminal) (x : Sign) {w m : List Lexeme} {name : Name} → IsName name w m → Reads (token a) (at name.at ⧺ x ∷ []) w m → Reads (token a) (at name.at ⧺ x ∷ escape_apart name) w m
+escape_known a x {w} {m} {name} n f = record {
+  reads = λ z r.
+      let first = first_of_token a z w r in
+      let known : is_escape_apart name.escaped (string_bytes name.text) ≡ true = ahead_first (λ l. is_escape_apart name.escaped (string_bytes name.text) ≡ true) w first.lexeme first.rest first.is n.escape in
+      let h = f.reads z r in
+      let none : [] ≡ escape_apart name = ap (λ b. if b then [] else Nowhere ∷ []) (sym known) in
+      (subst (λ more. Spells (at name.at ⧺ x ∷ more) w m) none h.0, h.1);
+}
+
 -- an identifier
 pub took_identifier : {w m : List Lexeme} {name : Name} → IsName name w m → Reads (token Identifier) (identifier name) w m
-took_identifier {w} {m} {name} n = took_bytes Identifier (name_bytes name) n.taken (always w (λ l. name_bytes name ≡ l.text) (λ l. terminal_of l ≡ Identifier) n.bytes)
+took_identifier {w} {m} {name} n = escape_known Identifier (OfBytes Identifier (name_bytes name)) n (took_bytes Identifier (name_bytes name) n.taken (always w (λ l. name_bytes name ≡ l.text) (λ l. terminal_of l ≡ Identifier) n.bytes))
 
--- any token, as a name
-pub took_name : (a : Terminal) {w m : List Lexeme} {name : Name} → IsName name w m → Reads (token a) (any_name name) w m
-took_name a {w} {m} {name} n = took_text a (name_bytes name) n.taken n.bytes
+-- a word of a rule, as a name
+pub took_name : (a : Terminal) (rule : Rule) {w m : List Lexeme} {name : Name} → is_word_of rule a ≡ true → IsName name w m → Reads (token a) (any_name rule name) w m
+took_name a rule {w} {m} {name} known n = escape_known a (OfText (is_word_of rule) (name_bytes name)) n (took_text a (is_word_of rule) (name_bytes name) known n.taken n.bytes)
 
 -- what a test of an option tells of a token that may be taken
 pub passed_by : (t : Terminal) (w m : List Lexeme) (o : Option Place) (b : Bool) → is_some o ≡ not b → b ≡ true → MatchOption o (IsPassedBy t w m) (λ place. IsTakenAs t place w m) → IsPassedBy t w m

@@ -1,5 +1,6 @@
 -- Tokens by their bytes, and rules of which each row is one token.
-use Rattle.std.proofs.Common.{◌≡◌, ℕ, ◌≤◌, Bool, true, false, Option, Some, None, List, [], ◌∷◌, ◌++◌, length, length-drop, refl, ◌∙◌, ap, subst, arith, inl, inr}
+use Rattle.std.proofs.Common.{eq-eqb, zero, suc, ◌≡◌, ℕ, ◌≤◌, Bool, true, false, Option, Some, None, List, [], ◌∷◌, ◌++◌, length, length-drop, refl, ◌∙◌, ap, subst, arith, inl, inr}
+use Rattle.std.specs.List.{list_any}
 use Rattle.std.specs.Prelude.{◌||◌, ◌&&◌, map}
 use Rattle.widl_text.specs.declared.place.Place.{Place}
 use Rattle.widl_idl.specs.declared.tree.names.Name.{Name}
@@ -14,10 +15,10 @@ use Rattle.widl_grammar.specs.declared.rule.Rule.{Rule}
 use Rattle.widl_grammar.specs.declared.terminal.Terminal.{Terminal}
 use Rattle.widl_grammar.specs.Rows.{rows_of}
 use Rattle.widl_grammar.specs.Tables.{picked}
-use Rattle.widl_grammar.specs.Terminals.{all_terminals}
+use Rattle.widl_grammar.specs.Terminals.{all_terminals, terminal_code}
 use Rattle.widl_grammar.specs.Source.{terminal_of}
 use Rattle.widl_syntax.specs.Signs.{OfBytes, at, ◌⧺◌}
-use Rattle.widl_syntax.specs.SpelledNames.{any_name}
+use Rattle.widl_syntax.specs.SpelledNames.{any_name, is_row_of}
 use Rattle.widl_syntax.specs.Reading.{Runs, Reads, token, part, terminal_ahead, IfAhead, IsTaken, IsPassedBy, IsName}
 use Rattle.widl_syntax.proofs.Reading.{always, took_bytes, took_name, part_first, and_other_than, is_among, pass_all, passes}
 
@@ -60,13 +61,26 @@ word_row (Token a ∷ x ∷ more) h = cc
 word_row (Part rule ∷ more) h = cc
 word_row (Inner rule ∷ more) h = cc
 
+-- the row is among the rule's
+row_among : (rows : List (List (RowSymbol Terminal Rule))) (k : ℕ) (a : Terminal) → nth rows k ≡ Some (Token a ∷ []) → list_any (is_row_of a) rows ≡ true
+row_among [] k a e = cc
+row_among (row ∷ rows) zero a e =
+    let is : row ≡ Token a ∷ [] = cc in
+    ap (λ b. b || list_any (is_row_of a) rows) (ap (is_row_of a) is ∙ eq-eqb (terminal_code a) (terminal_code a) refl)
+row_among (row ∷ rows) (suc k) a e = ap (λ b. is_row_of a row || b) (row_among rows k a e) ∙ or_true (is_row_of a row)
+  where
+    or_true : (b : Bool) → (b || true) ≡ true
+    or_true true = refl
+    or_true false = refl
+
 -- a name, as a rule of words
-pub by_word : (rule : Rule) (others : List Terminal) {w m : List Lexeme} {name : Name} → is_words rule others ≡ true → is_among others (terminal_ahead w) ≡ false → IsName name w m → Reads (part rule) (any_name name) w m
+pub by_word : (rule : Rule) (others : List Terminal) {w m : List Lexeme} {name : Name} → is_words rule others ≡ true → is_among others (terminal_ahead w) ≡ false → IsName name w m → Reads (part rule) (any_name rule name) w m
 by_word rule others {w} {m} {name} test differ n = record {
   reads = λ z r.
       let p = part_first r in
       let row = word_row p.0 (subst (λ o. is_word o ≡ true) p.1 (picks_word rule others w test differ)) in
-      (took_name row.0 n).reads z (subst (λ s. Runs (plain s ++ z) w) row.1 p.2);
+      let known = row_among (rows_of rule) (picked rule (ahead (map terminal_of w))) row.0 (p.1 ∙ ap (λ s. Some s) row.1) in
+      (took_name row.0 rule known n).reads z (subst (λ s. Runs (plain s ++ z) w) row.1 p.2);
 }
 
 -- no more tokens are left behind a token that is taken or passed by

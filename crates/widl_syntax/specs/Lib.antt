@@ -7,3 +7,4 @@ pub mod SpelledDefinitions
 pub mod MemberLists
 pub mod TypeWords
 pub mod Reading
+pub mod OneTree

@@ -1,5 +1,5 @@
 -- What a part of the grammar reads of a file's tokens.
-use Rattle.std.specs.Prelude.{◌≡◌, ◌≢◌, drop, List, [], ◌∷◌, ◌++◌}
+use Rattle.std.specs.Prelude.{true, string_bytes, ◌≡◌, ◌≢◌, drop, List, [], ◌∷◌, ◌++◌}
 use Rattle.widl_text.specs.declared.place.Place.{Place}
 use Rattle.widl_idl.specs.declared.tree.names.Name.{Name}
 use Rattle.widl_lex.specs.Tokens.{Lexeme}
@@ -8,7 +8,7 @@ use Rattle.widl_grammar.specs.declared.terminal.Terminal.{Terminal}
 use Rattle.widl_grammar.specs.declared.terminal.Terminal.TheVariants.{Other}
 use Rattle.widl_grammar.specs.Source.{terminal_of}
 pub use Rattle.widl_syntax.specs.Deriving.{Symbols, token, part, Runs}
-use Rattle.widl_syntax.specs.SpelledNames.{name_bytes}
+use Rattle.widl_syntax.specs.SpelledNames.{name_bytes, is_escape_apart}
 use Rattle.widl_syntax.specs.Signs.{Sign, Spells, all_signs}
 
 -- where the tokens are what the symbols derive before any others, the signs stand for those of the symbols, and `to` is what the others derive
@@ -49,3 +49,4 @@ pub record IsPassedBy (t : Terminal) (from to : List Lexeme) : Type 0 where
 pub record IsName (name : Name) (from to : List Lexeme) : Type 0 where
   pub taken : IsTaken name.at from to
   pub bytes : IfAhead from (λ l. name_bytes name ≡ l.text)
+  pub escape : IfAhead from (λ l. is_escape_apart name.escaped (string_bytes name.text) ≡ true)

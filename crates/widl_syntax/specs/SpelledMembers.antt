@@ -24,6 +24,7 @@ use Rattle.widl_idl.specs.declared.tree.operations.OperationKind.TheVariants as 
 use Rattle.widl_idl.specs.declared.tree.operations.SpecialWord.{SpecialWord}
 use Rattle.widl_idl.specs.declared.tree.types.AnnotatedType.{AnnotatedType}
 use Rattle.widl_idl.specs.declared.tree.operations.SpecialWord.TheVariants.{Getter, Setter, Deleter}
+use Rattle.widl_grammar.specs.declared.rule.Rule.TheVariants.{ArgumentName, AttributeName}
 use Rattle.widl_grammar.specs.declared.terminal.Terminal.{Terminal}
 use Rattle.widl_grammar.specs.declared.terminal.Terminal.TheVariants as t
 use Rattle.widl_syntax.specs.Signs.{Sign, at, word, separated, ◌⧺◌}
@@ -37,7 +38,7 @@ argument_rest (argument_kind.Optional default) ty name = word t.Optional ⧺ ann
 argument_rest (argument_kind.Variadic place) ty name = bare_type ty ⧺ at place ⧺ word t.Ellipsis ⧺ name
 
 abbrev pub argument : Argument → List Sign
-argument a = extended_attributes a.attributes ⧺ argument_rest a.kind a.ty (any_name a.name)
+argument a = extended_attributes a.attributes ⧺ argument_rest a.kind a.ty (any_name ArgumentName a.name)
 
 abbrev pub in_parentheses : List Argument → List Sign
 in_parentheses all = word t.OpenParen ⧺ separated t.Comma argument all ⧺ word t.CloseParen
@@ -58,7 +59,7 @@ attribute_word (attribute_kind.Stringifier place) = at place ⧺ word t.Stringif
 
 -- an attribute from the word `attribute` on
 abbrev pub attribute_rest : Attribute → List Sign
-attribute_rest a = word t.Attribute ⧺ annotated_type a.ty ⧺ any_name a.name ⧺ word t.Semicolon
+attribute_rest a = word t.Attribute ⧺ annotated_type a.ty ⧺ any_name AttributeName a.name ⧺ word t.Semicolon
 
 abbrev pub attribute : Attribute → List Sign
 attribute a = attribute_word a.kind ⧺ word_if a.readonly t.Readonly ⧺ attribute_rest a

@@ -1,31 +1,57 @@
 -- The signs of names, extended attributes and literals.
-use Rattle.std.specs.Prelude.{ℕ, Bool, true, false, Option, None, Some, List, [], ◌∷◌, ◌++◌, if◌then◌else◌, string_bytes, map}
+use Rattle.std.specs.List.{list_any}
+use Rattle.std.specs.Prelude.{nat_eq, not, ℕ, Bool, true, false, Option, None, Some, List, [], ◌∷◌, ◌++◌, if◌then◌else◌, string_bytes, map}
 use Rattle.widl_idl.specs.declared.tree.extended_attributes.ExtendedAttribute.{ExtendedAttribute}
 use Rattle.widl_idl.specs.declared.tree.extended_attributes.SourceToken.{SourceToken}
 use Rattle.widl_idl.specs.declared.tree.literals.Literal.{Literal}
 use Rattle.widl_idl.specs.declared.tree.literals.LiteralValue.{LiteralValue}
 use Rattle.widl_idl.specs.declared.tree.literals.LiteralValue.TheVariants as value
 use Rattle.widl_idl.specs.declared.tree.names.Name.{Name}
-use Rattle.widl_grammar.specs.declared.rule.Rule.TheVariants.{ExtendedAttributeRest}
+use Rattle.widl_predictive.specs.declared.grammar.Symbol.{Symbol}
+use Rattle.widl_predictive.specs.declared.grammar.Symbol.TheVariants.{Token}
+use Rattle.widl_grammar.specs.declared.rule.Rule.{Rule}
+use Rattle.widl_grammar.specs.declared.rule.Rule.TheVariants.{ExtendedAttributeRest, OperationName}
 use Rattle.widl_grammar.specs.declared.terminal.Terminal.{Terminal}
 use Rattle.widl_grammar.specs.declared.terminal.Terminal.TheVariants.{Identifier, Integer, Decimal, String, Equals, Comma, OpenBracket, CloseBracket, OpenBrace, CloseBrace, Null, Undefined, True, False, Infinity, MinusInfinity, Nan}
-use Rattle.widl_syntax.specs.Signs.{Sign, Text, OfBytes, OfText, OfPart, at, word, separated, ◌⧺◌}
+use Rattle.widl_grammar.specs.Rows.{rows_of}
+use Rattle.widl_grammar.specs.Terminals.{terminal_code}
+use Rattle.widl_syntax.specs.Signs.{Sign, Text, OfBytes, OfText, OfPart, Nowhere, at, word, separated, ◌⧺◌}
 
 -- the bytes of a name, with the `_` before it
 abbrev pub name_bytes : Name → List ℕ
 name_bytes name = if name.escaped then 0x5F ∷ string_bytes name.text else string_bytes name.text
 
+-- a `_` before a name is no part of its text
+abbrev pub is_escape_apart : Bool → List ℕ → Bool
+is_escape_apart true text = true
+is_escape_apart false [] = true
+is_escape_apart false (b ∷ more) = not (nat_eq b 0x5F)
+
+-- no more tokens; and where a name has the `_` before it in its text, it has no spelling
+abbrev pub escape_apart : Name → List Sign
+escape_apart name = if is_escape_apart name.escaped (string_bytes name.text) then [] else Nowhere ∷ []
+
 -- an identifier
 abbrev pub identifier : Name → List Sign
-identifier name = at name.at ⧺ OfBytes Identifier (name_bytes name) ∷ []
+identifier name = at name.at ⧺ OfBytes Identifier (name_bytes name) ∷ escape_apart name
 
--- an identifier or a word that is allowed as a name
-abbrev pub any_name : Name → List Sign
-any_name name = at name.at ⧺ OfText (name_bytes name) ∷ []
+-- the row is one token of the terminal
+abbrev pub is_row_of : Terminal → List (Symbol Terminal Rule) → Bool
+is_row_of t [] = false
+is_row_of t (Token a ∷ []) = nat_eq (terminal_code a) (terminal_code t)
+is_row_of t (symbol ∷ more) = false
+
+-- a token of the terminal is a part of the rule by itself
+abbrev pub is_word_of : Rule → Terminal → Bool
+is_word_of rule t = list_any (is_row_of t) (rows_of rule)
+
+-- an identifier or a word that the rule allows as a name
+abbrev pub any_name : Rule → Name → List Sign
+any_name rule name = at name.at ⧺ OfText (is_word_of rule) (name_bytes name) ∷ escape_apart name
 
 abbrev pub optional_name : Option Name → List Sign
 optional_name None = []
-optional_name (Some name) = any_name name
+optional_name (Some name) = any_name OperationName name
 
 abbrev pub word_if : Bool → Terminal → List Sign
 word_if true t = word t

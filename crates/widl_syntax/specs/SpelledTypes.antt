@@ -16,7 +16,7 @@ use Rattle.widl_idl.specs.declared.tree.types.WrittenType.{WrittenType}
 use Rattle.widl_idl.specs.TypeTrees.{FormTree, TypeTree, AnnotatedTree, MemberTrees, AnyForm, UndefinedForm, BooleanForm, ObjectForm, SymbolForm, BigIntForm, IntegerForm, FloatForm, TextForm, BufferForm, NamedForm, ContainerForm, RecordForm, PromiseForm, UnionForm, type_tree, annotated_tree, no_members, more_members, tree_of_type, tree_of_annotated}
 use Rattle.widl_grammar.specs.declared.terminal.Terminal.{Terminal}
 use Rattle.widl_grammar.specs.declared.terminal.Terminal.TheVariants as t
-use Rattle.widl_syntax.specs.Signs.{Sign, at, word, separated, ◌⧺◌}
+use Rattle.widl_syntax.specs.Signs.{Sign, Nowhere, at, word, separated, ◌⧺◌}
 use Rattle.widl_syntax.specs.SpelledNames.{identifier, extended_attributes}
 
 abbrev pub integer_words : IntKind → List Sign
@@ -107,10 +107,10 @@ written_type ty = type_signs (tree_of_type ty)
 abbrev pub annotated_type : AnnotatedType → List Sign
 annotated_type ty = annotated_signs (tree_of_annotated ty)
 
--- a type where no extended attributes may stand: with some of its own it would be a token that no sentence has
+-- a type where no extended attributes may stand: with some of its own it has no spelling
 abbrev pub bare_signs : AnnotatedTree → List Sign
 bare_signs (annotated_tree place [] inner) = at place ⧺ type_signs inner
-bare_signs (annotated_tree place (a ∷ more) inner) = word t.Other
+bare_signs (annotated_tree place (a ∷ more) inner) = Nowhere ∷ []
 
 abbrev pub bare_type : AnnotatedType → List Sign
 bare_type ty = bare_signs (tree_of_annotated ty)

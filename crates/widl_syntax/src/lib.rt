@@ -8,6 +8,7 @@
 
 mod build;
 mod fragment;
+pub mod laws;
 
 pub use fragment::parse;
 pub use widl_grammar::SyntaxFault;

@@ -1,10 +1,10 @@
 //! Names and other texts.
 
-ghost use Rattle.std.specs.Prelude.{◌≡◌, ℕ, List, ◌∷◌, if◌then◌else◌, IfOk, IsUtf8, drop, length, string_bytes};
+ghost use Rattle.std.specs.Prelude.{◌≡◌, ℕ, true, List, ◌∷◌, if◌then◌else◌, IfOk, IsUtf8, drop, length, string_bytes};
 ghost use Rattle.widl_grammar.specs.declared.terminal.Terminal.TheVariants as terminal;
 ghost use Rattle.widl_grammar.specs.Source.{terminal_of};
 ghost use Rattle.widl_syntax.specs.Reading.{IfAhead, IsTaken, IsName};
-ghost use Rattle.widl_syntax.specs.SpelledNames.{name_bytes, quoted_bytes};
+ghost use Rattle.widl_syntax.specs.SpelledNames.{name_bytes, is_escape_apart, quoted_bytes};
 
 use super::Reader;
 use std::alloc::{AllocError, Global};
@@ -21,6 +21,7 @@ fn owned(alloc: Global, text: &[u8]) -> Result<String, AllocError>
 fn unescaped(text: &[u8]) -> (bool, &[u8])
     ensures bytes { (if result.0 then 0x5F ∷ result.1.now else result.1.now) ≡ text.now }
     ensures utf8 { IsUtf8 text.now → IsUtf8 result.1.now }
+    ensures escape { is_escape_apart result.0 result.1.now ≡ true }
 {
     match text {
         [b'_', name @ ..] => (true, name),

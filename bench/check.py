@@ -1,0 +1,94 @@
+#!/usr/bin/env python3
+"""Measures the words `check` on realistic and on hostile sets of files.
+
+Run at the top of the repository, after `rt run` in crates/widl_cli has built the program:
+
+    python3 bench/check.py
+
+It prints, for each set, the milliseconds, those a MiB and how many times the realistic file's that is, the memory at
+the peak, and the line that the program writes. Times are those of the processor (user and system), the least of three runs, without the start
+of the program.
+"""
+import os
+import subprocess
+import sys
+import tempfile
+
+MIB = 1 << 20
+PROGRAM = os.path.abspath("crates/widl_cli/out/widl_cli")
+
+
+def run(files):
+    child = subprocess.Popen([PROGRAM, "check", *files], stdout=subprocess.PIPE)
+    line = child.stdout.read().decode().strip()
+    _, status, usage = os.wait4(child.pid, 0)
+    child.returncode = status
+    return usage.ru_utime + usage.ru_stime, usage.ru_maxrss / 1024, line
+
+
+def pack(items):
+    """Files of at most 1 MiB each that hold these definitions in order."""
+    files, size, part = [], 0, []
+    for item in items:
+        if size + len(item) > MIB:
+            files.append("".join(part))
+            size, part = 0, []
+        part.append(item)
+        size += len(item)
+    return files + ["".join(part)]
+
+
+def numbered(form, count):
+    return [form.format(this=number, next=number + 1) for number in range(count)]
+
+
+def hostile():
+    operations = "".join(f"undefined f{number}();" for number in range(1000))
+    included = "".join(f"interface A{number}{{}};A{number} includes M;" for number in range(998))
+    return {
+        "3,000,000 definitions": pack(numbered("typedef long T{this};", 3_000_000)),
+        "60,000 interfaces in one chain": pack(numbered("interface A{this}:A{next}{{}};", 60_000) + ["interface A60000{};"]),
+        "the same, parents first": pack(["interface A0{};"] + numbered("interface A{next}:A{this}{{}};", 60_000)),
+        "typedefs in one chain": pack(numbered("typedef A{next} A{this};", 45_000) + ["typedef long A45000;"]),
+        "the same, the other way": pack(["typedef long A0;"] + numbered("typedef A{this} A{next};", 45_000)),
+        "typedefs in one circle": pack(numbered("typedef A{next} A{this};", 45_000) + ["typedef A0 A45000;"]),
+        "500,000 partials of one interface": pack(["interface A{};"] + ["partial interface A{};"] * 500_000),
+        "a mixin in 998 interfaces": pack([f"interface mixin M{{{operations}}};{included}"]),
+        "one name in 45,000 definitions": pack(["interface ABC {};"] * 45_000),
+        "130,000 operations of one name": pack(["interface A{" + "any a();" * 130_000 + "};"]),
+    }
+
+
+def main():
+    with tempfile.TemporaryDirectory() as folder:
+        def written(texts):
+            names = []
+            for number, text in enumerate(texts):
+                names.append(os.path.join(folder, f"{number}.idl"))
+                with open(names[-1], "w", encoding="utf-8") as out:
+                    out.write(text)
+            return names
+
+        start = min(run(written([""]))[0] for _ in range(10))
+        print("| set | MiB | ms | ms a MiB | times realistic | peak MiB | line |\n|---|---|---|---|---|---|---|")
+        whole = None
+        for count in (1, 4, 16, 64):
+            texts = [
+                subprocess.run([sys.executable, "bench/make_idl.py", str(MIB - 4096), str(seed)], check=True, stdout=subprocess.PIPE, text=True).stdout
+                for seed in range(count)
+            ]
+            sets = {f"realistic, {count} files": texts}
+            if count == 64:
+                sets.update(hostile())
+            for title, parts in sets.items():
+                names = written(parts)
+                size = sum(os.path.getsize(name) for name in names) / MIB
+                runs = [run(names) for _ in range(3)]
+                time = (min(r[0] for r in runs) - start) * 1e3
+                cost = time / size
+                whole = whole or cost
+                print(f"| {title} | {size:.1f} | {time:.0f} | {cost:.1f} | {cost / whole:.1f} | {runs[0][1]:.0f} | `{runs[0][2]}` |", flush=True)
+
+
+if __name__ == "__main__":
+    main()

@@ -1,0 +1,13 @@
+pub mod Building
+pub mod Closing
+pub mod Complete
+pub mod Ending
+pub mod Entering
+pub mod Gets
+pub mod Leaving
+pub mod Moving
+pub mod Orders
+pub mod Parts
+pub mod Passing
+pub mod Reach
+pub mod Tops

@@ -1,0 +1,105 @@
+-- The least over a list, an item at a time; and of joined rules, a rule at a time.
+use Rattle.std.proofs.Common.{◌≡◌, ◌⊎◌, inl, inr, ℕ, ◌+◌, ◌<◌, Bool, true, false, cond, List, [], ◌∷◌, length, take, get_or, slice_get, slice_index_or, zero, suc, Option, None, Some, arith, refl, sym, ap, subst, ◌∙◌, nat_lt}
+use Rattle.std.proofs.lemmas.Option.{slice_get_read}
+use Rattle.widl_idl.specs.declared.refusal.Refusal.{Refusal}
+use Rattle.widl_idl.specs.declared.spot.Spot.{Spot}
+use Rattle.widl_idl.specs.Least.{Before, lesser, IsLeast, LeastWhere, Upto, AtOne}
+use Rattle.widl_idl.specs.LeastRefusal.{Earlier, is_earlier, refusal_at, spot_of, join, Broken, IsLeastBroken, LeastBroken, SameRefusal}
+use Rattle.widl_idl.proofs.Order.{Either, least_either, neither_before}
+
+module _ {X : Type 0} (P : List X → X → Spot → Type 0) (xs : List X) where
+  pub least_start : LeastWhere (Upto P xs 0) None
+  least_start = λ q u. absurd (let h = u.below in omega arith)
+
+  some_is : {x y : X} → Some x ≡ Some y → x ≡ y
+  some_is e = (cc)
+
+  by_index : (n : ℕ) (x : X) (s : Spot) → slice_get xs n ≡ Some x → (u : Upto P xs (n + 1) s) → (b : Bool) → nat_lt u.index n ≡ b → Upto P xs n s ⊎ P (take n xs) x s
+  by_index n x s is u true h = inl (record { index = u.index; below = grind arith; item = u.item; is = u.is; breaks = u.breaks })
+  by_index n x s is u false h = let h2 = u.below in let e : u.index ≡ n = grind arith in inr (subst (λ k. P (take k xs) x s) e (subst (λ y. P (take u.index xs) y s) (some_is (sym u.is ∙ ap (slice_get xs) e ∙ is)) u.breaks))
+
+  either_item : (n : ℕ) (x : X) → slice_get xs n ≡ Some x → Either (Upto P xs n) (P (take n xs) x) (Upto P xs (n + 1))
+  either_item n x is = record { left = λ s u. record { index = u.index; below = (let h = u.below in omega arith); item = u.item; is = u.is; breaks = u.breaks }; right = λ s b. record { index = n; below = omega arith; item = x; is = is; breaks = b }; only = λ s u. by_index n x s is u (nat_lt u.index n) refl }
+
+  -- one item more
+  pub least_item : (n : ℕ) (x : X) (best found : Option Spot) → slice_get xs n ≡ Some x → LeastWhere (Upto P xs n) best → LeastWhere (P (take n xs) x) found → LeastWhere (Upto P xs (n + 1)) (lesser best found)
+  least_item n x best found is l m = least_either (Upto P xs n) (P (take n xs) x) (Upto P xs (n + 1)) (either_item n x is) best found l m
+
+  -- the same, as a loop over the items has it
+  pub least_next : (n : ℕ) (x : X) (best found now : Option Spot) → n < length xs → x ≡ get_or xs n x → LeastWhere (Upto P xs n) best → LeastWhere (P (take n xs) x) found → now ≡ lesser best found → LeastWhere (Upto P xs (n + 1)) now
+  least_next n x best found now l is m h e = subst (LeastWhere (Upto P xs (n + 1))) (sym e) (least_item n x best found (slice_get_read xs (length xs) n x refl l is) m h)
+
+  -- after the last item
+  pub least_all : (n : ℕ) (best : Option Spot) → n ≡ length xs → LeastWhere (Upto P xs n) best → LeastWhere (AtOne P xs) best
+  least_all n best e m = subst (λ k. LeastWhere (Upto P xs k) best) e m
+
+pub earlier_trans : (p q r : Refusal) → Earlier p q → Earlier q r → Earlier p r
+earlier_trans p q r a b = grind arith
+
+-- what the test tells where it holds
+pub earlier_of : (p q : Refusal) → is_earlier p q ≡ true → Earlier p q
+earlier_of p q e = grind arith
+
+-- what it tells where it does not: what is earlier than p is earlier than q too
+pub not_earlier : (p q r : Refusal) → is_earlier q p ≡ false → Earlier r p → Earlier r q
+not_earlier p q r e a = grind arith
+
+-- refusals of which neither is earlier are at one place, by a rule of one number
+pub neither_earlier : (r s : Refusal) → (Earlier r s → ⊥) → (Earlier s r → ⊥) → SameRefusal (Some r) (Some s)
+neither_earlier r s a b =
+    let one_place : r.at ≡ s.at = neither_before r.at s.at (λ h. a (inl h)) (λ h. b (inl h)) in
+    let one_file : r.at.file ≡ s.at.file = ap (λ p. p.file) one_place in
+    let one_offset : r.at.at ≡ s.at.at = ap (λ p. p.at) one_place in
+    let not_below : r.rule < s.rule → ⊥ = λ h. a (inr (one_file, one_offset, h)) in
+    let not_above : s.rule < r.rule → ⊥ = λ h. b (inr (sym one_file, sym one_offset, h)) in
+    (one_file, one_offset, omega (arith, not_below, not_above))
+
+module _ {R : Type 0} (number : R → ℕ) (Breaks : R → Spot → Type 0) where
+  pub no_rules : LeastBroken number Breaks [] None
+  no_rules = λ s b. absurd (omega (arith, b.listed.1))
+
+  -- there is one least refusal, but for the other place that it speaks of
+  pub same_refusal : (rules : List R) (a b : Option Refusal) → LeastBroken number Breaks rules a → LeastBroken number Breaks rules b → SameRefusal a b
+  same_refusal rules None None l m = tt
+  same_refusal rules None (Some s) l m = absurd (l s m.broken)
+  same_refusal rules (Some r) None l m = absurd (m r l.broken)
+  same_refusal rules (Some r) (Some s) l m = neither_earlier r s (m.first r l.broken) (l.first s m.broken)
+
+module _ {R : Type 0} (number : R → ℕ) (Breaks : R → Spot → Type 0) (rule : R) (rules : List R) where
+  pub head_broken : (s : Spot) → Breaks rule s → Broken number Breaks (rule ∷ rules) (refusal_at (number rule) s)
+  head_broken s b = record { which = rule; listed = (0, omega arith, refl); numbered = refl; breaks = b }
+
+  pub tail_broken : (r : Refusal) → Broken number Breaks rules r → Broken number Breaks (rule ∷ rules) r
+  tail_broken r b = record { which = b.which; listed = (suc b.listed.0, omega (arith, b.listed.1), b.listed.2); numbered = b.numbered; breaks = b.breaks }
+
+  pub broken_parts : (r : Refusal) → Broken number Breaks (rule ∷ rules) r → ((number rule ≡ r.rule) × Breaks rule (spot_of r)) ⊎ Broken number Breaks rules r
+  broken_parts r b = by_place b.listed.0 b.listed.1 b.listed.2
+    where
+      by_place : (k : ℕ) → k < length (rule ∷ rules) → slice_index_or (rule ∷ rules) k b.which ≡ b.which → ((number rule ≡ r.rule) × Breaks rule (spot_of r)) ⊎ Broken number Breaks rules r
+      by_place zero l e = inl (ap number e ∙ b.numbered, subst (λ n. Breaks n (spot_of r)) (sym e) b.breaks)
+      by_place (suc k) l e = inr (record { which = b.which; listed = (k, omega arith, e); numbered = b.numbered; breaks = b.breaks })
+
+  not_same_rule : (s : Spot) (r : Refusal) → number rule ≡ r.rule → Earlier r (refusal_at (number rule) s) → Before r.at s.at
+  not_same_rule s r e before = grind arith
+
+  first_here : (s : Spot) → IsLeast (Breaks rule) s → (r : Refusal) → number rule ≡ r.rule → Breaks rule (spot_of r) → Earlier r (refusal_at (number rule) s) → ⊥
+  first_here s l r e b before = l.first (spot_of r) b (not_same_rule s r e before)
+
+  joined_one : (s : Spot) (best : Refusal) (b : Bool) → is_earlier (refusal_at (number rule) s) best ≡ b → IsLeast (Breaks rule) s → IsLeastBroken number Breaks rules best → LeastBroken number Breaks (rule ∷ rules) (cond b (Some (refusal_at (number rule) s)) (Some best))
+  joined_one s best true is l m = record { broken = head_broken s l.holds; first = λ r b before. elim (broken_parts r b) [ inl h ↦ first_here s l r h.0 h.1 before | inr t ↦ m.first r t (earlier_trans r (refusal_at (number rule) s) best before (earlier_of (refusal_at (number rule) s) best is)) ] }
+  joined_one s best false is l m = record { broken = tail_broken best m.broken; first = λ r b before. elim (broken_parts r b) [ inl h ↦ first_here s l r h.0 h.1 (not_earlier best (refusal_at (number rule) s) r is before) | inr t ↦ m.first r t before ] }
+
+  -- one rule more: the least of a joined list is the lesser of the least of its parts
+  pub least_joined : (found : Option Spot) (best : Option Refusal) → LeastWhere (Breaks rule) found → LeastBroken number Breaks rules best → LeastBroken number Breaks (rule ∷ rules) (join (number rule) found best)
+  least_joined None None l m = λ r b. elim (broken_parts r b) [ inl h ↦ l (spot_of r) h.1 | inr t ↦ m r t ]
+  least_joined None (Some best) l m = record { broken = tail_broken best m.broken; first = λ r b before. elim (broken_parts r b) [ inl h ↦ absurd (l (spot_of r) h.1) | inr t ↦ m.first r t before ] }
+  least_joined (Some s) None l m = record { broken = head_broken s l.holds; first = λ r b before. elim (broken_parts r b) [ inl h ↦ first_here s l r h.0 h.1 before | inr t ↦ absurd (m r t) ] }
+  least_joined (Some s) (Some best) l m = joined_one s best (is_earlier (refusal_at (number rule) s) best) refl l m
+
+  -- the same, as the joining function has it
+  pub least_rule : (found : Option Spot) (best now : Option Refusal) → LeastWhere (Breaks rule) found → now ≡ join (number rule) found best → LeastBroken number Breaks rules best → LeastBroken number Breaks (rule ∷ rules) now
+  least_rule found best now l e m = subst (LeastBroken number Breaks (rule ∷ rules)) (sym e) (least_joined found best l m)
+
+  -- the same, where the number of the rule was computed before
+  pub least_rule_by : (printed : ℕ) (found : Option Spot) (best now : Option Refusal) → printed ≡ number rule → LeastWhere (Breaks rule) found → now ≡ join printed found best → LeastBroken number Breaks rules best → LeastBroken number Breaks (rule ∷ rules) now
+  least_rule_by printed found best now is l e m = least_rule found best now l (e ∙ ap (λ n. join n found best) is) m

@@ -1,0 +1,55 @@
+-- The order of places, the least spot at which something holds, and what holds at one of the items of a list.
+use Rattle.std.specs.Prelude.{◌≡◌, ◌⊎◌, ℕ, ◌<◌, Bool, ◌&&◌, ◌||◌, nat_lt, nat_eq, List, Contains, length, take, slice_get, Option, None, Some, if◌then◌else◌}
+use Rattle.std.specs.Option.{option_map}
+use Rattle.widl_text.specs.declared.place.Place.{Place}
+use Rattle.widl_idl.specs.declared.spot.Spot.{Spot}
+
+-- p stands before q: in a file named before, or before it in the same file
+abbrev pub Before : Place → Place → Type 0
+Before p q = (p.file < q.file) ⊎ ((p.file ≡ q.file) × (p.at < q.at))
+
+-- the same as a test
+abbrev pub is_before : Place → Place → Bool
+is_before p q = nat_lt p.file q.file || (nat_eq p.file q.file && nat_lt p.at q.at)
+
+-- a spot that speaks of no other place
+abbrev pub spot_at : Place → Spot
+spot_at p = record { at = p; other = None }
+
+-- the spot at the lesser place, of two that may be absent; of two at one place the first
+abbrev pub lesser : Option Spot → Option Spot → Option Spot
+lesser None found = found
+lesser (Some best) None = Some best
+lesser (Some best) (Some found) = if is_before found.at best.at then Some found else Some best
+
+-- the place of a spot, where there is a spot
+abbrev pub place_of : Option Spot → Option Place
+place_of found = option_map (λ s. s.at) found
+
+-- P holds at s, and at no spot whose place stands before
+pub record IsLeast (P : Spot → Type 0) (s : Spot) : Type 0 where
+  pub holds : P s
+  pub first : (t : Spot) → P t → Before t.at s.at → ⊥
+
+-- a spot at the least place at which P holds, or none where it holds nowhere
+abbrev pub LeastWhere : (P : Spot → Type 0) → Option Spot → Type 0
+LeastWhere P None = (t : Spot) → P t → ⊥
+LeastWhere P (Some s) = IsLeast P s
+
+-- one of the first n items, seen with those before it, breaks at s
+pub record Upto {X : Type 0} (P : List X → X → Spot → Type 0) (xs : List X) (n : ℕ) (s : Spot) : Type 0 where
+  pub index : ℕ
+  pub below : index < n
+  pub item : X
+  pub is : slice_get xs index ≡ Some item
+  pub breaks : P (take index xs) item s
+
+-- one of the items, seen with those before it, breaks at s
+abbrev pub AtOne : {X : Type 0} → (P : List X → X → Spot → Type 0) → List X → Spot → Type 0
+AtOne P xs s = Upto P xs (length xs) s
+
+-- one of the items breaks at s, whatever stands before it
+pub record Somewhere {X : Type 0} (P : X → Spot → Type 0) (xs : List X) (s : Spot) : Type 0 where
+  pub item : X
+  pub listed : Contains xs item
+  pub breaks : P item s

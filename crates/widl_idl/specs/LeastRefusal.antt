@@ -1,0 +1,55 @@
+-- The least refusal by a list of rules, over any type of rules with their numbers.
+use Rattle.std.specs.Prelude.{◌≡◌, ◌⊎◌, ℕ, ◌<◌, List, Contains, Bool, ◌&&◌, ◌||◌, nat_lt, nat_eq, Option, None, Some, if◌then◌else◌}
+use Rattle.widl_idl.specs.declared.refusal.Refusal.{Refusal}
+use Rattle.widl_idl.specs.declared.spot.Spot.{Spot}
+use Rattle.widl_idl.specs.Least.{Before, is_before}
+
+-- r is at a place before that of s, or at the same place by a rule with a lower number
+abbrev pub Earlier : Refusal → Refusal → Type 0
+Earlier r s = Before r.at s.at ⊎ ((r.at.file ≡ s.at.file) × (r.at.at ≡ s.at.at) × (r.rule < s.rule))
+
+-- the same as a test
+abbrev pub is_earlier : Refusal → Refusal → Bool
+is_earlier r s = is_before r.at s.at || (nat_eq r.at.file s.at.file && (nat_eq r.at.at s.at.at && nat_lt r.rule s.rule))
+
+-- the refusal by the rule of this number, which is broken at the spot
+abbrev pub refusal_at : ℕ → Spot → Refusal
+refusal_at number s = record { rule = number; at = s.at; other = s.other }
+
+-- the spot of a refusal
+abbrev pub spot_of : Refusal → Spot
+spot_of r = record { at = r.at; other = r.other }
+
+-- the earlier of what was found before and of this rule's spot
+abbrev pub join : ℕ → Option Spot → Option Refusal → Option Refusal
+join number None best = best
+join number (Some s) None = Some (refusal_at number s)
+join number (Some s) (Some best) = if is_earlier (refusal_at number s) best then Some (refusal_at number s) else Some best
+
+-- one of the rules is broken as the refusal says
+pub record Broken {R : Type 0} (number : R → ℕ) (Breaks : R → Spot → Type 0) (rules : List R) (r : Refusal) : Type 0 where
+  pub which : R
+  pub listed : Contains rules which
+  pub numbered : number which ≡ r.rule
+  pub breaks : Breaks which (spot_of r)
+
+-- one of the rules is broken as the refusal says, and none is broken earlier
+pub record IsLeastBroken {R : Type 0} (number : R → ℕ) (Breaks : R → Spot → Type 0) (rules : List R) (r : Refusal) : Type 0 where
+  pub broken : Broken number Breaks rules r
+  pub first : (s : Refusal) → Broken number Breaks rules s → Earlier s r → ⊥
+
+-- the least refusal by these rules, or none where none of them is broken
+abbrev pub LeastBroken : {R : Type 0} → (number : R → ℕ) → (Breaks : R → Spot → Type 0) → List R → Option Refusal → Type 0
+LeastBroken number Breaks rules None = (s : Refusal) → Broken number Breaks rules s → ⊥
+LeastBroken number Breaks rules (Some r) = IsLeastBroken number Breaks rules r
+
+-- both are absent, or both are at one place by a rule of one number
+abbrev pub SameRefusal : Option Refusal → Option Refusal → Type 0
+SameRefusal None None = Unit {0}
+SameRefusal (Some r) (Some s) = (r.at.file ≡ s.at.file) × (r.at.at ≡ s.at.at) × (r.rule ≡ s.rule)
+SameRefusal r s = ⊥
+
+-- the refusal of the first phase that has one
+abbrev pub first_of : Option Refusal → Option Refusal → Option Refusal
+first_of None second = second
+first_of (Some first) second = Some first

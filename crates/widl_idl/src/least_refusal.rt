@@ -1,0 +1,39 @@
+//! The least refusal by a list of rules, a rule at a time.
+
+ghost use Rattle.std.specs.Prelude.{◌≡◌};
+ghost use Rattle.widl_idl.specs.LeastRefusal.{is_earlier, join};
+
+use crate::refusal::Refusal;
+use crate::spot::{Spot, comes_before};
+
+/// Of the least refusal by the rules before and of the refusal by this rule, the one that comes
+/// first: by file, then by offset, then by the number of the rule. `found` is the least spot at
+/// which this rule is broken. `best` where both agree in all three.
+pub fn joined(rule: u8, found: Option<Spot>, best: Option<Refusal>) -> Option<Refusal>
+    ensures { result ≡ join rule found best }
+{
+    match found {
+        None => best,
+        Some(spot) => {
+            let refusal = Refusal {
+                rule,
+                at: spot.at,
+                other: spot.other,
+            };
+            match best {
+                None => Some(refusal),
+                Some(b) => if comes_earlier(refusal, b) {
+                    Some(refusal)
+                } else {
+                    best
+                },
+            }
+        }
+    }
+}
+
+fn comes_earlier(r: Refusal, s: Refusal) -> bool
+    ensures { result ≡ is_earlier r s }
+{
+    comes_before(r.at, s.at) || r.at.file == s.at.file && r.at.at == s.at.at && r.rule < s.rule
+}

@@ -1,0 +1,8 @@
+use Rattle.std.proofs.Common.{take}
+use Rattle.widl_merge.specs.PartTables.{listed_parts}
+use Rattle.widl_merge.specs.Repeats.{has_name}
+use Rattle.widl_merge.proofs.Known.{Repeated}
+use Rattle.widl_merge.proofs.operations.first_repeated.Given as goal
+
+abbrev pub invariant-loop-part : goal.invariant-loop-part
+invariant-loop-part l = Repeated (has_name l.known.regular l.known.fixed) (listed_parts (take l.part-index l.parts)) l.best

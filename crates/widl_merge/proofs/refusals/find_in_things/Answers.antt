@@ -1,0 +1,16 @@
+use Rattle.std.proofs.Common.{refl, subst, Some, None}
+use Rattle.widl_idl.specs.LeastRefusal.{LeastBroken}
+use Rattle.widl_idl.specs.Profile.{LeavesOut, profile_number, profile_rules}
+use Rattle.widl_merge.specs.Listings.{listed_definitions}
+use Rattle.widl_merge.specs.Refusals.{IsProfileRefusal}
+use Rattle.widl_merge.proofs.refusals.find_in_things.Goals as goal
+
+pub returns-in-Some : goal.returns-in-Some
+returns-in-Some c =
+    let left = subst (λ things. LeastBroken profile_number (LeavesOut things) profile_rules c.first_left_out.result) c.requires c.first_left_out.ensures in
+    record { profile = Some c.in-Some.refusal; profile_is = subst (IsProfileRefusal (listed_definitions c.args.definitions.now)) c.in-Some.is left; behind = refl }
+
+pub returns-in_ok-first_unmerged-in-None : goal.returns-in_ok-first_unmerged-in-None
+returns-in_ok-first_unmerged-in-None c =
+    let left = subst (λ things. LeastBroken profile_number (LeavesOut things) profile_rules c.first_left_out.result) c.requires c.first_left_out.ensures in
+    record { profile = None; profile_is = subst (IsProfileRefusal (listed_definitions c.args.definitions.now)) c.in-None.is left; behind = c.in_ok-first_unmerged-in-None.ensures }

@@ -1,0 +1,9 @@
+pub mod Listings
+pub mod Refusals
+pub mod Numbers
+pub mod NameRules
+pub mod Portions
+pub mod PartTables
+pub mod Repeats
+pub mod Links
+pub mod Depths

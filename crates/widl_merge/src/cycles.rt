@@ -1,0 +1,63 @@
+//! Definitions that links between them lead back to.
+
+ghost use Rattle.std.specs.Prelude.{◌≡◌, ◌↔◌, ◌++◌, ◌∷◌, [], ℕ, List, IsTrue, OnOk, Some, slice_get, true};
+ghost use Rattle.widl_graph.specs.Reaching.{TellsCyclic};
+ghost use Rattle.widl_idl.specs.Least.{LeastWhere};
+ghost use Rattle.widl_idl.specs.MergingRules.{ComesBack};
+ghost use Rattle.widl_idl.specs.PlainTrees.{definition_of};
+ghost use Rattle.widl_merge.specs.Links.{Returns};
+ghost use Rattle.widl_merge.specs.Listings.{listed_definitions};
+
+use crate::names::name_declared;
+use std::alloc::AllocError;
+use widl_graph::Graph;
+use widl_idl::tree::Definition;
+use widl_idl::{Spot, lesser_spot};
+
+/// The least place of the name of a definition that comes back to itself, where a flag for each tells
+/// which do.
+pub fn first_coming_back(cyclic: &[bool], definitions: &[&Definition]) -> Option<Spot>
+    ensures { (links : List (List ℕ)) → TellsCyclic links cyclic.now → LeastWhere (ComesBack links (listed_definitions definitions.now)) result }
+{
+    let mut best = None;
+    for (number, definition) in definitions.iter().enumerate() {
+        let found = coming_back(cyclic, number, definition);
+        best = lesser_spot(best, found);
+    }
+    best
+}
+
+/// The place of the name of the definition with this number, if it comes back to itself.
+fn coming_back(cyclic: &[bool], number: usize, definition: &Definition) -> Option<Spot>
+    ensures { (links : List (List ℕ)) → TellsCyclic links cyclic.now → LeastWhere (Returns links number (definition_of definition.now)) result }
+{
+    match name_declared(&definition.kind) {
+        None => None,
+        Some(name) => if is_set(cyclic, number) {
+            Some(Spot::at(name.at))
+        } else {
+            None
+        },
+    }
+}
+
+/// Whether the flag with this number is set.
+pub fn is_set(flags: &[bool], number: usize) -> bool
+    ensures { IsTrue result ↔ (slice_get flags.now number ≡ Some true) }
+{
+    match flags.get(number) {
+        None => false,
+        Some(flag) => *flag,
+    }
+}
+
+/// Adds a definition with those that it leads to.
+pub fn add_linked(graph: &mut Graph, successors: &[usize]) -> Result<(), AllocError>
+    ensures { OnOk result (graph.new ≡ graph.old ++ successors.now ∷ []) }
+{
+    graph.add_node()?;
+    for successor in successors {
+        graph.add_successor(*successor)?;
+    }
+    Ok(())
+}

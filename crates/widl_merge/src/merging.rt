@@ -1,0 +1,99 @@
+//! The joined list of the rules of merging.
+
+ghost use Rattle.std.specs.Prelude.{◌≡◌, [], ◌∷◌, List, IfOk};
+ghost use Rattle.widl_idl.specs.LeastRefusal.{LeastBroken};
+ghost use Rattle.widl_idl.specs.MergingRules.{BreaksMerging, merging_number};
+ghost use Rattle.widl_idl.specs.PlainTrees.{plain_definitions};
+ghost use Rattle.widl_idl.specs.Things.{things_of};
+ghost use Rattle.widl_idl.specs.declared.merging_rule.MergingRule as rules;
+ghost use Rattle.widl_idl.specs.declared.merging_rule.MergingRule.TheVariants as rule;
+ghost use Rattle.widl_merge.specs.Listings.{listed_definitions, things_listed};
+ghost use Rattle.widl_merge.specs.Refusals.{IsMergingRefusal};
+
+use crate::meanings::Meanings;
+use crate::name_rules::{first_reserved_name, first_second_definition, first_unknown_type};
+use crate::nesting::first_nesting_too_deep;
+use crate::operations::first_in_two_parts;
+use crate::parents::first_inheriting_from_itself;
+use crate::parts::Parts;
+use crate::reference_rules::{
+    first_includes_into_no_interface, first_includes_no_mixin, first_parent_of_other_kind,
+    first_partial_without_main,
+};
+use crate::sums::first_past_limit;
+use crate::things::Thing;
+use crate::typedefs::{first_typedef_reaching_itself, walk_typedefs};
+use std::alloc::{AllocError, Global};
+use widl_idl::tree::Definition;
+use widl_idl::{MergingRule, Refusal, joined};
+
+/// The least refusal by a rule of merging, or none where all of them are kept. The things are everything
+/// that is written in the definitions.
+pub fn first_unmerged(
+    alloc: Global,
+    definitions: &[&Definition],
+    things: &[Thing<'_>],
+) -> Result<Option<Refusal>, AllocError>
+    requires { things_listed things.now ≡ things_of (listed_definitions definitions.now) }
+    ensures { IfOk result (λ refusal. IsMergingRefusal (listed_definitions definitions.now) refusal) }
+{
+    let meanings = Meanings::of(alloc, definitions)?;
+    let best = join_members(alloc, &meanings)?;
+    let best = join_links(alloc, &meanings, things, best)?;
+    Ok(join_names(&meanings, things, best))
+}
+
+// The rules on the parts of definitions.
+fn join_members(alloc: Global, meanings: &Meanings<'_, '_>) -> Result<Option<Refusal>, AllocError>
+    ensures { IfOk result (λ best. LeastBroken merging_number (BreaksMerging (plain_definitions meanings.now)) (rule.OperationInTwoParts ∷ rule.TooManyMembers ∷ []) best) }
+{
+    let found = first_past_limit(alloc, meanings)?;
+    let best = joined(MergingRule::TooManyMembers.number(), found, None);
+    let parts = Parts::of(alloc, meanings)?;
+    let found = first_in_two_parts(alloc, meanings, &parts)?;
+    Ok(joined(MergingRule::OperationInTwoParts.number(), found, best))
+}
+
+// The rules on what definitions lead to: their parents, and typedefs.
+fn join_links(
+    alloc: Global,
+    meanings: &Meanings<'_, '_>,
+    things: &[Thing<'_>],
+    best: Option<Refusal>,
+) -> Result<Option<Refusal>, AllocError>
+    requires { things_listed things.now ≡ things_of (plain_definitions meanings.now) }
+    ensures { IfOk result (λ least. (others : List rules.MergingRule) → LeastBroken merging_number (BreaksMerging (plain_definitions meanings.now)) others best → LeastBroken merging_number (BreaksMerging (plain_definitions meanings.now)) (rule.InheritsFromItself ∷ rule.TypedefReachesItself ∷ rule.NestsTooDeep ∷ others) least) }
+{
+    let walk = walk_typedefs(alloc, meanings)?;
+    let found = first_nesting_too_deep(alloc, meanings, &walk, things)?;
+    let best = joined(MergingRule::NestsTooDeep.number(), found, best);
+    let found = first_typedef_reaching_itself(meanings, &walk);
+    let best = joined(MergingRule::TypedefReachesItself.number(), found, best);
+    let found = first_inheriting_from_itself(alloc, meanings)?;
+    Ok(joined(MergingRule::InheritsFromItself.number(), found, best))
+}
+
+// The rules on names and what they mean.
+fn join_names(
+    meanings: &Meanings<'_, '_>,
+    things: &[Thing<'_>],
+    best: Option<Refusal>,
+) -> Option<Refusal>
+    requires { things_listed things.now ≡ things_of (plain_definitions meanings.now) }
+    ensures { (others : List rules.MergingRule) → LeastBroken merging_number (BreaksMerging (plain_definitions meanings.now)) others best → LeastBroken merging_number (BreaksMerging (plain_definitions meanings.now)) (rule.SecondDefinition ∷ rule.ReservedName ∷ rule.PartialWithoutMain ∷ rule.IncludesIntoNoInterface ∷ rule.IncludesNoMixin ∷ rule.ParentOfOtherKind ∷ rule.UnknownType ∷ others) result }
+{
+    let found = first_unknown_type(meanings, things);
+    let best = joined(MergingRule::UnknownType.number(), found, best);
+    let found = first_parent_of_other_kind(meanings);
+    let best = joined(MergingRule::ParentOfOtherKind.number(), found, best);
+    let found = first_includes_no_mixin(meanings);
+    let best = joined(MergingRule::IncludesNoMixin.number(), found, best);
+    let found = first_includes_into_no_interface(meanings);
+    let best = joined(MergingRule::IncludesIntoNoInterface.number(), found, best);
+    let found = first_partial_without_main(meanings);
+    let best = joined(MergingRule::PartialWithoutMain.number(), found, best);
+    let found = first_reserved_name(things);
+    let best = joined(MergingRule::ReservedName.number(), found, best);
+    let found = first_second_definition(meanings);
+    joined(MergingRule::SecondDefinition.number(), found, best)
+}

@@ -1,0 +1,155 @@
+//! The rules on names: which a definition or a member may have, and which a type may name.
+
+ghost use Rattle.std.specs.Prelude.{◌≡◌, ℕ, List, take};
+ghost use Rattle.widl_idl.specs.declared.merging_rule.MergingRule.TheVariants as rule;
+ghost use Rattle.widl_idl.specs.Least.{LeastWhere, Somewhere};
+ghost use Rattle.widl_idl.specs.MergingRules.{BreaksMerging, IsReservedName, IsSecondDefinition, IsUnknownType, is_reserved, is_type_kind};
+ghost use Rattle.widl_idl.specs.Things.{TypeThing};
+ghost use Rattle.widl_idl.specs.PlainTrees.{definition_of, plain_definitions};
+ghost use Rattle.widl_idl.specs.PlainTypes.{type_of};
+ghost use Rattle.widl_merge.specs.Listings.{thing_of, things_listed};
+ghost use Rattle.widl_merge.specs.NameRules.{is_below};
+
+use crate::meanings::Meanings;
+use crate::names::main_name;
+use crate::things::Thing;
+use widl_idl::tree::{Definition, TypeForm, WrittenType};
+use widl_idl::{Kind, Spot, lesser_spot};
+
+/// The least place of a name's second main definition.
+pub fn first_second_definition(meanings: &Meanings<'_, '_>) -> Option<Spot>
+    ensures { LeastWhere (BreaksMerging (plain_definitions meanings.now) rule.SecondDefinition) result }
+{
+    let mut best = None;
+    let definitions = meanings.all();
+    for (number, definition) in definitions.iter().enumerate() {
+        let found = second_definition(meanings, number, definition);
+        best = lesser_spot(best, found);
+    }
+    best
+}
+
+/// The place of a main definition's name that means a definition before this number.
+fn second_definition(
+    meanings: &Meanings<'_, '_>,
+    number: usize,
+    definition: &Definition,
+) -> Option<Spot>
+    ensures { LeastWhere (IsSecondDefinition (take number (plain_definitions meanings.now)) (definition_of definition.now)) result }
+{
+    match main_name(&definition.kind) {
+        None => None,
+        Some(name) => if is_below(number, meanings.number(name.text.as_str())) {
+            Some(Spot::at(name.at))
+        } else {
+            None
+        },
+    }
+}
+
+/// Whether there is a number below `limit`.
+fn is_below(limit: usize, number: Option<usize>) -> bool
+    ensures { result ≡ is_below limit number }
+{
+    match number {
+        None => false,
+        Some(number) => number < limit,
+    }
+}
+
+/// The least place of a name, in the list of what is written, that nothing may have.
+pub fn first_reserved_name(things: &[Thing<'_>]) -> Option<Spot>
+    ensures { LeastWhere (Somewhere IsReservedName (things_listed things.now)) result }
+{
+    let mut best = None;
+    for thing in things {
+        let found = reserved_name(*thing);
+        best = lesser_spot(best, found);
+    }
+    best
+}
+
+fn reserved_name(thing: Thing<'_>) -> Option<Spot>
+    ensures { LeastWhere (IsReservedName (thing_of thing.entry)) result }
+{
+    match thing {
+        Thing::Name(name) => if is_reserved(name.text.as_str()) {
+            Some(Spot::at(name.at))
+        } else {
+            None
+        },
+        Thing::Type(_)
+        | Thing::Attribute(_)
+        | Thing::Literal(_)
+        | Thing::Member(_)
+        | Thing::CallbackMember(_) => None,
+    }
+}
+
+/// Whether no definition or member may have this name.
+fn is_reserved(text: &str) -> bool
+    ensures { result ≡ is_reserved text.now }
+{
+    text == "constructor" || text == "toString" || text.starts_with('_')
+}
+
+/// The least place of a name in a type, in the list of what is written, that is the name of no type.
+pub fn first_unknown_type(meanings: &Meanings<'_, '_>, things: &[Thing<'_>]) -> Option<Spot>
+    ensures { LeastWhere (Somewhere (IsUnknownType (plain_definitions meanings.now)) (things_listed things.now)) result }
+{
+    let mut best = None;
+    for thing in things {
+        let found = unknown_type(meanings, *thing);
+        best = lesser_spot(best, found);
+    }
+    best
+}
+
+fn unknown_type(meanings: &Meanings<'_, '_>, thing: Thing<'_>) -> Option<Spot>
+    ensures { LeastWhere (IsUnknownType (plain_definitions meanings.now) (thing_of thing.entry)) result }
+{
+    match thing {
+        Thing::Type(ty) => unknown_name(meanings, ty),
+        Thing::Attribute(_)
+        | Thing::Literal(_)
+        | Thing::Name(_)
+        | Thing::Member(_)
+        | Thing::CallbackMember(_) => None,
+    }
+}
+
+fn unknown_name(meanings: &Meanings<'_, '_>, ty: &WrittenType) -> Option<Spot>
+    ensures { LeastWhere (IsUnknownType (plain_definitions meanings.now) (TypeThing (type_of ty.now))) result }
+{
+    match &ty.form {
+        TypeForm::Named(name) => if is_type_kind(meanings.kind(name.text.as_str())) {
+            None
+        } else {
+            Some(Spot::at(name.at))
+        },
+        TypeForm::Any
+        | TypeForm::Undefined
+        | TypeForm::Boolean
+        | TypeForm::Object
+        | TypeForm::Symbol
+        | TypeForm::BigInt
+        | TypeForm::Integer(_)
+        | TypeForm::Float(_)
+        | TypeForm::Text(_)
+        | TypeForm::Buffer(_)
+        | TypeForm::Container(_, _)
+        | TypeForm::Record(_, _)
+        | TypeForm::Promise(_)
+        | TypeForm::Union(_) => None,
+    }
+}
+
+/// Whether a name of this kind may stand in a type.
+fn is_type_kind(kind: Option<Kind>) -> bool
+    ensures { result ≡ is_type_kind kind }
+{
+    match kind {
+        None | Some(Kind::Mixin) | Some(Kind::Namespace) => false,
+        Some(_) => true,
+    }
+}

@@ -1,0 +1,45 @@
+//! The least refusal of a set of files.
+
+ghost use Rattle.std.specs.Prelude.{◌≡◌, IfOk, Some, None};
+ghost use Rattle.widl_idl.specs.Meanings.{definitions_of};
+ghost use Rattle.widl_idl.specs.Things.{things_of};
+ghost use Rattle.widl_merge.specs.Listings.{listed_definitions, things_listed};
+ghost use Rattle.widl_merge.specs.Refusals.{IsRefusal};
+
+use crate::definitions::list_definitions;
+use crate::listings::list_things;
+use crate::merging::first_unmerged;
+use crate::profile::first_left_out;
+use crate::things::Thing;
+use std::alloc::{AllocError, Global};
+use widl_idl::tree::Definition;
+use widl_idl::{Fragments, Refusal};
+
+/// The least refusal of a set of files: by the rules of the profile, or, where none of these is broken, by
+/// the rules of merging. None where all of them are kept.
+///
+/// # Errors
+///
+/// `AllocError` where there is no memory.
+pub fn find_refusal(alloc: Global, fragments: &Fragments) -> Result<Option<Refusal>, AllocError>
+    ensures { IfOk result (λ refusal. IsRefusal (definitions_of fragments.now) refusal) }
+{
+    let definitions = list_definitions(alloc, fragments.as_slice())?;
+    let things = list_things(alloc, &definitions)?;
+    find_in_things(alloc, &definitions, &things)
+}
+
+// The same, where everything that is written in the definitions is listed.
+fn find_in_things(
+    alloc: Global,
+    definitions: &[&Definition],
+    things: &[Thing<'_>],
+) -> Result<Option<Refusal>, AllocError>
+    requires { things_listed things.now ≡ things_of (listed_definitions definitions.now) }
+    ensures { IfOk result (λ refusal. IsRefusal (listed_definitions definitions.now) refusal) }
+{
+    match first_left_out(things) {
+        Some(refusal) => Ok(Some(refusal)),
+        None => Ok(first_unmerged(alloc, definitions, things)?),
+    }
+}
