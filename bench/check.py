@@ -44,6 +44,8 @@ def numbered(form, count):
 
 def hostile():
     operations = "".join(f"undefined f{number}();" for number in range(1000))
+    same = "".join(f"long a{place}," for place in range(63))
+    overloads = "".join(f"undefined f({same}I{number} b);" for number in range(64))
     included = "".join(f"interface A{number}{{}};A{number} includes M;" for number in range(998))
     return {
         "3,000,000 definitions": pack(numbered("typedef long T{this};", 3_000_000)),
@@ -56,6 +58,10 @@ def hostile():
         "a mixin in 998 interfaces": pack([f"interface mixin M{{{operations}}};{included}"]),
         "one name in 45,000 definitions": pack(["interface ABC {};"] * 45_000),
         "130,000 operations of one name": pack(["interface A{" + "any a();" * 130_000 + "};"]),
+        "25,000 dictionaries in one chain": pack(["dictionary D0{};"] + numbered("dictionary D{next}:D{this}{{long a{this};}};", 25_000)),
+        "35,000 interfaces below one iterable": pack(["interface A0{iterable<long,long>;};"] + numbered("interface A{next}:A{this}{{}};", 35_000)),
+        "a union of 30,000 interfaces": pack(["".join(numbered("interface A{this}{{}};", 30_000)) + "typedef (" + " or ".join(numbered("A{this}", 30_000)) + ") T;"]),
+        "20 names of 64 overloads of 64 arguments": pack(["".join(numbered("interface I{this}{{}};", 64))] + numbered("namespace N{this}{{" + overloads + "}};", 20)),
     }
 
 

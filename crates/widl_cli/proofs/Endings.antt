@@ -11,12 +11,13 @@ use Rattle.widl_first_form.specs.declared.planned.Plan.{Plan}
 use Rattle.widl_first_form.specs.declared.planned.Plan.TheVariants.{Unserved, NotScript, Run}
 use Rattle.widl_first_form.specs.declared.step.Step.{Step}
 use Rattle.widl_first_form.specs.Plans.{plan_of}
+use Rattle.widl_idl.specs.MergedSets.{MergedSet}
 use Rattle.widl_cli.specs.declared.status.Status.{Status}
 use Rattle.widl_cli.specs.declared.status.Status.TheVariants as ends
 use Rattle.widl_cli.specs.declared.verdict.Verdict.{Verdict}
-use Rattle.widl_cli.specs.declared.verdict.Verdict.TheVariants.{Fault, Broken, Unbroken}
+use Rattle.widl_cli.specs.declared.verdict.Verdict.TheVariants.{Fault, Broken, Accepted}
 use Rattle.widl_cli.specs.Causes.{Outside, Ends, CountsStarts, last_fault}
-use Rattle.widl_cli.specs.Outputs.{Output, Answers, Answered, last, plan_output, run_output, checked_output, is_served, verdict_output, IsRunOutput, IsCheckOutput, IsReadingOutput, unread_output, fault_line}
+use Rattle.widl_cli.specs.Outputs.{Output, Answers, Answered, accepted_output, plan_output, run_output, sets_output, verdict_output, IsRunOutput, IsCheckOutput, IsSetsOutput, IsReadingOutput, unread_output, fault_line}
 use Rattle.widl_cli.specs.Readings.{Reading, StopsFor, IsMemory}
 use Rattle.widl_cli.specs.Runs.{end_of}
 use Rattle.widl_cli.specs.Texts.{named}
@@ -50,22 +51,19 @@ plain_run : (budget : ℕ) (texts : List (List ℕ)) → IsPlain (run_output bud
 unfolding run_output
 plain_run budget texts = plain_plan budget (plan_of (named texts 1) (named texts 0))
 
-plain_checked : (texts : List (List ℕ)) → IsPlain (checked_output texts).status
-unfolding checked_output
-plain_checked texts =
-    elim ((length texts == 1) && is_served (plan_of (named texts 0) [])) as (λ v. IsPlain (cond v (last (codes "accepted") ends.Done) (last (codes "refused later 0 0") ends.Refused)).status)
-    [ true ↦ tt | false ↦ tt ]
-
-plain_verdict : (verdict : Verdict) (others : Output) → IsPlain others.status → IsPlain (verdict_output verdict others).status
+plain_verdict : (verdict : Verdict) (others : MergedSet → Output) → ((set : MergedSet) → IsPlain (others set).status) → IsPlain (verdict_output verdict others).status
 plain_verdict (Fault finding) others plain = tt
 plain_verdict (Broken refusal) others plain = tt
-plain_verdict Unbroken others plain = plain
+plain_verdict (Accepted set) others plain = plain set
 
 pub plain_run_output : (budget : ℕ) (texts : List (List ℕ)) (output : Output) → IsRunOutput budget texts output → IsPlain output.status
-plain_run_output budget texts output p = subst (λ o. IsPlain o.status) (sym p.output_is) (plain_verdict p.verdict (run_output budget texts) (plain_run budget texts))
+plain_run_output budget texts output p = subst (λ o. IsPlain o.status) (sym p.output_is) (plain_verdict p.verdict (λ set. run_output budget texts) (λ set. plain_run budget texts))
 
 pub plain_check_output : (texts : List (List ℕ)) (output : Output) → IsCheckOutput texts output → IsPlain output.status
-plain_check_output texts output p = subst (λ o. IsPlain o.status) (sym p.output_is) (plain_verdict p.verdict (checked_output texts) (plain_checked texts))
+plain_check_output texts output p = subst (λ o. IsPlain o.status) (sym p.output_is) (plain_verdict p.verdict accepted_output (λ set. tt))
+
+pub plain_sets_output : (texts : List (List ℕ)) (output : Output) → IsSetsOutput texts output → IsPlain output.status
+plain_sets_output texts output p = subst (λ o. IsPlain o.status) (sym p.output_is) (plain_verdict p.verdict sets_output (λ set. tt))
 
 pub never : (bad result : Status) → (IsPlain bad → ⊥) → IsPlain result → result ≡ bad → ⊥
 never bad result h p e = h (subst IsPlain e p)

@@ -9,6 +9,8 @@ use Rattle.widl_folder.specs.declared.whole_file.FetchError.TheVariants.{Memory,
 use Rattle.widl_first_form.specs.Plans.{plan_of}
 use Rattle.widl_first_form.specs.declared.planned.Plan as plans
 use Rattle.widl_first_form.specs.declared.planned.Plan.TheVariants as plan
+use Rattle.widl_idl.specs.MergedSets.{MergedSet}
+use Rattle.widl_sets.specs.Listing.{all_lines}
 use Rattle.widl_cli.specs.Findings.{finding_line}
 use Rattle.widl_cli.specs.Readings.{Reading, AllRead, MissingFile, LongFile, read_in_order}
 use Rattle.widl_cli.specs.Texts.{named}
@@ -16,11 +18,11 @@ use Rattle.widl_cli.specs.Requests.{request_of, names_of}
 use Rattle.widl_cli.specs.Runs.{written, end_of}
 use Rattle.widl_cli.specs.declared.help.TheConstants.{HELP, VERSION}
 use Rattle.widl_cli.specs.declared.request.Request as requests
-use Rattle.widl_cli.specs.declared.request.Request.TheVariants.{Help, Version, Check, Run}
+use Rattle.widl_cli.specs.declared.request.Request.TheVariants.{Help, Version, Check, Sets, Run}
 use Rattle.widl_cli.specs.declared.status.Status.{Status}
 use Rattle.widl_cli.specs.declared.status.Status.TheVariants as ends
 use Rattle.widl_cli.specs.declared.verdict.Verdict.{Verdict}
-use Rattle.widl_cli.specs.declared.verdict.Verdict.TheVariants.{Fault, Broken, Unbroken}
+use Rattle.widl_cli.specs.declared.verdict.Verdict.TheVariants.{Fault, Broken, Accepted}
 use Rattle.widl_cli.specs.Verdicts.{IsVerdict, refusal_line}
 
 -- the bytes and the status
@@ -51,35 +53,35 @@ long_line name = codes "too long " ++ name
 unfoldable pub fault_line : List ℕ → List ℕ
 fault_line name = codes "read fault " ++ name
 
--- one fragment of the first form is accepted, and any other set is refused until more is served
-abbrev pub is_served : plans.Plan → Bool
-is_served plan.Unserved = false
-is_served plan.NotScript = true
-is_served (plan.Run steps) = true
+-- what is written for an accepted set by `check`, and by `sets`
+abbrev pub accepted_output : MergedSet → Output
+accepted_output set = last (codes "accepted") ends.Done
 
-unfoldable pub checked_output : List (List ℕ) → Output
-checked_output texts =
-    if (length texts == 1) && is_served (plan_of (named texts 0) []) then last (codes "accepted") ends.Done else last (codes "refused later 0 0") ends.Refused
+abbrev pub sets_output : MergedSet → Output
+sets_output set = record { bytes = all_lines set.defs; status = ends.Done }
 
--- what is found is named; where nothing is, other things are written
-abbrev pub verdict_output : Verdict → Output → Output
+-- what is found is named; of an accepted set other things are written
+abbrev pub verdict_output : Verdict → (MergedSet → Output) → Output
 verdict_output (Fault finding) others = last (finding_line finding) ends.Refused
 verdict_output (Broken refusal) others = last (refusal_line refusal) ends.Refused
-verdict_output Unbroken others = others
+verdict_output (Accepted set) others = others set
 
 -- what is written for texts of which those from a place on are the fragments
-pub record IsVerdictOutput (texts : List (List ℕ)) (first : ℕ) (others output : Output) : Type 0 where
+pub record IsVerdictOutput (texts : List (List ℕ)) (first : ℕ) (others : MergedSet → Output) (output : Output) : Type 0 where
   pub verdict : Verdict
   pub verdict_is : IsVerdict texts first (length texts - first) verdict
   pub output_is : output ≡ verdict_output verdict others
 
 -- the fragments are all texts
 abbrev pub IsCheckOutput : List (List ℕ) → Output → Type 0
-IsCheckOutput texts output = IsVerdictOutput texts 0 (checked_output texts) output
+IsCheckOutput texts output = IsVerdictOutput texts 0 accepted_output output
+
+abbrev pub IsSetsOutput : List (List ℕ) → Output → Type 0
+IsSetsOutput texts output = IsVerdictOutput texts 0 sets_output output
 
 -- the first text is the script, the others are the fragments
 abbrev pub IsRunOutput : ℕ → List (List ℕ) → Output → Type 0
-IsRunOutput budget texts output = IsVerdictOutput texts 1 (run_output budget texts) output
+IsRunOutput budget texts output = IsVerdictOutput texts 1 (λ set. run_output budget texts) output
 
 -- the first file that isn't there or is too long is named
 abbrev pub IsReadingOutput : (List (List ℕ) → Output → Type 0) → Reading → Output → Type 0
@@ -92,10 +94,11 @@ IsRequestOutput None reading output = output ≡ last (codes "usage") ends.Usage
 IsRequestOutput (Some Help) reading output = output ≡ last HELP.now ends.Done
 IsRequestOutput (Some Version) reading output = output ≡ last VERSION.now ends.Done
 IsRequestOutput (Some Check) reading output = IsReadingOutput IsCheckOutput reading output
+IsRequestOutput (Some Sets) reading output = IsReadingOutput IsSetsOutput reading output
 IsRequestOutput (Some (Run budget)) reading output = IsReadingOutput (IsRunOutput budget) reading output
 
 -- the order of causes: the words; the files in the order of reading; the encoding of the fragments; their
--- grammar; the rules of the profile and of merging; the fragment's form; the script's form; the run
+-- grammar; the rules of the profile, of merging and of validity; the fragment's form; the script's form; the run
 unfoldable pub IsOutput : List (List ℕ) → List (List ℕ × List ℕ) → Output → Type 0
 IsOutput words files output = IsRequestOutput (request_of words) (read_in_order files (names_of (request_of words) words)) output
 

@@ -4,7 +4,7 @@ use Rattle.std.specs.Fmt.{decimal}
 use Rattle.std.specs.Str.Parse.{digits_value}
 use Rattle.std.specs.Str.{bytes_eq}
 use Rattle.widl_cli.specs.declared.request.Request as the
-use Rattle.widl_cli.specs.declared.request.Request.TheVariants.{Help, Version, Check, Run}
+use Rattle.widl_cli.specs.declared.request.Request.TheVariants.{Help, Version, Check, Sets, Run}
 
 -- the word is the decimal text of a number from 1 to 2,000,000
 pub record IsBudget (word : List ℕ) (units : ℕ) : Type 0 where
@@ -27,14 +27,16 @@ abbrev pub run_of : List (List ℕ) → Option the.Request
 run_of (budget ∷ script ∷ fragment ∷ []) = option_and_then (λ units. Some (Run units)) (budget_of budget)
 run_of words = None
 
--- `check`, then 1 to 64 names
-abbrev pub check_of : List (List ℕ) → Option the.Request
-check_of names = if nat_le (length names) 64 then Some Check else None
+-- `check` or `sets`, then 1 to 64 names
+abbrev pub with_files : the.Request → List (List ℕ) → Option the.Request
+with_files request names = if nat_le (length names) 64 then Some request else None
 
 abbrev pub command_of : List ℕ → List (List ℕ) → Option the.Request
 command_of command [] = option_of command
 command_of command (word ∷ words) =
-    if bytes_eq command (codes "check") then check_of (word ∷ words) else if bytes_eq command (codes "run") then run_of (word ∷ words) else None
+    if bytes_eq command (codes "check") then with_files Check (word ∷ words)
+    else if bytes_eq command (codes "sets") then with_files Sets (word ∷ words)
+    else if bytes_eq command (codes "run") then run_of (word ∷ words) else None
 
 unfoldable pub request_of : List (List ℕ) → Option the.Request
 request_of [] = None
@@ -46,6 +48,7 @@ names_of None words = []
 names_of (Some Help) words = []
 names_of (Some Version) words = []
 names_of (Some Check) words = drop 1 words
+names_of (Some Sets) words = drop 1 words
 names_of (Some (Run budget)) words = drop 2 words
 
 -- these words are of a shape that names files
@@ -53,4 +56,5 @@ abbrev pub HasFiles : the.Request → ℕ → Type 0
 HasFiles Help count = Unit {0}
 HasFiles Version count = Unit {0}
 HasFiles Check count = (1 < count) × (count ≤ 65)
+HasFiles Sets count = (1 < count) × (count ≤ 65)
 HasFiles (Run budget) count = count ≡ 4

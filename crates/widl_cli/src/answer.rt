@@ -1,11 +1,11 @@
 //! Writing the answer of a request.
 
-ghost use Rattle.std.specs.Prelude.{◌≡◌, ◌≢◌, ◌≤◌, ◌==◌, ◌&&◌, [], ◌++◌, IfOk, OnOk, OnErr, length};
+ghost use Rattle.std.specs.Prelude.{◌≡◌, ◌≢◌, ◌≤◌, ◌++◌, IfOk, OnOk, OnErr, codes, length};
 ghost use Rattle.std.specs.Io.KnownBytes.{append_known};
 ghost use Rattle.widl_trace.specs.Causes.{HasCause};
 ghost use Rattle.widl_trace.specs.Growth.{GrewByPrefix};
 ghost use Rattle.widl_trace.specs.Lines.{ended};
-ghost use Rattle.widl_cli.specs.Outputs.{plan_output, run_output, checked_output, is_served, unread_output, last, Answers, Answered, IsCheckOutput, IsRunOutput};
+ghost use Rattle.widl_cli.specs.Outputs.{plan_output, run_output, sets_output, unread_output, last, Answers, Answered, IsCheckOutput, IsSetsOutput, IsRunOutput};
 ghost use Rattle.widl_cli.specs.Findings.{finding_line};
 ghost use Rattle.widl_cli.specs.Verdicts.{refusal_line};
 ghost use Rattle.widl_cli.specs.Texts.{named, AreShort};
@@ -26,7 +26,9 @@ use std::alloc::{AllocError, Global};
 use widl_first_form::{Plan, Steps, make_plan};
 use widl_folder::FetchError;
 use widl_idl::Refusal;
-use widl_trace::{Line, Sink, WriteFailed, Writer};
+use widl_overload::Accepted;
+use widl_sets::set_lines;
+use widl_trace::{Line, Sink, WriteFailed, Writer, write_all};
 
 /// Says of some fragments whether they are a valid set.
 pub fn answer_check<K: Sink>(alloc: Global, texts: &Texts, out: &mut K) -> Status
@@ -38,7 +40,21 @@ pub fn answer_check<K: Sink>(alloc: Global, texts: &Texts, out: &mut K) -> Statu
         Err(AllocError) => Status::Memory,
         Ok(Verdict::Fault(finding)) => answer_finding(alloc, finding, out),
         Ok(Verdict::Broken(refusal)) => answer_refusal(alloc, refusal, out),
-        Ok(Verdict::Unbroken) => answer_accepted(alloc, texts, out),
+        Ok(Verdict::Accepted(_)) => answer_accepted(alloc, out),
+    }
+}
+
+/// Writes the effective overload sets of some fragments, if they are a valid set.
+pub fn answer_sets<K: Sink>(alloc: Global, texts: &Texts, out: &mut K) -> Status
+    requires few { length texts.now ≤ 64 }
+    requires short { AreShort texts.now }
+    ensures { Answered (IsSetsOutput texts.now) (K.held out.old) (K.held out.new) (K.faults out.old) (K.faults out.new) result }
+{
+    match judge(alloc, texts, 0) {
+        Err(AllocError) => Status::Memory,
+        Ok(Verdict::Fault(finding)) => answer_finding(alloc, finding, out),
+        Ok(Verdict::Broken(refusal)) => answer_refusal(alloc, refusal, out),
+        Ok(Verdict::Accepted(accepted)) => answer_lines(alloc, &accepted, out),
     }
 }
 
@@ -52,7 +68,7 @@ pub fn answer_run<K: Sink>(alloc: Global, budget: u64, texts: &Texts, out: &mut 
         Err(AllocError) => Status::Memory,
         Ok(Verdict::Fault(finding)) => answer_finding(alloc, finding, out),
         Ok(Verdict::Broken(refusal)) => answer_refusal(alloc, refusal, out),
-        Ok(Verdict::Unbroken) => answer_script(alloc, budget, texts, out),
+        Ok(Verdict::Accepted(_)) => answer_script(alloc, budget, texts, out),
     }
 }
 
@@ -83,32 +99,30 @@ fn answer_refusal<K: Sink>(alloc: Global, refusal: Refusal, out: &mut K) -> Stat
     }
 }
 
-/// Accepts one fragment of the first form, and refuses any other set.
-#[tactic(auto, unfolding(crate::specs::Outputs::checked_output))]
-fn answer_accepted<K: Sink>(alloc: Global, texts: &Texts, out: &mut K) -> Status
-    ensures { Answers (checked_output texts.now) (K.held out.old) (K.held out.new) (K.faults out.old) (K.faults out.new) result }
+/// Says that a set is accepted.
+fn answer_accepted<K: Sink>(alloc: Global, out: &mut K) -> Status
+    ensures { Answers (last (codes "accepted") ends.Done) (K.held out.old) (K.held out.new) (K.faults out.old) (K.faults out.new) result }
 {
-    match is_first_form(alloc, texts) {
+    last_line(alloc, b"accepted", b"", Status::Done, out)
+}
+
+/// Writes the effective overload sets of an accepted set, a line for each tuple.
+fn answer_lines<K: Sink>(alloc: Global, accepted: &Accepted, out: &mut K) -> Status
+    ensures { Answers (sets_output accepted.now) (K.held out.old) (K.held out.new) (K.faults out.old) (K.faults out.new) result }
+{
+    match set_lines(alloc, accepted.defs()) {
         Err(AllocError) => Status::Memory,
-        Ok(true) => last_line(alloc, b"accepted", b"", Status::Done, out),
-        Ok(false) => last_line(alloc, b"refused later 0 0", b"", Status::Refused, out),
+        Ok(lines) => write_lines(&lines, out),
     }
 }
 
-/// Whether the texts are one fragment of the first form.
-fn is_first_form(alloc: Global, texts: &Texts) -> Result<bool, AllocError>
-    ensures { IfOk result (λ answer. answer ≡ ((length texts.now == 1) && is_served (plan_of (named texts.now 0) []))) }
+/// Writes lines that all have their line feeds.
+fn write_lines<K: Sink>(lines: &[u8], out: &mut K) -> Status
+    ensures { Answers (record { bytes = lines.now; status = ends.Done }) (K.held out.old) (K.held out.new) (K.faults out.old) (K.faults out.new) result }
 {
-    let plan = make_plan(alloc, texts.named(0), b"")?;
-    Ok(texts.len() == 1 && is_served(&plan))
-}
-
-fn is_served(plan: &Plan) -> bool
-    ensures { result ≡ is_served plan.now }
-{
-    match plan {
-        Plan::Unserved => false,
-        Plan::NotScript | Plan::Run(_) => true,
+    match write_all(out, lines) {
+        Ok(()) => Status::Done,
+        Err(_) => Status::WriteFault,
     }
 }
 

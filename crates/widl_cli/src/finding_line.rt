@@ -1,8 +1,8 @@
 //! The lines of refusals.
 
-ghost use Rattle.std.specs.Prelude.{◌≡◌, IfOk};
+ghost use Rattle.std.specs.Prelude.{◌≡◌, IfOk, Some};
 ghost use Rattle.widl_cli.specs.Findings.{finding_line, rule_of, place_of};
-ghost use Rattle.widl_cli.specs.Verdicts.{refusal_line, rule_prefix, rule_number};
+ghost use Rattle.widl_cli.specs.Verdicts.{refusal_line, rule_prefix, rule_number, with_other};
 
 use crate::finding::Finding;
 use itoa::Buffer;
@@ -49,8 +49,8 @@ fn place_of(finding: Finding) -> Place
     }
 }
 
-/// The line `refused RULE FILE OFFSET` of a broken rule, without its line feed. The rules of the profile
-/// are `X1`, `X2` and so on.
+/// The line `refused RULE FILE OFFSET` of a broken rule, without its line feed, and ` other FILE OFFSET`
+/// behind it where the rule speaks of another place. The rules of the profile are `X1`, `X2` and so on.
 ///
 /// # Errors
 ///
@@ -69,6 +69,29 @@ pub fn line_of_refusal(alloc: Global, refusal: Refusal) -> Result<Vec<u8>, Alloc
     bytes.extend_from_slice(file.format(refusal.at.file).as_bytes())?;
     bytes.extend_from_slice(b" ")?;
     bytes.extend_from_slice(at.format(refusal.at.at).as_bytes())?;
+    with_other(bytes, refusal.other)
+}
+
+/// A line with the other place behind it, if there is one.
+fn with_other(line: Vec<u8>, other: Option<Place>) -> Result<Vec<u8>, AllocError>
+    ensures { IfOk result (λ whole. whole.items ≡ with_other line.items other) }
+{
+    match other {
+        None => Ok(line),
+        Some(place) => add_other(line, place),
+    }
+}
+
+fn add_other(line: Vec<u8>, place: Place) -> Result<Vec<u8>, AllocError>
+    ensures { IfOk result (λ whole. whole.items ≡ with_other line.items (Some place)) }
+{
+    let mut file = Buffer::new();
+    let mut at = Buffer::new();
+    let mut bytes = line;
+    bytes.extend_from_slice(b" other ")?;
+    bytes.extend_from_slice(file.format(place.file).as_bytes())?;
+    bytes.extend_from_slice(b" ")?;
+    bytes.extend_from_slice(at.format(place.at).as_bytes())?;
     Ok(bytes)
 }
 

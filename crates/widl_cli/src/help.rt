@@ -4,7 +4,8 @@
 pub const HELP: &[u8] =
     b"widl reads Web IDL files and a call script, and writes the trace of the calls.
 
-  widl check FILE..            checks 1 to 64 fragments: their encoding and their grammar
+  widl check FILE..            checks whether 1 to 64 fragments are a valid set
+  widl sets FILE..             writes the effective overload sets of 1 to 64 fragments
   widl run BUDGET SCRIPT IDL   runs a script over a fragment; BUDGET is 1 to 2000000 units
   widl --help                  writes this text
   widl --version               writes the version

@@ -40,6 +40,12 @@ fn read_command(words: &Words) -> Option<Request>
         } else {
             None
         }
+    } else if command == "sets" {
+        if words.len() <= MOST_FILES + 1 {
+            Some(Request::Sets)
+        } else {
+            None
+        }
     } else if command == "run" && words.len() == 4 {
         Some(Request::Run(read_budget(words.at(1).as_str())?))
     } else {

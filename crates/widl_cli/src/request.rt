@@ -9,6 +9,8 @@ pub enum Request {
     Version,
     /// `check`, then 1 to 64 file names: whether the files are a valid set of fragments.
     Check,
+    /// `sets`, then 1 to 64 file names: the effective overload sets of the files.
+    Sets,
     /// `run BUDGET SCRIPT IDL`: a run of the script over the fragment, with a budget in units.
     Run(u64),
 }

@@ -12,8 +12,12 @@ use std::process::Abort;
 use std::test::Fail;
 use widl_trace::{MemorySink, Numbers, SureSink};
 
+mod fragments;
+mod inheritance;
 mod merging;
+mod overloads;
 mod profile;
+mod validity;
 
 const FRAGMENT: &str = "namespace N { undefined f(octet a); };";
 
@@ -195,6 +199,7 @@ fn the_help_names_each_shape_of_words(rt: HostRuntime) -> Result<(), Fail> {
     for shape in [
         "widl run BUDGET SCRIPT IDL ",
         "widl check FILE.. ",
+        "widl sets FILE.. ",
         "widl --help ",
         "widl --version ",
         "status 0 done",
@@ -210,7 +215,30 @@ fn the_help_names_each_shape_of_words(rt: HostRuntime) -> Result<(), Fail> {
     Ok(())
 }
 
-/// Checks fragments, and compares the status and the bytes. The names that are missing come last.
+/// Hands fragments to a command, and compares the status and the bytes.
+fn expect_words(
+    rt: &impl Abort,
+    alloc: Global,
+    command: &str,
+    fragments: &[&str],
+    status: Status,
+    text: &str,
+) -> Result<(), Fail> {
+    let names = ["a.idl", "b.idl"];
+    let mut files = Files::new(alloc);
+    let mut words = words_of(alloc, &[command])?;
+    for (name, fragment) in names.iter().zip(fragments) {
+        add(alloc, &mut files, name, fragment)?;
+        words.push(String::from_str(alloc, name)?)?;
+    }
+    let mut folder = MemoryFolder::new(files, Numbers::new(alloc));
+    let mut out = MemorySink::new(alloc, 1_000, 1_000, Numbers::new(alloc))?;
+    assert_eq!(rt; widl(alloc, &words, &mut folder, &mut out), status);
+    assert_eq!(rt; out.held(), text.as_bytes());
+    Ok(())
+}
+
+/// Checks fragments, and compares the status and the bytes.
 fn expect_check(
     rt: &impl Abort,
     alloc: Global,
@@ -218,16 +246,22 @@ fn expect_check(
     status: Status,
     text: &str,
 ) -> Result<(), Fail> {
-    let names = ["a.idl", "b.idl"];
-    let mut files = Files::new(alloc);
-    for (name, fragment) in names.iter().zip(fragments) {
-        add(alloc, &mut files, name, fragment)?;
+    expect_words(rt, alloc, "check", fragments, status, text)
+}
+
+/// Checks sets of one fragment that break no rule.
+fn expect_kept(rt: &impl Abort, alloc: Global, sets: &[&str]) -> Result<(), Fail> {
+    for fragment in sets {
+        expect_check(rt, alloc, &[*fragment, ""], Status::Done, "accepted\n")?;
     }
-    let mut folder = MemoryFolder::new(files, Numbers::new(alloc));
-    let mut out = MemorySink::new(alloc, 1_000, 1_000, Numbers::new(alloc))?;
-    let words = words_of(alloc, &["check", "a.idl", "b.idl"])?;
-    assert_eq!(rt; widl(alloc, &words, &mut folder, &mut out), status);
-    assert_eq!(rt; out.held(), text.as_bytes());
+    Ok(())
+}
+
+/// Checks sets of one fragment, each refused with its text.
+fn expect_rows(rt: &impl Abort, alloc: Global, rows: &[(&str, &str)]) -> Result<(), Fail> {
+    for (fragment, text) in rows {
+        expect_check(rt, alloc, &[*fragment, ""], Status::Refused, text)?;
+    }
     Ok(())
 }
 
@@ -246,19 +280,19 @@ fn the_least_fault_of_a_set_is_named(rt: HostRuntime) -> Result<(), Fail> {
             "",
             "refused deep 0 152\n",
         ),
-        ("", "", "refused later 0 0\n"),
         (FRAGMENT, FRAGMENT, "refused 1 1 10\n"),
     ];
     for (first, second, text) in rows {
         expect_check(&rt, alloc, &[first, second], Status::Refused, text)?;
     }
-    expect_check(
-        &rt,
-        alloc,
-        &["interface"],
-        Status::Missing,
-        "missing b.idl\n",
-    )
+    let mut files = Files::new(alloc);
+    add(alloc, &mut files, "a.idl", "interface")?;
+    let mut folder = MemoryFolder::new(files, Numbers::new(alloc));
+    let mut out = MemorySink::new(alloc, 1_000, 1_000, Numbers::new(alloc))?;
+    let words = words_of(alloc, &["check", "a.idl", "b.idl"])?;
+    assert_eq!(rt; widl(alloc, &words, &mut folder, &mut out), Status::Missing);
+    assert_eq!(rt; out.held(), b"missing b.idl\n".as_slice());
+    Ok(())
 }
 
 #[test]

@@ -4,12 +4,12 @@ ghost use Rattle.std.specs.Prelude.{◌≡◌, ◌≢◌, [], ◌-◌, ◌<◌, 
 ghost use Rattle.std.specs.Io.KnownBytes.{append_known};
 ghost use Rattle.widl_trace.specs.Causes.{Rose};
 ghost use Rattle.widl_trace.specs.Growth.{GrewByPrefix};
-ghost use Rattle.widl_cli.specs.Outputs.{IsOutput, IsReadingOutput, IsCheckOutput, IsRunOutput, Writes, WritesPart};
+ghost use Rattle.widl_cli.specs.Outputs.{IsOutput, IsReadingOutput, IsCheckOutput, IsSetsOutput, IsRunOutput, Writes, WritesPart};
 ghost use Rattle.widl_cli.specs.Requests.{request_of, names_of};
 ghost use Rattle.widl_cli.specs.Readings.{read_in_order};
 ghost use Rattle.widl_cli.specs.Causes.{Ends, fault_of};
 
-use crate::answer::{answer_check, answer_run, answer_unread, last_line};
+use crate::answer::{answer_check, answer_run, answer_sets, answer_unread, last_line};
 use crate::fetching::fetch_all;
 use crate::help::{HELP, VERSION};
 use crate::reader::read_request;
@@ -58,6 +58,7 @@ pub fn widl<F: Folder, K: Sink>(alloc: Global, words: &Words, folder: &mut F, ou
         Some(Request::Help) => last_line(alloc, HELP, b"", Status::Done, out),
         Some(Request::Version) => last_line(alloc, VERSION, b"", Status::Done, out),
         Some(Request::Check) => check_files(alloc, words, folder, out),
+        Some(Request::Sets) => list_sets(alloc, words, folder, out),
         Some(Request::Run(budget)) => run_files(alloc, budget, words, folder, out),
     }
 }
@@ -79,6 +80,30 @@ fn check_files<F: Folder, K: Sink>(
 {
     match fetch_all(alloc, folder, words, 1) {
         Ok(texts) => answer_check(alloc, &texts, out),
+        Err(unread) => {
+            let name = words.at(unread.place).as_str();
+            answer_unread(alloc, unread.cause, name, out)
+        }
+    }
+}
+
+/// Reads files, and writes their effective overload sets.
+fn list_sets<F: Folder, K: Sink>(
+    alloc: Global,
+    words: &Words,
+    folder: &mut F,
+    out: &mut K,
+) -> Status
+    requires some { 1 < length words.now }
+    requires most { length words.now ≤ 65 }
+    ensures ends { Ends (F.files folder.old) (λ told. IsReadingOutput IsSetsOutput (read_in_order told (drop 1 words.now))) (drop 1 words.now)
+        (record { held = K.held out.old; sink_faults = K.faults out.old; faults = F.faults folder.old; misses = F.misses folder.old; given = F.given folder.old; starts = F.starts folder.old })
+        (record { held = K.held out.new; sink_faults = K.faults out.new; faults = F.faults folder.new; misses = F.misses folder.new; given = F.given folder.new; starts = F.starts folder.new })
+        result }
+    ensures usage { result ≡ Status.Usage → ⊥ }
+{
+    match fetch_all(alloc, folder, words, 1) {
+        Ok(texts) => answer_sets(alloc, &texts, out),
         Err(unread) => {
             let name = words.at(unread.place).as_str();
             answer_unread(alloc, unread.cause, name, out)

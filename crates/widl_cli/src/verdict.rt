@@ -2,14 +2,15 @@
 
 use crate::finding::Finding;
 use widl_idl::Refusal;
+use widl_overload::Accepted;
 
-/// What the phases that are built find in a set of files.
-#[derive(Clone, Copy, Debug, PartialEq, Eq)]
+/// What the phases before a run find in a set of files.
+#[derive(Drop)]
 pub enum Verdict {
     /// A fault of the encoding or of the grammar.
     Fault(Finding),
-    /// A broken rule of the profile or of merging.
+    /// A broken rule of the profile, of merging or of validity.
     Broken(Refusal),
-    /// None of these.
-    Unbroken,
+    /// None of these: the set is accepted, with its merged list.
+    Accepted(Accepted),
 }

@@ -1,11 +1,12 @@
 -- The least over a list, an item at a time; and of joined rules, a rule at a time.
-use Rattle.std.proofs.Common.{◌≡◌, ◌⊎◌, inl, inr, ℕ, ◌+◌, ◌<◌, Bool, true, false, cond, List, [], ◌∷◌, length, take, get_or, slice_get, slice_index_or, zero, suc, Option, None, Some, arith, refl, sym, ap, subst, ◌∙◌, nat_lt}
+use Rattle.std.proofs.Common.{◌≡◌, ◌⊎◌, inl, inr, ℕ, ◌+◌, ◌<◌, Bool, true, false, cond, List, [], ◌∷◌, length, take, get_or, slice_get, slice_index_or, zero, suc, Option, None, Some, arith, refl, sym, ap, subst, ◌∙◌, nat_lt, nat_eq, ◌&&◌, ◌||◌}
 use Rattle.std.proofs.lemmas.Option.{slice_get_read}
 use Rattle.widl_idl.specs.declared.refusal.Refusal.{Refusal}
 use Rattle.widl_idl.specs.declared.spot.Spot.{Spot}
-use Rattle.widl_idl.specs.Least.{Before, lesser, IsLeast, LeastWhere, Upto, AtOne}
-use Rattle.widl_idl.specs.LeastRefusal.{Earlier, is_earlier, refusal_at, spot_of, join, Broken, IsLeastBroken, LeastBroken, SameRefusal}
-use Rattle.widl_idl.proofs.Order.{Either, least_either, neither_before}
+use Rattle.widl_text.specs.declared.place.Place.{Place}
+use Rattle.widl_idl.specs.Least.{ComesBefore, OtherBefore, SamePlace, is_other_before, lesser, IsLeast, LeastWhere, Upto, AtOne}
+use Rattle.widl_idl.specs.LeastRefusal.{Earlier, LowerBefore, is_earlier, is_lower, refusal_at, spot_of, join, Broken, IsLeastBroken, LeastBroken}
+use Rattle.widl_idl.proofs.Order.{Either, first_of, first_trans, least_either, neither_before, neither_other, not_first, not_other, other_of, other_trans}
 
 module _ {X : Type 0} (P : List X → X → Spot → Type 0) (xs : List X) where
   pub least_start : LeastWhere (Upto P xs 0) None
@@ -33,37 +34,70 @@ module _ {X : Type 0} (P : List X → X → Spot → Type 0) (xs : List X) where
   pub least_all : (n : ℕ) (best : Option Spot) → n ≡ length xs → LeastWhere (Upto P xs n) best → LeastWhere (AtOne P xs) best
   least_all n best e m = subst (λ k. LeastWhere (Upto P xs k) best) e m
 
+abbrev refusal_place : Refusal → Place
+refusal_place r = r.at
+
+lower_trans : (p q r : Refusal) → LowerBefore p q → LowerBefore q r → LowerBefore p r
+lower_trans p q r (inl a) (inl b) = inl (omega (arith, a, b))
+lower_trans p q r (inl a) (inr b) = let same = b.0 in inl (omega (arith, a, same))
+lower_trans p q r (inr a) (inl b) = let same = a.0 in inl (omega (arith, same, b))
+lower_trans p q r (inr a) (inr b) = inr (a.0 ∙ b.0, other_trans p.other q.other r.other a.1 b.1)
+
+lower_tests : (p q : Refusal) (a b c : Bool) → nat_lt p.rule q.rule ≡ a → nat_eq p.rule q.rule ≡ b → is_other_before p.other q.other ≡ c → (a || (b && c)) ≡ true → LowerBefore p q
+lower_tests p q true b c less same other e = inl (grind arith)
+lower_tests p q false true true less same other e = inr (grind arith, other_of p.other q.other other)
+lower_tests p q false true false less same other e = absurd (cc)
+lower_tests p q false false c less same other e = absurd (cc)
+
+lower_of : (p q : Refusal) → is_lower p q ≡ true → LowerBefore p q
+lower_of p q e = lower_tests p q (nat_lt p.rule q.rule) (nat_eq p.rule q.rule) (is_other_before p.other q.other) refl refl refl e
+
+not_lower_tests : (p q r : Refusal) (a b c : Bool) → nat_lt q.rule p.rule ≡ a → nat_eq q.rule p.rule ≡ b → is_other_before q.other p.other ≡ c → (a || (b && c)) ≡ false → LowerBefore r p → LowerBefore r q
+not_lower_tests p q r true b c less same other e l = absurd (cc)
+not_lower_tests p q r false b c less same other e (inl l) = inl (grind arith)
+not_lower_tests p q r false true true less same other e (inr l) = absurd (cc)
+not_lower_tests p q r false true false less same other e (inr l) = let one = l.0 in inr (grind arith, not_other p.other q.other r.other other l.1)
+not_lower_tests p q r false false c less same other e (inr l) = let one = l.0 in inl (grind arith)
+
+not_lower : (p q r : Refusal) → is_lower q p ≡ false → LowerBefore r p → LowerBefore r q
+not_lower p q r e l = not_lower_tests p q r (nat_lt q.rule p.rule) (nat_eq q.rule p.rule) (is_other_before q.other p.other) refl refl refl e l
+
 pub earlier_trans : (p q r : Refusal) → Earlier p q → Earlier q r → Earlier p r
-earlier_trans p q r a b = grind arith
+earlier_trans = first_trans refusal_place LowerBefore is_lower lower_trans
 
 -- what the test tells where it holds
 pub earlier_of : (p q : Refusal) → is_earlier p q ≡ true → Earlier p q
-earlier_of p q e = grind arith
+earlier_of = first_of refusal_place LowerBefore is_lower lower_of
 
 -- what it tells where it does not: what is earlier than p is earlier than q too
 pub not_earlier : (p q r : Refusal) → is_earlier q p ≡ false → Earlier r p → Earlier r q
-not_earlier p q r e a = grind arith
+not_earlier = not_first refusal_place LowerBefore is_lower not_lower
 
--- refusals of which neither is earlier are at one place, by a rule of one number
-pub neither_earlier : (r s : Refusal) → (Earlier r s → ⊥) → (Earlier s r → ⊥) → SameRefusal (Some r) (Some s)
+-- refusals of which neither is earlier are one
+pub neither_earlier : (r s : Refusal) → (Earlier r s → ⊥) → (Earlier s r → ⊥) → r ≡ s
 neither_earlier r s a b =
     let one_place : r.at ≡ s.at = neither_before r.at s.at (λ h. a (inl h)) (λ h. b (inl h)) in
-    let one_file : r.at.file ≡ s.at.file = ap (λ p. p.file) one_place in
-    let one_offset : r.at.at ≡ s.at.at = ap (λ p. p.at) one_place in
-    let not_below : r.rule < s.rule → ⊥ = λ h. a (inr (one_file, one_offset, h)) in
-    let not_above : s.rule < r.rule → ⊥ = λ h. b (inr (sym one_file, sym one_offset, h)) in
-    (one_file, one_offset, omega (arith, not_below, not_above))
+    let here : SamePlace r.at s.at = (ap (λ p. p.file) one_place, ap (λ p. p.at) one_place) in
+    let there : SamePlace s.at r.at = (sym here.0, sym here.1) in
+    let not_below : r.rule < s.rule → ⊥ = λ h. a (inr (here, inl h)) in
+    let not_above : s.rule < r.rule → ⊥ = λ h. b (inr (there, inl h)) in
+    let one_rule : r.rule ≡ s.rule = omega (arith, not_below, not_above) in
+    let one_other : r.other ≡ s.other = neither_other r.other s.other (λ h. a (inr (here, inr (one_rule, h)))) (λ h. b (inr (there, inr (sym one_rule, h)))) in
+    ap (λ rule. refusal rule r.at r.other) one_rule ∙ ap (λ at. refusal s.rule at r.other) one_place ∙ ap (λ other. refusal s.rule s.at other) one_other
+  where
+    refusal : ℕ → Place → Option Place → Refusal
+    refusal rule at other = record { rule = rule; at = at; other = other }
 
 module _ {R : Type 0} (number : R → ℕ) (Breaks : R → Spot → Type 0) where
   pub no_rules : LeastBroken number Breaks [] None
   no_rules = λ s b. absurd (omega (arith, b.listed.1))
 
-  -- there is one least refusal, but for the other place that it speaks of
-  pub same_refusal : (rules : List R) (a b : Option Refusal) → LeastBroken number Breaks rules a → LeastBroken number Breaks rules b → SameRefusal a b
-  same_refusal rules None None l m = tt
+  -- there is one least refusal
+  pub same_refusal : (rules : List R) (a b : Option Refusal) → LeastBroken number Breaks rules a → LeastBroken number Breaks rules b → a ≡ b
+  same_refusal rules None None l m = refl
   same_refusal rules None (Some s) l m = absurd (l s m.broken)
   same_refusal rules (Some r) None l m = absurd (m r l.broken)
-  same_refusal rules (Some r) (Some s) l m = neither_earlier r s (m.first r l.broken) (l.first s m.broken)
+  same_refusal rules (Some r) (Some s) l m = ap Some (neither_earlier r s (m.first r l.broken) (l.first s m.broken))
 
 module _ {R : Type 0} (number : R → ℕ) (Breaks : R → Spot → Type 0) (rule : R) (rules : List R) where
   pub head_broken : (s : Spot) → Breaks rule s → Broken number Breaks (rule ∷ rules) (refusal_at (number rule) s)
@@ -79,8 +113,9 @@ module _ {R : Type 0} (number : R → ℕ) (Breaks : R → Spot → Type 0) (rul
       by_place zero l e = inl (ap number e ∙ b.numbered, subst (λ n. Breaks n (spot_of r)) (sym e) b.breaks)
       by_place (suc k) l e = inr (record { which = b.which; listed = (k, omega arith, e); numbered = b.numbered; breaks = b.breaks })
 
-  not_same_rule : (s : Spot) (r : Refusal) → number rule ≡ r.rule → Earlier r (refusal_at (number rule) s) → Before r.at s.at
-  not_same_rule s r e before = grind arith
+  not_same_rule : (s : Spot) (r : Refusal) → number rule ≡ r.rule → Earlier r (refusal_at (number rule) s) → ComesBefore (spot_of r) s
+  not_same_rule s r e (inl before) = inl before
+  not_same_rule s r e (inr h) = elim h.1 [ inl below ↦ absurd (omega (arith, e, below)) | inr o ↦ inr (h.0, o.1) ]
 
   first_here : (s : Spot) → IsLeast (Breaks rule) s → (r : Refusal) → number rule ≡ r.rule → Breaks rule (spot_of r) → Earlier r (refusal_at (number rule) s) → ⊥
   first_here s l r e b before = l.first (spot_of r) b (not_same_rule s r e before)

@@ -1,6 +1,5 @@
 -- The order of places, the least spot at which something holds, and what holds at one of the items of a list.
-use Rattle.std.specs.Prelude.{◌≡◌, ◌⊎◌, ℕ, ◌<◌, Bool, ◌&&◌, ◌||◌, nat_lt, nat_eq, List, Contains, length, take, slice_get, Option, None, Some, if◌then◌else◌}
-use Rattle.std.specs.Option.{option_map}
+use Rattle.std.specs.Prelude.{◌≡◌, ◌⊎◌, ℕ, ◌<◌, Bool, true, false, ◌&&◌, ◌||◌, nat_lt, nat_eq, List, Contains, length, take, slice_get, Option, None, Some, if◌then◌else◌}
 use Rattle.widl_text.specs.declared.place.Place.{Place}
 use Rattle.widl_idl.specs.declared.spot.Spot.{Spot}
 
@@ -12,26 +11,50 @@ Before p q = (p.file < q.file) ⊎ ((p.file ≡ q.file) × (p.at < q.at))
 abbrev pub is_before : Place → Place → Bool
 is_before p q = nat_lt p.file q.file || (nat_eq p.file q.file && nat_lt p.at q.at)
 
+-- of two other places that may be absent the first comes before the second; none comes before each
+abbrev pub OtherBefore : Option Place → Option Place → Type 0
+OtherBefore None None = ⊥
+OtherBefore None (Some q) = Unit {0}
+OtherBefore (Some p) None = ⊥
+OtherBefore (Some p) (Some q) = Before p q
+
+abbrev pub is_other_before : Option Place → Option Place → Bool
+is_other_before None None = false
+is_other_before None (Some q) = true
+is_other_before (Some p) None = false
+is_other_before (Some p) (Some q) = is_before p q
+
+-- p and q are one place
+abbrev pub SamePlace : Place → Place → Type 0
+SamePlace p q = (p.file ≡ q.file) × (p.at ≡ q.at)
+
+abbrev pub is_same_place : Place → Place → Bool
+is_same_place p q = nat_eq p.file q.file && nat_eq p.at q.at
+
+-- s comes before t: it is at a lesser place, or at the same one and speaks of a lesser other place
+abbrev pub ComesBefore : Spot → Spot → Type 0
+ComesBefore s t = Before s.at t.at ⊎ (SamePlace s.at t.at × OtherBefore s.other t.other)
+
+-- the same as a test
+abbrev pub comes_before : Spot → Spot → Bool
+comes_before s t = is_before s.at t.at || (is_same_place s.at t.at && is_other_before s.other t.other)
+
 -- a spot that speaks of no other place
 abbrev pub spot_at : Place → Spot
 spot_at p = record { at = p; other = None }
 
--- the spot at the lesser place, of two that may be absent; of two at one place the first
+-- the spot that comes first, of two that may be absent; of two that are one the first
 abbrev pub lesser : Option Spot → Option Spot → Option Spot
 lesser None found = found
 lesser (Some best) None = Some best
-lesser (Some best) (Some found) = if is_before found.at best.at then Some found else Some best
+lesser (Some best) (Some found) = if comes_before found best then Some found else Some best
 
--- the place of a spot, where there is a spot
-abbrev pub place_of : Option Spot → Option Place
-place_of found = option_map (λ s. s.at) found
-
--- P holds at s, and at no spot whose place stands before
+-- P holds at s, and at no spot that comes before
 pub record IsLeast (P : Spot → Type 0) (s : Spot) : Type 0 where
   pub holds : P s
-  pub first : (t : Spot) → P t → Before t.at s.at → ⊥
+  pub first : (t : Spot) → P t → ComesBefore t s → ⊥
 
--- a spot at the least place at which P holds, or none where it holds nowhere
+-- the first spot at which P holds, or none where it holds nowhere
 abbrev pub LeastWhere : (P : Spot → Type 0) → Option Spot → Type 0
 LeastWhere P None = (t : Spot) → P t → ⊥
 LeastWhere P (Some s) = IsLeast P s

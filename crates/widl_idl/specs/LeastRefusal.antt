@@ -2,15 +2,22 @@
 use Rattle.std.specs.Prelude.{◌≡◌, ◌⊎◌, ℕ, ◌<◌, List, Contains, Bool, ◌&&◌, ◌||◌, nat_lt, nat_eq, Option, None, Some, if◌then◌else◌}
 use Rattle.widl_idl.specs.declared.refusal.Refusal.{Refusal}
 use Rattle.widl_idl.specs.declared.spot.Spot.{Spot}
-use Rattle.widl_idl.specs.Least.{Before, is_before}
+use Rattle.widl_idl.specs.Least.{Before, OtherBefore, SamePlace, is_before, is_other_before, is_same_place}
 
--- r is at a place before that of s, or at the same place by a rule with a lower number
+-- r is by a rule with a lower number, or by one of the same number and speaks of a lesser other place
+abbrev pub LowerBefore : Refusal → Refusal → Type 0
+LowerBefore r s = (r.rule < s.rule) ⊎ ((r.rule ≡ s.rule) × OtherBefore r.other s.other)
+
+abbrev pub is_lower : Refusal → Refusal → Bool
+is_lower r s = nat_lt r.rule s.rule || (nat_eq r.rule s.rule && is_other_before r.other s.other)
+
+-- r is at a place before that of s, or at the same place by a rule with a lower number, or by that rule with a lesser other place
 abbrev pub Earlier : Refusal → Refusal → Type 0
-Earlier r s = Before r.at s.at ⊎ ((r.at.file ≡ s.at.file) × (r.at.at ≡ s.at.at) × (r.rule < s.rule))
+Earlier r s = Before r.at s.at ⊎ (SamePlace r.at s.at × LowerBefore r s)
 
 -- the same as a test
 abbrev pub is_earlier : Refusal → Refusal → Bool
-is_earlier r s = is_before r.at s.at || (nat_eq r.at.file s.at.file && (nat_eq r.at.at s.at.at && nat_lt r.rule s.rule))
+is_earlier r s = is_before r.at s.at || (is_same_place r.at s.at && is_lower r s)
 
 -- the refusal by the rule of this number, which is broken at the spot
 abbrev pub refusal_at : ℕ → Spot → Refusal
@@ -42,12 +49,6 @@ pub record IsLeastBroken {R : Type 0} (number : R → ℕ) (Breaks : R → Spot 
 abbrev pub LeastBroken : {R : Type 0} → (number : R → ℕ) → (Breaks : R → Spot → Type 0) → List R → Option Refusal → Type 0
 LeastBroken number Breaks rules None = (s : Refusal) → Broken number Breaks rules s → ⊥
 LeastBroken number Breaks rules (Some r) = IsLeastBroken number Breaks rules r
-
--- both are absent, or both are at one place by a rule of one number
-abbrev pub SameRefusal : Option Refusal → Option Refusal → Type 0
-SameRefusal None None = Unit {0}
-SameRefusal (Some r) (Some s) = (r.at.file ≡ s.at.file) × (r.at.at ≡ s.at.at) × (r.rule ≡ s.rule)
-SameRefusal r s = ⊥
 
 -- the refusal of the first phase that has one
 abbrev pub first_of : Option Refusal → Option Refusal → Option Refusal

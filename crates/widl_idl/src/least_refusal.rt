@@ -1,14 +1,14 @@
 //! The least refusal by a list of rules, a rule at a time.
 
 ghost use Rattle.std.specs.Prelude.{◌≡◌};
-ghost use Rattle.widl_idl.specs.LeastRefusal.{is_earlier, join};
+ghost use Rattle.widl_idl.specs.LeastRefusal.{is_earlier, is_lower, join};
 
 use crate::refusal::Refusal;
-use crate::spot::{Spot, comes_before};
+use crate::spot::{Spot, comes_before, is_other_before, is_same_place};
 
 /// Of the least refusal by the rules before and of the refusal by this rule, the one that comes
-/// first: by file, then by offset, then by the number of the rule. `found` is the least spot at
-/// which this rule is broken. `best` where both agree in all three.
+/// first: by file, then by offset, then by the number of the rule, then by the other place. `found` is
+/// the least spot at which this rule is broken. `best` where both are one.
 pub fn joined(rule: u8, found: Option<Spot>, best: Option<Refusal>) -> Option<Refusal>
     ensures { result ≡ join rule found best }
 {
@@ -35,5 +35,11 @@ pub fn joined(rule: u8, found: Option<Spot>, best: Option<Refusal>) -> Option<Re
 fn comes_earlier(r: Refusal, s: Refusal) -> bool
     ensures { result ≡ is_earlier r s }
 {
-    comes_before(r.at, s.at) || r.at.file == s.at.file && r.at.at == s.at.at && r.rule < s.rule
+    comes_before(r.at, s.at) || is_same_place(r.at, s.at) && is_lower(r, s)
+}
+
+fn is_lower(r: Refusal, s: Refusal) -> bool
+    ensures { result ≡ is_lower r s }
+{
+    r.rule < s.rule || r.rule == s.rule && is_other_before(r.other, s.other)
 }

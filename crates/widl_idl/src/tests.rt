@@ -211,15 +211,19 @@ fn the_lesser_of_two_spots(rt: HostRuntime) -> Result<(), Fail> {
 }
 
 #[test]
-fn the_spot_found_first_stays_on_a_tie(rt: HostRuntime) -> Result<(), Fail> {
-    let found_first = Spot {
+fn the_lesser_other_place_comes_first_at_one_place(rt: HostRuntime) -> Result<(), Fail> {
+    let early = Spot {
         at: Place { file: 2, at: 7 },
         other: Some(Place { file: 2, at: 3 }),
     };
-    assert_eq!(rt;
-        lesser_spot(Some(found_first), Some(spot(2, 7))),
-        Some(found_first)
-    );
+    let late = Spot {
+        at: Place { file: 2, at: 7 },
+        other: Some(Place { file: 2, at: 4 }),
+    };
+    let alone = spot(2, 7);
+    assert_eq!(rt; lesser_spot(Some(late), Some(early)), Some(early));
+    assert_eq!(rt; lesser_spot(Some(early), Some(late)), Some(early));
+    assert_eq!(rt; lesser_spot(Some(early), Some(alone)), Some(alone));
     Ok(())
 }
 

@@ -9,17 +9,17 @@ use Rattle.widl_text.specs.declared.place.Place.{Place}
 use Rattle.widl_idl.specs.declared.spot.Spot.{Spot}
 use Rattle.widl_idl.specs.declared.tree.definitions.DefinitionKind.{DefinitionKind}
 use Rattle.widl_idl.specs.declared.tree.members.Member.{Member}
-use Rattle.widl_idl.specs.Least.{Before, AtOne, LeastWhere, Somewhere, lesser, spot_at}
+use Rattle.widl_idl.specs.Least.{AtOne, LeastWhere, Somewhere, lesser, spot_at}
 use Rattle.widl_idl.specs.MergingRules.{AtName, IsInEarlierPart, RepeatsOperation, has_operation, is_operation_of, is_static}
 use Rattle.widl_idl.specs.Parts.{members_in}
 use Rattle.widl_idl.specs.PlainTypes.{PlainName}
 use Rattle.widl_idl.specs.PlainTrees.{PlainKind, PlainMember, PlainMemberKind, OperationMember, definition_kind_of, member_of, members_of}
-use Rattle.widl_idl.proofs.Order.{irreflexive, least_same}
+use Rattle.widl_idl.proofs.Order.{least_same, not_before_same}
 use Rattle.widl_idl.proofs.Somewhere.{somewhere_both, somewhere_one}
-use Rattle.widl_merge.specs.PartTables.{listed_parts}
+use Rattle.widl_names.specs.PartTables.{listed_parts}
 use Rattle.widl_merge.specs.Repeats.{IsKnown, has_text, known_at, known_name}
-use Rattle.widl_merge.proofs.PlainLists.{mapped_more}
-use Rattle.widl_merge.proofs.Pushed.{at_one_push, some_is}
+use Rattle.widl_names.proofs.PlainLists.{mapped_more}
+use Rattle.widl_names.proofs.Pushed.{at_one_push, some_is}
 
 or_turned : (a b : Bool) → cond a true b ≡ (b || a)
 or_turned true true = refl
@@ -54,7 +54,7 @@ somewhere_step P f xs i x best found now below is e h m =
 -- a spot that is found is the least one
 found_least : (found : Option Spot) → LeastWhere (λ s. found ≡ Some s) found
 found_least None = λ t e. absurd (cc)
-found_least (Some s) = record { holds = refl; first = λ t e before. irreflexive s.at (subst (λ u. Before u.at s.at) (sym (some_is e)) before) }
+found_least (Some s) = record { holds = refl; first = λ t e before. not_before_same s t (some_is e) before }
 
 pub known_least : (known : List ℕ → Bool → Bool) (m : PlainMember) (found : Option Spot) → found ≡ known_at known m.kind → LeastWhere (IsKnown known m) found
 known_least known m found e = subst (LeastWhere (IsKnown known m)) (sym e) (found_least (known_at known m.kind))

@@ -11,8 +11,9 @@ use Rattle.widl_idl.specs.Profile.{profile_number, profile_rules, left_out_of, I
 use Rattle.widl_idl.specs.Things.{Thing}
 use Rattle.widl_idl.proofs.Somewhere.{somewhere_left, somewhere_right, somewhere_cases, one_item, nowhere}
 use Rattle.widl_idl.proofs.Steps.{earlier_trans, earlier_of, not_earlier}
-use Rattle.widl_merge.specs.declared.things.Thing as listed
-use Rattle.widl_merge.specs.Listings.{join_form, thing_of, things_listed}
+use Rattle.widl_names.specs.declared.things.Thing as listed
+use Rattle.widl_merge.specs.Refusals.{join_form}
+use Rattle.widl_names.specs.Listings.{thing_of, things_listed}
 
 -- each rule is one of the rules
 every_rule : (rule : ProfileRule) → Contains profile_rules rule

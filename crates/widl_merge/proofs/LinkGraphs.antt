@@ -4,12 +4,13 @@ use Rattle.std.specs.List.{Contains, flat_map}
 use Rattle.std.proofs.lemmas.List.{length-map, take_more, take_all, take-map, map-append}
 use Rattle.std.proofs.lemmas.Grind.{flat_map-append}
 use Rattle.std.proofs.lemmas.List.Elements.{Contains-append_cases}
+use Rattle.widl_names.proofs.NameMeanings.{meaning_below}
 use Rattle.widl_graph.specs.Lists.{with_successor}
 use Rattle.widl_graph.specs.Reaching.{AreNodes, Step}
 use Rattle.widl_graph.proofs.Building.{with_successor-append}
 use Rattle.widl_idl.specs.declared.kind.Kind.{Kind}
 use Rattle.widl_idl.specs.declared.tree.types.AnnotatedType.{AnnotatedType}
-use Rattle.widl_idl.specs.Meanings.{meaning, meaning_from, meant, meant_kind, kind_of, is_text_of, main_name, same_kind}
+use Rattle.widl_idl.specs.Meanings.{meaning, meant, meant_kind, kind_of, same_kind}
 use Rattle.widl_idl.specs.MergingRules.{parent_links, parent_numbers, parent_of, number_of_kind}
 use Rattle.widl_idl.specs.Nesting.{typedef_links, typedef_named, typedefs_in, number_if_typedef, annotated_names, union_names}
 use Rattle.widl_idl.specs.PlainTypes.{PlainName, annotated_of, union_of}
@@ -17,18 +18,6 @@ use Rattle.widl_idl.specs.PlainTrees.{PlainDefinition, PlainKind, TypedefDefinit
 
 some_is : {A : Type 0} {a b : A} → Some a ≡ Some b → a ≡ b
 some_is e = (cc)
-
--- a name means a definition
-meaning_within : (n : ℕ) (definitions : List PlainDefinition) (text : List ℕ) (k : ℕ) → meaning_from n definitions text ≡ Some k → k < n + length definitions
-meaning_within n [] text k e = absurd (cc)
-meaning_within n (d ∷ more) text k e = by_case (is_text_of text (main_name d.kind)) (λ h. meaning_within (n + 1) more text k h) e
-  where
-    by_case : (b : Bool) → (meaning_from (n + 1) more text ≡ Some k → k < n + 1 + length more) → cond b (Some n) (meaning_from (n + 1) more text) ≡ Some k → k < n + length (d ∷ more)
-    by_case true later h = let same : n ≡ k = some_is h in omega (arith, same)
-    by_case false later h = let l = later h in omega (arith, l)
-
-pub meaning_below : (definitions : List PlainDefinition) (text : List ℕ) (k : ℕ) → meaning definitions text ≡ Some k → k < length definitions
-meaning_below definitions text k e = let l = meaning_within 0 definitions text k e in omega (arith, l)
 
 -- each number in the list is below the count
 abbrev AllBelow : ℕ → List ℕ → Type 0

@@ -8,8 +8,9 @@ use Rattle.widl_idl.specs.Least.{LeastWhere, spot_at}
 use Rattle.widl_idl.specs.Meanings.{main_name, meaning}
 use Rattle.widl_idl.specs.MergingRules.{AtName, IsSecondDefinition}
 use Rattle.widl_idl.proofs.Order.{one_place}
-use Rattle.widl_merge.specs.NameRules.{MeansOther, is_below}
-use Rattle.widl_merge.proofs.NameMeanings.{meaning_taken}
+use Rattle.widl_merge.specs.NameRules.{MeansOther}
+use Rattle.widl_names.specs.Numbers.{is_below}
+use Rattle.widl_names.proofs.NameMeanings.{meaning_taken}
 
 -- the least spot for the name and the kind that were computed before
 pub asked_of : (definitions : List PlainDefinition) (kind of_kind : Kind) (name of_name : Option PlainName) (found : Option Spot) → kind ≡ of_kind → name ≡ of_name → LeastWhere (MeansOther definitions kind name) found → LeastWhere (MeansOther definitions of_kind of_name) found

@@ -10,9 +10,9 @@ use Rattle.indexmap.specs.IndexMap.{IndexMap, get_by}
 use Rattle.widl_idl.specs.declared.spot.Spot.{Spot}
 use Rattle.widl_idl.specs.declared.tree.definitions.Definition.{Definition}
 use Rattle.widl_idl.specs.PlainTrees.{PlainDefinition, PlainKind, definition_of}
-use Rattle.widl_merge.specs.Listings.{listed_definitions}
-use Rattle.widl_merge.proofs.PlainLists.{listed_more}
-use Rattle.widl_merge.proofs.Pushed.{at_one_push}
+use Rattle.widl_names.specs.Listings.{listed_definitions}
+use Rattle.widl_names.proofs.PlainLists.{listed_more}
+use Rattle.widl_names.proofs.Pushed.{at_one_push}
 use Rattle.widl_idl.specs.Least.{LeastWhere, AtOne, lesser, spot_at}
 use Rattle.widl_idl.specs.MergingRules as written
 use Rattle.widl_idl.specs.MergingRules.{PassesLimit, member_total, portion_of, portions_from}

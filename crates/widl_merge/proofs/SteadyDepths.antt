@@ -16,7 +16,7 @@ use Rattle.widl_idl.specs.PlainTrees.{PlainDefinition, PlainKind, PlainTypedef, 
 use Rattle.widl_merge.specs.Depths.{capped, is_flagged, AreCapped, AreSteady, TellsDepths, kept_depth, number_depth, table_depth}
 use Rattle.widl_merge.specs.Links.{IsWalk}
 use Rattle.widl_merge.proofs.CappedDepths.{capped_twice, annotated_same, annotated_unknown, meant_same, only_item}
-use Rattle.widl_merge.proofs.LinkGraphs.{meaning_below}
+use Rattle.widl_names.proofs.NameMeanings.{meaning_below}
 use Rattle.widl_merge.proofs.TableDepths.{table_capped}
 
 -- a list of lists, put together

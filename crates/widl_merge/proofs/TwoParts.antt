@@ -15,14 +15,14 @@ use Rattle.widl_idl.specs.Parts.{members_in, parts_of}
 use Rattle.widl_idl.specs.PlainTypes.{PlainName}
 use Rattle.widl_idl.specs.PlainTrees.{PlainDefinition, PlainKind, PlainMember, PlainMemberKind, OperationMember, definition_of}
 use Rattle.widl_idl.proofs.Order.{least_same}
-use Rattle.widl_merge.specs.Listings.{listed_definitions}
-use Rattle.widl_merge.specs.PartTables.{ListsParts, has_members, has_parts}
+use Rattle.widl_names.specs.Listings.{listed_definitions}
+use Rattle.widl_names.specs.PartTables.{ListsParts, has_members, has_parts}
 use Rattle.widl_merge.specs.Repeats.{RepeatsAt, RepeatsInOwner, is_owner, means_itself}
-use Rattle.widl_merge.proofs.KeptMembers.{no_members}
+use Rattle.widl_names.proofs.KeptMembers.{no_members}
 use Rattle.widl_merge.proofs.Known.{any_push}
-use Rattle.widl_merge.proofs.NamedParts.{meaning_named, meant_at}
-use Rattle.widl_merge.proofs.PlainLists.{listed_more}
-use Rattle.widl_merge.proofs.Pushed.{at_one_push, either_pushed, some_is}
+use Rattle.widl_names.proofs.NamedParts.{meaning_named, meant_at}
+use Rattle.widl_names.proofs.PlainLists.{listed_more}
+use Rattle.widl_names.proofs.Pushed.{at_one_push, either_pushed, some_is}
 
 -- two lists of parts have the same operations, and repeat them at the same spots
 record Alike (some others : List PlainKind) : Type 0 where

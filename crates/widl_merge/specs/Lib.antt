@@ -1,9 +1,12 @@
-pub mod Listings
 pub mod Refusals
-pub mod Numbers
 pub mod NameRules
 pub mod Portions
-pub mod PartTables
 pub mod Repeats
 pub mod Links
 pub mod Depths
+pub mod ListedValues
+pub mod DictionaryTables
+pub mod PutTogether
+pub mod PlainMain
+pub mod GrownLists
+pub mod MergedDefs

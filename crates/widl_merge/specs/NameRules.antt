@@ -1,5 +1,5 @@
 -- What the rules on names ask of one name.
-use Rattle.std.specs.Prelude.{◌≢◌, ℕ, Bool, false, nat_lt, List, Option, None, Some}
+use Rattle.std.specs.Prelude.{◌≢◌, List, Option, Some}
 use Rattle.widl_idl.specs.declared.kind.Kind.{Kind}
 use Rattle.widl_idl.specs.declared.spot.Spot.{Spot}
 use Rattle.widl_idl.specs.PlainTypes.{PlainName}
@@ -10,8 +10,3 @@ use Rattle.widl_idl.specs.MergingRules.{AtName}
 -- the name, if there is one, means no definition of the kind: at the name
 abbrev pub MeansOther : List PlainDefinition → Kind → Option PlainName → Spot → Type 0
 MeansOther definitions kind name s = AtName name (λ n. meant_kind definitions n.text ≢ Some kind) s
-
--- whether there is a number, and it is below n
-abbrev pub is_below : ℕ → Option ℕ → Bool
-is_below n None = false
-is_below n (Some m) = nat_lt m n

@@ -1,7 +1,9 @@
 -- The least refusal of a set of files by the rules of the profile and of merging.
 use Rattle.std.specs.Prelude.{◌≡◌, List, Option, None, Some}
+use Rattle.widl_idl.specs.declared.profile_rule.LeftOut.{LeftOut}
 use Rattle.widl_idl.specs.declared.refusal.Refusal.{Refusal}
-use Rattle.widl_idl.specs.LeastRefusal.{LeastBroken}
+use Rattle.widl_idl.specs.Least.{spot_at}
+use Rattle.widl_idl.specs.LeastRefusal.{LeastBroken, join}
 use Rattle.widl_idl.specs.MergingRules.{BreaksMerging, merging_number, merging_rules}
 use Rattle.widl_idl.specs.PlainTrees.{PlainDefinition}
 use Rattle.widl_idl.specs.Profile.{BreaksProfile, profile_number, profile_rules}
@@ -22,3 +24,8 @@ pub record IsRefusal (definitions : List PlainDefinition) (refusal : Option Refu
   pub profile : Option Refusal
   pub profile_is : IsProfileRefusal definitions profile
   pub behind : IsRefusalBehind definitions profile refusal
+
+-- the earlier of what was found before and of a form that is left out
+abbrev pub join_form : Option LeftOut → Option Refusal → Option Refusal
+join_form None best = best
+join_form (Some form) best = join (profile_number form.rule) (Some (spot_at form.at)) best

@@ -9,7 +9,7 @@ use Rattle.widl_idl.specs.MergingRules.{RepeatsOperation, is_number, is_static}
 use Rattle.widl_idl.specs.Parts.{parts_of}
 use Rattle.widl_idl.specs.PlainTypes.{PlainName}
 use Rattle.widl_idl.specs.PlainTrees.{PlainDefinition, PlainKind, PlainMember, PlainMemberKind, OperationMember}
-use Rattle.widl_merge.specs.PartTables.{has_parts}
+use Rattle.widl_names.specs.PartTables.{has_parts}
 
 -- whether a set has a text
 abbrev pub has_text : {S : Type 0} → IndexSet (Bor (List ℕ)) S → List ℕ → Bool

@@ -6,13 +6,13 @@ ghost use Rattle.widl_idl.specs.Least.{LeastWhere};
 ghost use Rattle.widl_idl.specs.MergingRules.{ComesBack};
 ghost use Rattle.widl_idl.specs.PlainTrees.{definition_of};
 ghost use Rattle.widl_merge.specs.Links.{Returns};
-ghost use Rattle.widl_merge.specs.Listings.{listed_definitions};
+ghost use Rattle.widl_names.specs.Listings.{listed_definitions};
 
-use crate::names::name_declared;
 use std::alloc::AllocError;
 use widl_graph::Graph;
 use widl_idl::tree::Definition;
 use widl_idl::{Spot, lesser_spot};
+use widl_names::name_declared;
 
 /// The least place of the name of a definition that comes back to itself, where a flag for each tells
 /// which do.

@@ -1,27 +1,36 @@
-//! The rules of the profile and of merging over the trees of a set of files. It stands on the trees, the
-//! predicates and the spots of `widl_idl`, and on the walk of `widl_graph`. The one contract that is used
-//! above: [`find_refusal`] answers exactly the least refusal by these rules, or none where all of them are
-//! kept.
+//! Merging: the rules of the profile and of merging over the trees of a set of files, and the list of
+//! definitions that the files declare. It stands on the trees, the predicates and the spots of `widl_idl`,
+//! on the walk of `widl_graph`, and on the names of `widl_names`. The contracts that are used above:
+//! [`merge`] answers the merged list of files that break none of these rules, or exactly the least
+//! refusal; [`find_refusal`] answers that refusal alone.
 #![tactic(auto)]
 
+mod callbacks;
 mod cycles;
-mod definitions;
-mod listings;
-mod meanings;
-mod meant;
+mod defs;
+mod dictionary_parts;
+mod enumerations;
+mod member_parts;
+mod merged_dictionaries;
+mod merged_interfaces;
+mod merged_members;
+mod merged_set;
 mod merging;
 mod name_rules;
-mod names;
+mod name_units;
 mod nesting;
+mod numbered;
+mod numbered_items;
+mod operation_numbers;
 mod operations;
 mod parents;
-mod part_limit;
-mod parts;
 mod profile;
 mod reference_rules;
 mod refusals;
+mod signatures;
+mod sources;
 mod sums;
-mod things;
 mod typedefs;
 
+pub use merged_set::{MergeFault, merge};
 pub use refusals::find_refusal;

@@ -7,25 +7,23 @@ ghost use Rattle.widl_idl.specs.PlainTrees.{plain_definitions};
 ghost use Rattle.widl_idl.specs.Things.{things_of};
 ghost use Rattle.widl_idl.specs.declared.merging_rule.MergingRule as rules;
 ghost use Rattle.widl_idl.specs.declared.merging_rule.MergingRule.TheVariants as rule;
-ghost use Rattle.widl_merge.specs.Listings.{listed_definitions, things_listed};
+ghost use Rattle.widl_names.specs.Listings.{listed_definitions, things_listed};
 ghost use Rattle.widl_merge.specs.Refusals.{IsMergingRefusal};
 
-use crate::meanings::Meanings;
 use crate::name_rules::{first_reserved_name, first_second_definition, first_unknown_type};
 use crate::nesting::first_nesting_too_deep;
 use crate::operations::first_in_two_parts;
 use crate::parents::first_inheriting_from_itself;
-use crate::parts::Parts;
 use crate::reference_rules::{
     first_includes_into_no_interface, first_includes_no_mixin, first_parent_of_other_kind,
     first_partial_without_main,
 };
 use crate::sums::first_past_limit;
-use crate::things::Thing;
 use crate::typedefs::{first_typedef_reaching_itself, walk_typedefs};
 use std::alloc::{AllocError, Global};
 use widl_idl::tree::Definition;
 use widl_idl::{MergingRule, Refusal, joined};
+use widl_names::{Meanings, Parts, Thing};
 
 /// The least refusal by a rule of merging, or none where all of them are kept. The things are everything
 /// that is written in the definitions.

@@ -7,14 +7,12 @@ ghost use Rattle.widl_idl.specs.MergingRules.{BreaksMerging, IsReservedName, IsS
 ghost use Rattle.widl_idl.specs.Things.{TypeThing};
 ghost use Rattle.widl_idl.specs.PlainTrees.{definition_of, plain_definitions};
 ghost use Rattle.widl_idl.specs.PlainTypes.{type_of};
-ghost use Rattle.widl_merge.specs.Listings.{thing_of, things_listed};
-ghost use Rattle.widl_merge.specs.NameRules.{is_below};
+ghost use Rattle.widl_names.specs.Listings.{thing_of, things_listed};
+ghost use Rattle.widl_names.specs.Numbers.{is_below};
 
-use crate::meanings::Meanings;
-use crate::names::main_name;
-use crate::things::Thing;
 use widl_idl::tree::{Definition, TypeForm, WrittenType};
 use widl_idl::{Kind, Spot, lesser_spot};
+use widl_names::{Meanings, Thing, main_name};
 
 /// The least place of a name's second main definition.
 pub fn first_second_definition(meanings: &Meanings<'_, '_>) -> Option<Spot>

@@ -10,15 +10,14 @@ ghost use Rattle.widl_idl.specs.PlainTypes.{name_of, form_term, type_of, annotat
 ghost use Rattle.widl_idl.specs.Things.{TypeThing, things_of};
 ghost use Rattle.widl_merge.specs.Depths.{capped, is_deep, is_flagged, AreCapped, TellsDepths, kept_depth, number_depth, table_depth};
 ghost use Rattle.widl_merge.specs.Links.{IsWalk};
-ghost use Rattle.widl_merge.specs.Listings.{thing_of, things_listed};
+ghost use Rattle.widl_names.specs.Listings.{thing_of, things_listed};
 
 use crate::cycles::is_set;
-use crate::meanings::{Meanings, kind_at};
-use crate::things::Thing;
 use std::alloc::{AllocError, Global};
 use widl_graph::Walk;
 use widl_idl::tree::{AnnotatedType, DefinitionKind, Name, TypeForm, WrittenType};
 use widl_idl::{Spot, lesser_spot};
+use widl_names::{Meanings, Thing, kind_at};
 
 // How deep types may nest. One more stands for all that nest deeper.
 const LIMIT: usize = 16;

@@ -7,17 +7,14 @@ ghost use Rattle.widl_idl.specs.Least.{AtOne, LeastWhere, Somewhere};
 ghost use Rattle.widl_idl.specs.MergingRules.{BreaksMerging, RepeatsOperation, both_or_none, is_operation_of, is_static};
 ghost use Rattle.widl_idl.specs.Meanings.{is_text_of, main_name};
 ghost use Rattle.widl_idl.specs.PlainTrees.{definition_kind_of, member_kind_of, members_of, operation_of, plain_definitions};
-ghost use Rattle.widl_merge.specs.PartTables.{has_parts, listed_parts};
+ghost use Rattle.widl_names.specs.PartTables.{has_parts, listed_parts};
 ghost use Rattle.widl_merge.specs.Repeats.{IsKnown, RepeatsInOwner, has_name, has_text, is_owner, known_at, known_name, means_itself};
 
-use crate::meanings::Meanings;
-use crate::meant::means_number;
-use crate::names::{kind_of, main_name};
-use crate::parts::{Parts, members_in};
 use indexmap::IndexSet;
 use std::alloc::{AllocError, Global};
 use widl_idl::tree::{DefinitionKind, Member, MemberKind, Operation, OperationKind};
 use widl_idl::{Kind, Spot, lesser_spot};
+use widl_names::{Meanings, Parts, kind_of, main_name, means_number, members_in};
 
 // The names of operations.
 #[derive(Drop)]
@@ -200,7 +197,8 @@ impl<'a> OperationNames<'a> {
     }
 }
 
-fn is_static(kind: OperationKind) -> bool
+/// Whether an operation is one of the interface object.
+pub fn is_static(kind: OperationKind) -> bool
     ensures { result ≡ is_static kind }
 {
     match kind {

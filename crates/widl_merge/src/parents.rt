@@ -8,13 +8,12 @@ ghost use Rattle.widl_idl.specs.MergingRules.{BreaksMerging, number_of_kind, par
 ghost use Rattle.widl_idl.specs.PlainTrees.{definition_kind_of, plain_definitions};
 
 use crate::cycles::{add_linked, first_coming_back};
-use crate::meanings::Meanings;
-use crate::names::kind_of;
 use crate::reference_rules::parent_of;
 use std::alloc::{AllocError, Global};
 use widl_graph::{Graph, Walk};
 use widl_idl::tree::DefinitionKind;
 use widl_idl::{Kind, Spot};
+use widl_names::{Meanings, kind_of};
 
 /// The least place of the name of an interface or a dictionary that inherits from itself.
 ///

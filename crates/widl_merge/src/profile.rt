@@ -5,14 +5,15 @@ ghost use Rattle.widl_idl.specs.Profile.{attributes_without_effect, annotation_n
 ghost use Rattle.widl_idl.specs.LeastRefusal.{LeastBroken};
 ghost use Rattle.widl_idl.specs.PlainTypes.{attribute_of, value_of, literal_of, form_term, type_of, annotated_of};
 ghost use Rattle.widl_idl.specs.PlainTrees.{member_kind_of};
-ghost use Rattle.widl_merge.specs.Listings.{thing_of, things_listed, join_form};
+ghost use Rattle.widl_merge.specs.Refusals.{join_form};
+ghost use Rattle.widl_names.specs.Listings.{thing_of, things_listed};
 
-use crate::things::Thing;
 use widl_idl::tree::{
     AnnotatedType, AttributeKind, Container, ExtendedAttribute, Literal, LiteralValue, MemberKind,
     OperationKind, TypeForm, WrittenType,
 };
 use widl_idl::{LeftOut, ProfileRule, Refusal, Spot, joined};
+use widl_names::Thing;
 use widl_text::Place;
 
 /// The least refusal by a rule of the profile, or none where no form that is left out is written.

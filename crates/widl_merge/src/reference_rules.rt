@@ -9,10 +9,9 @@ ghost use Rattle.widl_idl.specs.PlainTrees.{definition_kind_of, plain_definition
 ghost use Rattle.widl_idl.specs.PlainTypes.{name_of};
 ghost use Rattle.widl_merge.specs.NameRules.{MeansOther};
 
-use crate::meanings::Meanings;
-use crate::names::{kind_of, partial_name};
 use widl_idl::tree::{DefinitionKind, Name};
 use widl_idl::{Kind, Spot, lesser_spot};
+use widl_names::{Meanings, kind_of, partial_name};
 
 /// The least place of a partial definition's name that means no definition of its kind.
 pub fn first_partial_without_main(meanings: &Meanings<'_, '_>) -> Option<Spot>

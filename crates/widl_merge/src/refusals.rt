@@ -3,17 +3,15 @@
 ghost use Rattle.std.specs.Prelude.{◌≡◌, IfOk, Some, None};
 ghost use Rattle.widl_idl.specs.Meanings.{definitions_of};
 ghost use Rattle.widl_idl.specs.Things.{things_of};
-ghost use Rattle.widl_merge.specs.Listings.{listed_definitions, things_listed};
+ghost use Rattle.widl_names.specs.Listings.{listed_definitions, things_listed};
 ghost use Rattle.widl_merge.specs.Refusals.{IsRefusal};
 
-use crate::definitions::list_definitions;
-use crate::listings::list_things;
 use crate::merging::first_unmerged;
 use crate::profile::first_left_out;
-use crate::things::Thing;
 use std::alloc::{AllocError, Global};
 use widl_idl::tree::Definition;
 use widl_idl::{Fragments, Refusal};
+use widl_names::{Thing, list_definitions, list_things};
 
 /// The least refusal of a set of files: by the rules of the profile, or, where none of these is broken, by
 /// the rules of merging. None where all of them are kept.
@@ -29,8 +27,12 @@ pub fn find_refusal(alloc: Global, fragments: &Fragments) -> Result<Option<Refus
     find_in_things(alloc, &definitions, &things)
 }
 
-// The same, where everything that is written in the definitions is listed.
-fn find_in_things(
+/// The same, where everything that is written in the definitions is listed.
+///
+/// # Errors
+///
+/// `AllocError` where there is no memory.
+pub fn find_in_things(
     alloc: Global,
     definitions: &[&Definition],
     things: &[Thing<'_>],

@@ -10,16 +10,14 @@ ghost use Rattle.widl_idl.specs.MergingRules.{BreaksMerging, includes_portion, i
 ghost use Rattle.widl_idl.specs.Parts.{adds_to, is_mixin, members_in, own_parts};
 ghost use Rattle.widl_idl.specs.PlainTrees.{definition_kind_of, members_of, plain_definitions};
 ghost use Rattle.widl_idl.specs.PlainTypes.{name_of};
-ghost use Rattle.widl_merge.specs.Listings.{listed_definitions};
+ghost use Rattle.widl_names.specs.Listings.{listed_definitions};
 ghost use Rattle.widl_merge.specs.Portions.{AreFound, KeepsAdded, added_in, capped};
 
-use crate::meanings::Meanings;
-use crate::meant::{means_kind, means_number};
-use crate::names::{is_partial, kind_of};
 use indexmap::IndexMap;
 use std::alloc::{AllocError, Global};
 use widl_idl::tree::{Definition, DefinitionKind, Includes, Member, Mixin, Name};
 use widl_idl::{Kind, Spot, lesser_spot};
+use widl_names::{Meanings, is_partial, kind_of, means_kind, means_number};
 use widl_text::Place;
 
 // The greatest sum that is allowed. Sums and sizes stop at one past it.

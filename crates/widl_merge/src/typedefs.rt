@@ -11,11 +11,11 @@ ghost use Rattle.widl_idl.specs.PlainTypes.{name_of, form_term, type_of, annotat
 ghost use Rattle.widl_merge.specs.Links.{IsWalk};
 
 use crate::cycles::{add_linked, first_coming_back};
-use crate::meanings::Meanings;
 use std::alloc::{AllocError, Global};
 use widl_graph::{Graph, Walk};
 use widl_idl::Spot;
 use widl_idl::tree::{AnnotatedType, DefinitionKind, Name, TypeForm, WrittenType};
+use widl_names::Meanings;
 
 /// The least place of the name of a typedef that reaches itself.
 pub fn first_typedef_reaching_itself(meanings: &Meanings<'_, '_>, walk: &Walk) -> Option<Spot>

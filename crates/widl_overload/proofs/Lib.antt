@@ -5,3 +5,10 @@ pub mod Lengths
 pub mod Shorter
 pub mod Constructed
 pub mod Numbered
+pub mod OneLength
+pub mod DifferingTuples
+pub mod OnlySpots
+pub mod SpotSteps
+pub mod SameInterfaces
+pub mod SameTuples
+pub mod SameOverloads

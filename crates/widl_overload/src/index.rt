@@ -60,14 +60,14 @@ fn end_of_run(tuples: &[Tuple], m: usize) -> usize
     end
 }
 
-fn has_length(tuple: &Tuple, m: usize) -> bool
+pub(crate) fn has_length(tuple: &Tuple, m: usize) -> bool
     ensures { result ≡ has_length_of m (tuple_term tuple.now) }
 {
     tuple.types.len() == m
 }
 
 /// Whether at least two tuples have a length.
-fn are_several(tuples: &[Tuple], m: usize) -> bool
+pub(crate) fn are_several(tuples: &[Tuple], m: usize) -> bool
     ensures { result ≡ nat_le 2 (length (terms_of_length m tuples.now)) }
 {
     let mut count = 0usize;

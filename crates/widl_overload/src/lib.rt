@@ -3,20 +3,32 @@
 //! contract that the crates above use: [`effective_set`] lists each tuple of the standard's set once.
 #![tactic(auto)]
 
+mod accepted;
 mod callees;
 mod category;
 mod distinct;
 mod index;
 mod inheritance;
+mod overload_names;
+mod overload_rules;
+mod overload_sizes;
+mod overload_spots;
 mod sets;
 #[cfg(test)]
 mod tests;
 mod tuple;
+mod type_role;
+mod validity_rule;
 
+pub use accepted::Accepted;
 pub use callees::overloads;
 pub use category::Category;
 pub use distinct::{distinguishable, distinguishable_from_itself, distinguishable_is_symmetric};
 pub use index::distinguishing_index;
 pub use inheritance::inherits;
+pub use overload_rules::{first_alike_overloads, first_early_difference, least_overload_spots};
+pub use overload_spots::OverloadSpots;
 pub use sets::{effective_set, effective_set_is_as_constructed};
 pub use tuple::{OverloadSet, Tuple};
+pub use type_role::TypeRole;
+pub use validity_rule::ValidityRule;

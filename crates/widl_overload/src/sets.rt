@@ -44,7 +44,7 @@ pub fn effective_set_is_as_constructed()
 {}
 
 /// The effective overload set of these overloads.
-fn set_of(alloc: Global, sigs: &[Sig], n: u32) -> Result<OverloadSet, AllocError>
+pub(crate) fn set_of(alloc: Global, sigs: &[Sig], n: u32) -> Result<OverloadSet, AllocError>
     requires { AreNumbered sigs.now }
     ensures { IfOk result (λ set. tuples_in set ≡ effective_tuples sigs.now n) }
 {
@@ -74,7 +74,7 @@ fn greatest_length(sigs: &[Sig], n: u32) -> usize
 }
 
 /// The length of the longest list of arguments.
-fn longest_list(sigs: &[Sig]) -> usize
+pub(crate) fn longest_list(sigs: &[Sig]) -> usize
     requires { AreNumbered sigs.now }
     ensures is { result ≡ longest sigs.now }
     ensures few { result < 4294967296 }

@@ -3,8 +3,10 @@
 ghost use Rattle.std.specs.Prelude.{IsTrue};
 ghost use Rattle.widl_overload.specs.Sets.{AreNumbered};
 
+use crate::overload_rules::spots_of_overloads;
 use crate::{
-    OverloadSet, distinguishable, distinguishing_index, effective_set, inherits, overloads,
+    OverloadSet, OverloadSpots, distinguishable, distinguishing_index, effective_set, inherits,
+    overloads,
 };
 use std::alloc::{AllocError, Global};
 use std::mem;
@@ -13,7 +15,7 @@ use std::test::Fail;
 use widl_idl::{
     Arg, Args, Attrs, Callbacks, Callee, Choices, Constants, Defs, Dicts, IdlType, IdlTypes, Iface,
     Ifaces, IntKind, Mode, OpName, OpNames, Optionality, Owner, Part, Sig, Sigs, Slots, Space,
-    Spaces, Stringify, TextKind, same_type,
+    Spaces, Spot, Stringify, TextKind, same_type,
 };
 use widl_text::{Place, Units};
 
@@ -484,5 +486,106 @@ fn sixty_four_overloads_of_sixty_four_arguments(rt: HostRuntime) -> Result<(), F
     assert_eq!(rt; set.len(), 65 * 64);
     assert_eq!(rt; distinguishing_index(&defs, &set, 63), None);
     assert_eq!(rt; distinguishing_index(&defs, &set, 64), Some(63));
+    Ok(())
+}
+
+/// An overload whose name stands at an offset of the first file.
+fn overload_at(at: u32, args: Args) -> Sig {
+    let mut sig = overload(args);
+    sig.at = Place { file: 0, at };
+    sig
+}
+
+fn byte_text() -> IdlType {
+    IdlType::Text {
+        kind: TextKind::Byte,
+        null_empty: false,
+    }
+}
+
+/// Two arguments, the second of which has this optionality value.
+fn two(alloc: Global, first: IdlType, last: IdlType, opt: Optionality) -> Result<Args, AllocError> {
+    let mut args = Args::new(alloc);
+    add(alloc, &mut args, first, Optionality::Required)?;
+    add(alloc, &mut args, last, opt)?;
+    Ok(args)
+}
+
+fn spots_of(alloc: Global, rt: &impl Abort, sigs: &Sigs) -> Result<OverloadSpots, AllocError> {
+    assert!(rt; are_numbered(sigs.as_slice()));
+    let defs = list_of(alloc, Ifaces::new(alloc), Spaces::new(alloc));
+    spots_of_overloads(alloc, &defs, sigs.as_slice())
+}
+
+fn spot(at: u32, other: u32) -> Option<Spot> {
+    Some(Spot {
+        at: Place { file: 0, at },
+        other: Some(Place { file: 0, at: other }),
+    })
+}
+
+#[test]
+fn overloads_that_break_no_rule(rt: HostRuntime) -> Result<(), Fail> {
+    let alloc = rt.alloc();
+    let mut sigs = Sigs::new(alloc);
+    let required = Optionality::Required;
+    sigs.push(overload_at(10, two(alloc, long(), text(), required)?))?;
+    let spots = spots_of(alloc, &rt, &sigs)?;
+    assert_eq!(rt;
+        spots,
+        OverloadSpots {
+            alike: None,
+            early: None
+        }
+    );
+    sigs.push(overload_at(20, two(alloc, long(), long(), required)?))?;
+    let spots = spots_of(alloc, &rt, &sigs)?;
+    assert_eq!(rt;
+        spots,
+        OverloadSpots {
+            alike: None,
+            early: None
+        }
+    );
+    Ok(())
+}
+
+/// `undefined f(long a, optional DOMString b); undefined f(long a, DOMString b);`, and between them
+/// one without arguments.
+#[test]
+fn overloads_that_cannot_be_told_apart(rt: HostRuntime) -> Result<(), Fail> {
+    let alloc = rt.alloc();
+    let mut sigs = Sigs::new(alloc);
+    let optional = Optionality::Optional;
+    sigs.push(overload_at(10, two(alloc, long(), text(), optional)?))?;
+    sigs.push(overload_at(20, Args::new(alloc)))?;
+    sigs.push(overload_at(30, two(alloc, long(), text(), Optionality::Required)?))?;
+    let spots = spots_of(alloc, &rt, &sigs)?;
+    assert_eq!(rt;
+        spots,
+        OverloadSpots {
+            alike: spot(30, 10),
+            early: None
+        }
+    );
+    Ok(())
+}
+
+/// `undefined f(DOMString a, long b); undefined f(ByteString a, DOMString b);`
+#[test]
+fn overloads_that_differ_too_early(rt: HostRuntime) -> Result<(), Fail> {
+    let alloc = rt.alloc();
+    let mut sigs = Sigs::new(alloc);
+    let required = Optionality::Required;
+    sigs.push(overload_at(10, two(alloc, text(), long(), required)?))?;
+    sigs.push(overload_at(20, two(alloc, byte_text(), text(), required)?))?;
+    let spots = spots_of(alloc, &rt, &sigs)?;
+    assert_eq!(rt;
+        spots,
+        OverloadSpots {
+            alike: None,
+            early: spot(20, 10)
+        }
+    );
     Ok(())
 }

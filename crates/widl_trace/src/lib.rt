@@ -20,4 +20,4 @@ pub use numbers::Numbers;
 pub use sink::{Sink, WriteFailed};
 pub use stdout_sink::StdoutSink;
 pub use sure_sink::SureSink;
-pub use writer::Writer;
+pub use writer::{Writer, write_all};

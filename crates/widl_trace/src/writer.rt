@@ -27,8 +27,12 @@ fn write_some<K: Sink>(out: &mut K, bytes: &[u8]) -> Result<usize, WriteFailed>
     Ok(count as usize)
 }
 
-/// Hands a sink all of the bytes.
-fn write_all<K: Sink>(out: &mut K, bytes: &[u8]) -> Result<(), WriteFailed>
+/// Hands a sink all of the bytes, without a writer.
+///
+/// # Errors
+///
+/// `WriteFailed` where the sink failed. The bytes that it holds then grew by a prefix of these.
+pub fn write_all<K: Sink>(out: &mut K, bytes: &[u8]) -> Result<(), WriteFailed>
     ensures ok { OnOk result (K.held out.new ≡ append_known (K.held out.old) bytes.now) }
     ensures err { OnErr result (GrewByPrefix (K.held out.old) (K.held out.new) bytes.now) }
     ensures cause { HasCause (K.faults out.old) (K.faults out.new) result }

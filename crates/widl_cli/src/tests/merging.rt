@@ -1,17 +1,9 @@
 //! The rules of merging: each triggered once, alone, at its place, and once just not.
 
-use super::expect_check;
+use super::{expect_check, expect_kept, expect_rows};
 use crate::Status;
 use std::alloc::{AllocError, Global};
-use std::process::Abort;
 use std::test::Fail;
-
-fn expect_rows(rt: &impl Abort, alloc: Global, rows: &[(&str, &str)]) -> Result<(), Fail> {
-    for (fragment, text) in rows {
-        expect_check(rt, alloc, &[*fragment, ""], Status::Refused, text)?;
-    }
-    Ok(())
-}
 
 #[test]
 fn each_rule_is_broken_at_its_place(rt: HostRuntime) -> Result<(), Fail> {
@@ -54,22 +46,15 @@ fn each_rule_is_broken_at_its_place(rt: HostRuntime) -> Result<(), Fail> {
 
 #[test]
 fn the_sets_beside_them_are_kept(rt: HostRuntime) -> Result<(), Fail> {
-    let later = "refused later 0 0\n";
-    let rows = [
-        ("partial namespace N { }; namespace N { };", later),
-        ("interface I { attribute long toStrings; };", later),
-        (
-            "interface A { }; partial interface mixin M { }; interface mixin M { }; A includes M;",
-            later,
-        ),
-        ("interface A : B { }; interface B { };", later),
-        ("typedef A B; typedef sequence<B> C; typedef long A;", later),
-        (
-            "interface I { undefined f(); undefined f(long a); }; partial interface I { static undefined f(); };",
-            later,
-        ),
+    let sets = [
+        "partial namespace N { }; namespace N { };",
+        "interface I { attribute long toStrings; };",
+        "interface A { }; partial interface mixin M { }; interface mixin M { }; A includes M;",
+        "interface A : B { }; interface B { };",
+        "typedef A B; typedef sequence<B> C; typedef long A;",
+        "interface I { undefined f(); undefined f(long a); }; partial interface I { static undefined f(); };",
     ];
-    expect_rows(&rt, rt.alloc(), &rows)
+    expect_kept(&rt, rt.alloc(), &sets)
 }
 
 #[test]
@@ -109,8 +94,8 @@ fn sixteen_levels_behind_typedefs_are_kept(rt: HostRuntime) -> Result<(), Fail> 
         &rt,
         alloc,
         &[fifteen.as_str(), ""],
-        Status::Refused,
-        "refused later 0 0\n",
+        Status::Done,
+        "accepted\n",
     )?;
     let more = nested_typedefs(alloc, 40)?;
     let text = format!(in alloc; "refused 11 0 {}\n", fifteen.len().saturating_add(8))?;
@@ -121,6 +106,20 @@ fn sixteen_levels_behind_typedefs_are_kept(rt: HostRuntime) -> Result<(), Fail> 
         Status::Refused,
         text.as_str(),
     )
+}
+
+#[test]
+fn a_chain_of_20_000_typedefs_is_kept(rt: HostRuntime) -> Result<(), Fail> {
+    let alloc = rt.alloc();
+    let mut text = String::from_str(alloc, "typedef [Clamp] long A0;")?;
+    for number in 0u32..20_000 {
+        let next = number.saturating_add(1);
+        text.push_str(format!(in alloc; " typedef A{number} A{next};")?.as_str())?;
+    }
+    expect_kept(&rt, alloc, &[text.as_str()])?;
+    let line = format!(in alloc; "refused 29 0 {}\n", text.len().saturating_add(10))?;
+    text.push_str(" typedef [EnforceRange] A20000 B;")?;
+    expect_rows(&rt, alloc, &[(text.as_str(), line.as_str())])
 }
 
 /// A mixin of 1,000 operations, and interfaces that include it: all but the last includes statement.
@@ -142,21 +141,12 @@ fn many_members(alloc: Global) -> Result<String, AllocError> {
 #[test]
 fn a_million_members_are_the_most(rt: HostRuntime) -> Result<(), Fail> {
     let alloc = rt.alloc();
-    let mut text = many_members(alloc)?;
-    expect_check(
-        &rt,
-        alloc,
-        &[text.as_str(), ""],
-        Status::Refused,
-        "refused later 0 0\n",
-    )?;
-    let line = format!(in alloc; "refused 48 0 {}\n", text.len())?;
-    text.push_str("A998 includes M;")?;
-    expect_check(
-        &rt,
-        alloc,
-        &[text.as_str(), ""],
-        Status::Refused,
-        line.as_str(),
-    )
+    let most = many_members(alloc)?;
+    // So many members break no rule of merging: the one that is broken stands behind them.
+    let kept = format!(in alloc; "{}partial interface Z {{ }};", most.as_str())?;
+    let line = format!(in alloc; "refused 3 0 {}\n", most.len().saturating_add(18))?;
+    expect_rows(&rt, alloc, &[(kept.as_str(), line.as_str())])?;
+    let broken = format!(in alloc; "{}A998 includes M;", most.as_str())?;
+    let line = format!(in alloc; "refused 48 0 {}\n", most.len())?;
+    expect_rows(&rt, alloc, &[(broken.as_str(), line.as_str())])
 }

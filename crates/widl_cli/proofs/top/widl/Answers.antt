@@ -1,7 +1,7 @@
 use Rattle.std.proofs.Common.{ap, sym, ◌∙◌, inl, refl, ◌≡◌}
 use Rattle.std.specs.Prelude.{Some, None}
 use Rattle.widl_cli.specs.Requests.{request_of}
-use Rattle.widl_cli.specs.declared.request.Request.TheVariants.{Help, Version, Check, Run}
+use Rattle.widl_cli.specs.declared.request.Request.TheVariants.{Help, Version, Check, Sets, Run}
 use Rattle.widl_cli.proofs.Asked.{IsAsked, writes_asked, part_asked, either_asked, writes_output, writes_part}
 use Rattle.widl_cli.proofs.top.widl.Goals as goal
 
@@ -64,6 +64,21 @@ pub returns-in-Some-Check-clause-torn_fault : goal.returns-in-Some-Check-clause-
 returns-in-Some-Check-clause-torn_fault g c told files small w =
     let is : Some Check ≡ request_of c.args.words.now = sym (c.in-Some-Check.is ∙ ap Some c.in-Some-Check.field-0-is) ∙ c.read_request.ensures.request in
     either_asked c.args.words.now (Some Check) told _ _ _ is (c.check_files.ensures.ends.torn_fault told files small w)
+
+pub returns-in-Some-Sets-clause-output : goal.returns-in-Some-Sets-clause-output
+returns-in-Some-Sets-clause-output g c told files m r w =
+    let is : Some Sets ≡ request_of c.args.words.now = sym (c.in-Some-Sets.is ∙ ap Some c.in-Some-Sets.field-0-is) ∙ c.read_request.ensures.request in
+    writes_asked c.args.words.now (Some Sets) told _ _ _ is (c.list_sets.ensures.ends.written told files m r w)
+
+pub returns-in-Some-Sets-clause-torn : goal.returns-in-Some-Sets-clause-torn
+returns-in-Some-Sets-clause-torn g c told files calm w =
+    let is : Some Sets ≡ request_of c.args.words.now = sym (c.in-Some-Sets.is ∙ ap Some c.in-Some-Sets.field-0-is) ∙ c.read_request.ensures.request in
+    part_asked c.args.words.now (Some Sets) told _ _ is (c.list_sets.ensures.ends.torn told files calm w)
+
+pub returns-in-Some-Sets-clause-torn_fault : goal.returns-in-Some-Sets-clause-torn_fault
+returns-in-Some-Sets-clause-torn_fault g c told files small w =
+    let is : Some Sets ≡ request_of c.args.words.now = sym (c.in-Some-Sets.is ∙ ap Some c.in-Some-Sets.field-0-is) ∙ c.read_request.ensures.request in
+    either_asked c.args.words.now (Some Sets) told _ _ _ is (c.list_sets.ensures.ends.torn_fault told files small w)
 
 pub returns-in-Some-Run-clause-output : goal.returns-in-Some-Run-clause-output
 returns-in-Some-Run-clause-output g c told files m r w =

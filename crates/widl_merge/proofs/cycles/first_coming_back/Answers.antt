@@ -2,9 +2,9 @@ use Rattle.std.proofs.Common.{arith, refl}
 use Rattle.widl_idl.specs.PlainTrees.{definition_of}
 use Rattle.widl_idl.proofs.Steps.{least_start}
 use Rattle.widl_merge.specs.Links.{ReturnsAfter}
-use Rattle.widl_merge.specs.Listings.{listed_definitions}
+use Rattle.widl_names.specs.Listings.{listed_definitions}
 use Rattle.widl_merge.proofs.ComingBack.{by_number, here_after}
-use Rattle.widl_merge.proofs.Mapped.{next_at_one, all_at_one}
+use Rattle.widl_names.proofs.Mapped.{next_at_one, all_at_one}
 use Rattle.widl_merge.proofs.cycles.first_coming_back.Goals as goal
 
 pub loop-number-init : goal.loop-number-init

@@ -2,7 +2,7 @@ use Rattle.std.proofs.Common.{sym, ap, ◌∙◌, subst}
 use Rattle.widl_idl.specs.LeastRefusal.{LeastBroken}
 use Rattle.widl_idl.specs.MergingRules.{BreaksMerging, merging_number, merging_rules}
 use Rattle.widl_idl.specs.Things.{things_of}
-use Rattle.widl_merge.proofs.NameMeanings.{all_plain}
+use Rattle.widl_names.proofs.NameMeanings.{all_plain}
 use Rattle.widl_merge.proofs.merging.first_unmerged.Goals as goal
 
 pub join_links-requires : goal.join_links-requires

@@ -1,7 +1,7 @@
 use Rattle.std.proofs.Common.{take}
 use Rattle.widl_idl.specs.Least.{LeastWhere, Somewhere}
 use Rattle.widl_idl.specs.MergingRules.{IsReservedName}
-use Rattle.widl_merge.specs.Listings.{things_listed}
+use Rattle.widl_names.specs.Listings.{things_listed}
 use Rattle.widl_merge.proofs.name_rules.first_reserved_name.Given as goal
 
 abbrev pub invariant-loop-thing : goal.invariant-loop-thing

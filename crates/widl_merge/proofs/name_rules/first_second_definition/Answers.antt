@@ -1,8 +1,8 @@
 use Rattle.std.proofs.Common.{arith}
 use Rattle.widl_idl.specs.PlainTrees.{definition_of, plain_definitions}
 use Rattle.widl_idl.specs.MergingRules.{IsSecondDefinition}
-use Rattle.widl_merge.proofs.NameMeanings.{all_plain}
-use Rattle.widl_merge.proofs.Mapped.{next_at_one, all_at_one}
+use Rattle.widl_names.proofs.NameMeanings.{all_plain}
+use Rattle.widl_names.proofs.Mapped.{next_at_one, all_at_one}
 use Rattle.widl_merge.proofs.name_rules.first_second_definition.Goals as goal
 
 pub loop-number-preserved : goal.loop-number-preserved

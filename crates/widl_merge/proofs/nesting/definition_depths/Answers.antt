@@ -1,7 +1,7 @@
 use Rattle.std.proofs.Common.{length, arith, refl, sym, ap, ◌∙◌}
 use Rattle.std.proofs.lemmas.List.{length-map, length-replicate}
 use Rattle.widl_idl.specs.PlainTrees.{definition_of, plain_definitions}
-use Rattle.widl_merge.proofs.NameMeanings.{all_plain}
+use Rattle.widl_names.proofs.NameMeanings.{all_plain}
 use Rattle.widl_merge.proofs.SteadyDepths.{steady_start, capped_start, table_next, all_told}
 use Rattle.widl_merge.proofs.nesting.definition_depths.Goals as goal
 

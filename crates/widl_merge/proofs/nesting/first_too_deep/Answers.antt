@@ -1,8 +1,8 @@
 use Rattle.std.proofs.Common.{arith, refl, rules}
 use Rattle.widl_idl.specs.MergingRules.{NestsDeep}
 use Rattle.widl_idl.specs.PlainTrees.{plain_definitions}
-use Rattle.widl_merge.specs.Listings.{thing_of, things_listed}
-use Rattle.widl_merge.proofs.Mapped.{next_somewhere, all_somewhere}
+use Rattle.widl_names.specs.Listings.{thing_of, things_listed}
+use Rattle.widl_names.proofs.Mapped.{next_somewhere, all_somewhere}
 use Rattle.widl_merge.proofs.nesting.first_too_deep.Goals as goal
 
 pub loop-thing-preserved : goal.loop-thing-preserved

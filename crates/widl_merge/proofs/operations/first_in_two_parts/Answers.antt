@@ -1,6 +1,6 @@
 use Rattle.std.proofs.Common.{arith}
 use Rattle.widl_idl.specs.PlainTrees.{plain_definitions}
-use Rattle.widl_merge.proofs.PlainLists.{kind_there, listed_same}
+use Rattle.widl_names.proofs.PlainLists.{kind_there, listed_same}
 use Rattle.widl_merge.proofs.TwoParts.{no_owners, owners_all, owners_step}
 use Rattle.widl_merge.proofs.operations.first_in_two_parts.Goals as goal
 

@@ -1,7 +1,7 @@
 use Rattle.std.proofs.Common.{take}
 use Rattle.widl_idl.specs.Least.{AtOne, LeastWhere}
 use Rattle.widl_idl.specs.PlainTrees.{plain_definitions}
-use Rattle.widl_merge.specs.Listings.{listed_definitions}
+use Rattle.widl_names.specs.Listings.{listed_definitions}
 use Rattle.widl_merge.specs.Repeats.{RepeatsAt}
 use Rattle.widl_merge.proofs.operations.first_in_two_parts.Given as goal
 

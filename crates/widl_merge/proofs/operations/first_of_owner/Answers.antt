@@ -3,7 +3,7 @@ use Rattle.std.proofs.lemmas.Result.{IfOk-weaker}
 use Rattle.widl_idl.specs.Least.{AtOne, LeastWhere}
 use Rattle.widl_idl.specs.MergingRules.{RepeatsOperation}
 use Rattle.widl_idl.specs.PlainTrees.{definition_kind_of, plain_definitions}
-use Rattle.widl_merge.specs.PartTables.{ListsParts, listed_parts}
+use Rattle.widl_names.specs.PartTables.{ListsParts, listed_parts}
 use Rattle.widl_merge.specs.Repeats.{RepeatsInOwner}
 use Rattle.widl_merge.proofs.TwoParts.{owner_least}
 use Rattle.widl_merge.proofs.operations.first_of_owner.Goals as goal

@@ -3,7 +3,7 @@ use Rattle.widl_idl.specs.Meanings.{kind_of}
 use Rattle.widl_idl.specs.MergingRules.{parent_numbers, parent_of}
 use Rattle.widl_idl.specs.PlainTrees.{definition_of, plain_definitions}
 use Rattle.widl_merge.proofs.LinkGraphs.{links_more, links_all}
-use Rattle.widl_merge.proofs.NameMeanings.{all_plain}
+use Rattle.widl_names.proofs.NameMeanings.{all_plain}
 use Rattle.widl_merge.proofs.parents.parents.Goals as goal
 
 pub loop-definition-preserved : goal.loop-definition-preserved

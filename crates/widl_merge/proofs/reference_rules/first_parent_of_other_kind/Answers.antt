@@ -1,8 +1,8 @@
 use Rattle.std.proofs.Common.{arith}
 use Rattle.widl_idl.specs.PlainTrees.{definition_of, plain_definitions}
 use Rattle.widl_idl.specs.MergingRules.{HasOtherParent}
-use Rattle.widl_merge.proofs.NameMeanings.{all_plain}
-use Rattle.widl_merge.proofs.Mapped.{next_somewhere, all_somewhere}
+use Rattle.widl_names.proofs.NameMeanings.{all_plain}
+use Rattle.widl_names.proofs.Mapped.{next_somewhere, all_somewhere}
 use Rattle.widl_merge.proofs.NameRules.{asked_of}
 use Rattle.widl_merge.proofs.reference_rules.first_parent_of_other_kind.Goals as goal
 

@@ -1,7 +1,7 @@
 use Rattle.std.proofs.Common.{refl, subst, Some, None}
 use Rattle.widl_idl.specs.LeastRefusal.{LeastBroken}
 use Rattle.widl_idl.specs.Profile.{LeavesOut, profile_number, profile_rules}
-use Rattle.widl_merge.specs.Listings.{listed_definitions}
+use Rattle.widl_names.specs.Listings.{listed_definitions}
 use Rattle.widl_merge.specs.Refusals.{IsProfileRefusal}
 use Rattle.widl_merge.proofs.refusals.find_in_things.Goals as goal
 

@@ -1,5 +1,5 @@
 use Rattle.std.proofs.Common.{take}
-use Rattle.widl_merge.specs.Listings.{listed_definitions}
+use Rattle.widl_names.specs.Listings.{listed_definitions}
 use Rattle.widl_merge.specs.Portions.{KeepsAdded}
 use Rattle.widl_merge.proofs.sums.added_members.Given as goal
 

@@ -1,7 +1,7 @@
 use Rattle.std.proofs.Common.{arith, subst}
 use Rattle.widl_idl.specs.PlainTrees.{plain_definitions}
 use Rattle.widl_merge.specs.Portions.{KeepsAdded}
-use Rattle.widl_merge.proofs.PlainLists.{listed_same}
+use Rattle.widl_names.proofs.PlainLists.{listed_same}
 use Rattle.widl_merge.proofs.Portioned.{nothing_summed, sum_all, sum_step}
 use Rattle.widl_merge.proofs.sums.first_past_limit.Goals as goal
 

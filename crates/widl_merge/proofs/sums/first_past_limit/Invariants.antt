@@ -1,7 +1,7 @@
 use Rattle.std.proofs.Common.{take}
 use Rattle.widl_idl.specs.MergingRules.{portions_from}
 use Rattle.widl_idl.specs.PlainTrees.{plain_definitions}
-use Rattle.widl_merge.specs.Listings.{listed_definitions}
+use Rattle.widl_names.specs.Listings.{listed_definitions}
 use Rattle.widl_merge.proofs.Portioned.{SumsUp}
 use Rattle.widl_merge.proofs.sums.first_past_limit.Given as goal
 

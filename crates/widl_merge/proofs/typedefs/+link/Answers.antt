@@ -3,7 +3,7 @@ use Rattle.widl_idl.specs.Nesting.{typedef_named, annotated_names}
 use Rattle.widl_idl.specs.PlainTrees.{plain_definitions}
 use Rattle.widl_idl.specs.PlainTypes.{annotated_of}
 use Rattle.widl_merge.proofs.LinkGraphs.{union_named}
-use Rattle.widl_merge.proofs.Listed.{listed_all}
+use Rattle.widl_names.proofs.Listed.{listed_all}
 use Rattle.widl_merge.proofs.typedefs.+link.Goals as goal
 
 pub add_union-returns : goal.add_union-returns

@@ -4,7 +4,7 @@ use Rattle.widl_idl.specs.Least.{LeastWhere}
 use Rattle.widl_idl.specs.MergingRules.{ComesBack}
 use Rattle.widl_idl.specs.Nesting.{typedef_links}
 use Rattle.widl_idl.specs.PlainTrees.{plain_definitions}
-use Rattle.widl_merge.proofs.NameMeanings.{all_plain}
+use Rattle.widl_names.proofs.NameMeanings.{all_plain}
 use Rattle.widl_merge.proofs.typedefs.first_typedef_reaching_itself.Goals as goal
 
 pub returns : goal.returns

@@ -1,0 +1,88 @@
+-- The rules on iterables within one interface, a member at a time.
+use Rattle.std.proofs.Common.{◌≡◌, ℕ, ◌+◌, ◌<◌, ◌≤◌, ◌++◌, Bool, true, false, ◌||◌, List, [], ◌∷◌, length, take, get_or, Option, None, arith, refl, sym, ap, subst, ◌∙◌, Bor}
+use Rattle.std.specs.List.{list_any}
+use Rattle.std.proofs.lemmas.List.{take_all}
+use Rattle.std.proofs.Math.Bool.{or-false}
+use Rattle.std.proofs.lemmas.List.Folds.{list_any-append}
+use Rattle.widl_idl.specs.declared.spot.Spot.{Spot}
+use Rattle.widl_idl.specs.declared.tree.members.Member.{Member}
+use Rattle.widl_idl.specs.Least.{AtOne, LeastWhere, Somewhere, lesser}
+use Rattle.widl_idl.specs.PlainTrees.{PlainMember, PlainMemberKind, IterableMember, member_of}
+use Rattle.widl_idl.proofs.Order.{least_same, one_place}
+use Rattle.widl_inheritance.specs.InterfaceMembers.{listed_members}
+use Rattle.widl_inheritance.specs.Iterations.{FollowsIterable, IsHiding, iterable_place, spot_if}
+use Rattle.widl_names.proofs.Mapped.{all_somewhere, next_somewhere}
+use Rattle.widl_names.proofs.PlainLists.{mapped_more}
+use Rattle.widl_names.proofs.Pushed.{at_one_push}
+use Rattle.widl_overload.specs.IterableRules.{AtIterable, has_iterable, is_iterable}
+
+-- the members up to the next one
+listed_next : (members : List (Bor Member)) (i : ℕ) (m : Bor Member) → i < length members → m ≡ get_or members i m → listed_members (take (i + 1) members) ≡ listed_members (take i members) ++ member_of m.now ∷ []
+listed_next members i m below is = mapped_more (λ (x : Bor Member). member_of x.now) members i m below is
+
+any_push : (test : PlainMember → Bool) (xs : List PlainMember) (x : PlainMember) → list_any test (xs ++ x ∷ []) ≡ (list_any test xs || test x)
+any_push test xs x = list_any-append test xs (x ∷ []) ∙ ap (λ b. list_any test xs || b) (or-false (test x))
+
+-- whether one of the members passes a test, with one member more
+pub any_next : (test : PlainMember → Bool) (members : List (Bor Member)) (i : ℕ) (m : Bor Member) (old passes now : Bool) → i < length members → m ≡ get_or members i m → passes ≡ test (member_of m.now) → now ≡ (old || passes)
+    → old ≡ list_any test (listed_members (take i members)) → now ≡ list_any test (listed_members (take (i + 1) members))
+any_next test members i m old passes now below is p e so =
+    e ∙ ap (λ b. b || passes) so ∙ ap (λ b. list_any test (listed_members (take i members)) || b) p
+    ∙ sym (any_push test (listed_members (take i members)) (member_of m.now)) ∙ ap (list_any test) (sym (listed_next members i m below is))
+
+pub any_all : (test : PlainMember → Bool) (members : List (Bor Member)) (i : ℕ) (found : Bool) → length members ≤ i → found ≡ list_any test (listed_members (take i members)) → found ≡ list_any test (listed_members members)
+any_all test members i found past e = e ∙ ap (λ ms. list_any test (listed_members ms)) (take_all i members past)
+
+-- at the word of an iterable, where the test holds
+iterable_least : (Q : Type 0) (holds : Bool) (kind : PlainMemberKind) (found : Option Spot) → (holds ≡ true → Q) → (holds ≡ false → Q → ⊥) → found ≡ spot_if holds (iterable_place kind) → LeastWhere (λ s. Q × AtIterable kind s) found
+iterable_least Q holds (IterableMember i) found if_true if_false e = one_place Q i.at holds found if_true if_false e
+iterable_least Q holds kind found if_true if_false e = subst (LeastWhere (λ s. Q × AtIterable kind s)) (sym e) (λ s h. h.1)
+
+test_least : (holds now : Bool) (kind : PlainMemberKind) (found : Option Spot) → holds ≡ now → found ≡ spot_if holds (iterable_place kind) → LeastWhere (λ s. (now ≡ true) × AtIterable kind s) found
+test_least holds now kind found same e = iterable_least (now ≡ true) holds kind found (λ h. sym same ∙ h) (λ h q. absurd (let wrong : true ≡ false = sym q ∙ sym same ∙ h in (cc))) e
+
+-- whether an iterable is inherited or is among the members, and the least spot of one that follows
+pub record Seen (inherited seen : Bool) (members : List PlainMember) (best : Option Spot) : Type 0 where
+  pub any : seen ≡ (inherited || has_iterable members)
+  pub least : LeastWhere (AtOne (FollowsIterable inherited) members) best
+
+pub nothing_seen : (inherited : Bool) → Seen inherited inherited [] None
+nothing_seen inherited = record { any = sym (or-false inherited); least = λ s u. absurd (let below = u.below in omega arith) }
+
+or_assoc : (a b c : Bool) → ((a || b) || c) ≡ (a || (b || c))
+or_assoc true b c = refl
+or_assoc false b c = refl
+
+-- one member more
+pub seen_step : (inherited seen now_seen iterable : Bool) (members : List (Bor Member)) (i : ℕ) (m : Bor Member) (best found now : Option Spot) → i < length members → m ≡ get_or members i m
+    → iterable ≡ is_iterable (member_of m.now).kind → found ≡ spot_if seen (iterable_place (member_of m.now).kind) → now ≡ lesser best found → now_seen ≡ (seen || iterable)
+    → Seen inherited seen (listed_members (take i members)) best → Seen inherited now_seen (listed_members (take (i + 1) members)) now
+seen_step inherited seen now_seen iterable members i m best found now below is it f e adds r =
+    let before = listed_members (take i members) in
+    let next = listed_next members i m below is in
+    record {
+      any = adds ∙ ap (λ b. b || iterable) r.any ∙ or_assoc inherited (has_iterable before) iterable ∙ ap (λ b. inherited || (has_iterable before || b)) it
+          ∙ ap (λ b. inherited || b) (sym (any_push (λ (x : PlainMember). is_iterable x.kind) before (member_of m.now)) ∙ ap has_iterable (sym next));
+      least = subst (λ ms. LeastWhere (AtOne (FollowsIterable inherited) ms) now) (sym next)
+          (subst (LeastWhere (AtOne (FollowsIterable inherited) (before ++ member_of m.now ∷ []))) (sym e)
+          (at_one_push (FollowsIterable inherited) before (member_of m.now) best found r.least (test_least seen (inherited || has_iterable before) (member_of m.now).kind found r.any f)));
+    }
+
+pub seen_end : (inherited seen : Bool) (members : List (Bor Member)) (i : ℕ) (best : Option Spot) → length members ≤ i → Seen inherited seen (listed_members (take i members)) best → LeastWhere (AtOne (FollowsIterable inherited) (listed_members members)) best
+seen_end inherited seen members i best past r = subst (λ ms. LeastWhere (AtOne (FollowsIterable inherited) (listed_members ms)) best) (take_all i members past) r.least
+
+-- an iterable, where a method's name is taken
+abbrev pub HidesHere : Bool → PlainMember → Spot → Type 0
+HidesHere named m s = (named ≡ true) × AtIterable m.kind s
+
+pub hides_next : (named : Bool) (members : List (Bor Member)) (i : ℕ) (m : Bor Member) (best found now : Option Spot) → i < length members → m ≡ get_or members i m → found ≡ spot_if named (iterable_place (member_of m.now).kind) → now ≡ lesser best found
+    → LeastWhere (Somewhere (HidesHere named) (take i (listed_members members))) best → LeastWhere (Somewhere (HidesHere named) (take (i + 1) (listed_members members))) now
+hides_next named members i m best found now below is f e l =
+    next_somewhere (λ (x : Bor Member). member_of x.now) members (listed_members members) refl (HidesHere named) i m best found now below is l (test_least named named (member_of m.now).kind found refl f) e
+
+pub hides_all : (named : Bool) (members : List (Bor Member)) (i : ℕ) (best : Option Spot) → i ≡ length members → LeastWhere (Somewhere (HidesHere named) (take i (listed_members members))) best → LeastWhere (IsHiding named (listed_members members)) best
+hides_all named members i best end l =
+    least_same (Somewhere (HidesHere named) (listed_members members)) (IsHiding named (listed_members members)) best
+    (λ s h. (h.breaks.0, record { item = h.item; listed = h.listed; breaks = h.breaks.1 }))
+    (λ s h. record { item = h.1.item; listed = h.1.listed; breaks = (h.0, h.1.breaks) })
+    (all_somewhere (λ (x : Bor Member). member_of x.now) members (listed_members members) refl (HidesHere named) i best end l)

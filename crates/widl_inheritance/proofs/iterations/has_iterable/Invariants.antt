@@ -1,0 +1,7 @@
+use Rattle.std.proofs.Common.{◌≡◌, take}
+use Rattle.widl_inheritance.specs.InterfaceMembers.{listed_members}
+use Rattle.widl_overload.specs.IterableRules.{has_iterable}
+use Rattle.widl_inheritance.proofs.iterations.has_iterable.Given as goal
+
+abbrev pub invariant-loop-member : goal.invariant-loop-member
+invariant-loop-member l = l.found ≡ has_iterable (listed_members (take l.member-index l.members))

@@ -1,0 +1,13 @@
+pub mod WrittenLists
+pub mod WrittenDefaults
+pub mod ChoiceValues
+pub mod Required
+pub mod Fitting
+pub mod EmptyDefaults
+pub mod HoldingGraph
+pub mod ChainLengths
+pub mod Spans
+pub mod MemberEnds
+pub mod InterfaceMembers
+pub mod ReachedFlags
+pub mod Iterations

@@ -1,0 +1,77 @@
+//! The rule on default values: each fits its type (Web IDL, "Default values").
+
+ghost use Rattle.std.specs.Prelude.{◌≡◌, map, IfOk};
+ghost use Rattle.widl_idl.specs.DefinitionTerms.{DefsTerm, defs_term};
+ghost use Rattle.widl_idl.specs.Least.{LeastWhere, Somewhere};
+ghost use Rattle.widl_idl.specs.PlainTrees.{plain_definitions};
+ghost use Rattle.widl_inheritance.specs.Fitting.{Knows};
+ghost use Rattle.widl_inheritance.specs.WrittenDefaults.{defaulted_of, listed_defaults};
+ghost use Rattle.widl_names.specs.Listings.{listed_definitions};
+ghost use Rattle.widl_overload.specs.DefaultRules.{HasOtherDefault, IsOtherDefault};
+
+use crate::defaulted::{Defaulted, list_defaults};
+use crate::fitting::fits;
+use crate::tables::Tables;
+use std::alloc::{AllocError, Global};
+use widl_idl::tree::Definition;
+use widl_idl::{Defs, Spot, lesser_spot};
+use widl_names::Resolver;
+
+/// The least place of a default value that doesn't fit its type.
+///
+/// # Errors
+///
+/// `AllocError` where there is no memory, also where a dictionary inherits from itself or from none of
+/// the list, which no merged list has, and where resolving types and looking for long texts among the
+/// values of unions takes more than `steps` ([`Resolver::resolve`]).
+pub fn first_other_default<'a>(
+    alloc: Global,
+    defs: &Defs,
+    resolver: &Resolver<'_, '_, 'a>,
+    steps: &mut usize,
+    definitions: &[&'a Definition],
+) -> Result<Option<Spot>, AllocError>
+    requires { listed_definitions definitions.now ≡ plain_definitions resolver.now }
+    ensures { IfOk result (λ found. LeastWhere (HasOtherDefault (defs_term defs.now) (plain_definitions resolver.now)) found) }
+{
+    let defaults = list_defaults(alloc, definitions)?;
+    let tables = Tables::of(alloc, defs)?;
+    first_other(alloc, &tables, resolver, steps, defaults.as_slice())
+}
+
+// The least place of one of these default values that doesn't fit its type.
+fn first_other<'a>(
+    alloc: Global,
+    tables: &Tables<'_>,
+    resolver: &Resolver<'_, '_, 'a>,
+    steps: &mut usize,
+    defaults: &[Defaulted<'a>],
+) -> Result<Option<Spot>, AllocError>
+    ensures { IfOk result (λ found. (list : DefsTerm) → Knows list tables.now → LeastWhere (Somewhere (IsOtherDefault list (plain_definitions resolver.now)) (listed_defaults defaults.now)) found) }
+{
+    let mut best = None;
+    for defaulted in defaults {
+        let found = other_default(alloc, tables, resolver, steps, defaulted)?;
+        best = lesser_spot(best, found);
+    }
+    Ok(best)
+}
+
+// The place of a default value, if it doesn't fit its type.
+fn other_default<'a>(
+    alloc: Global,
+    tables: &Tables<'_>,
+    resolver: &Resolver<'_, '_, 'a>,
+    steps: &mut usize,
+    defaulted: &Defaulted<'a>,
+) -> Result<Option<Spot>, AllocError>
+    ensures { IfOk result (λ found. (list : DefsTerm) → Knows list tables.now → LeastWhere (IsOtherDefault list (plain_definitions resolver.now) (defaulted_of defaulted.now)) found) }
+{
+    let attributes = defaulted.attributes.as_slice();
+    let ty = resolver.resolve_with(alloc, steps, attributes, defaulted.ty)?;
+    if fits(alloc, tables, steps, &ty, &defaulted.value.value)? {
+        Ok(None)
+    } else {
+        Ok(Some(Spot::at(defaulted.value.at)))
+    }
+}

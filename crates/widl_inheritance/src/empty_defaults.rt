@@ -1,0 +1,140 @@
+//! The rule on arguments of dictionary types: one that a call need not give has a default value (Web IDL,
+//! "arguments").
+
+ghost use Rattle.std.specs.Prelude.{◌≡◌, Bool, IfOk};
+ghost use Rattle.widl_idl.specs.DefinitionTerms.{DefsTerm, defs_term};
+ghost use Rattle.widl_idl.specs.Least.{LeastWhere, Somewhere};
+ghost use Rattle.widl_idl.specs.PlainTrees.{argument_kind_of, argument_of, arguments_of, plain_definitions};
+ghost use Rattle.widl_idl.specs.Terms.{type_term};
+ghost use Rattle.widl_inheritance.specs.EmptyDefaults.{LacksHere, needs_default, takes_no_member};
+ghost use Rattle.widl_inheritance.specs.Fitting.{KnowsRequired};
+ghost use Rattle.widl_inheritance.specs.WrittenLists.{listed_arguments};
+ghost use Rattle.widl_names.specs.Listings.{listed_definitions};
+ghost use Rattle.widl_overload.specs.ArgumentRules.{is_required};
+ghost use Rattle.widl_overload.specs.DefaultRules.{HasNoEmptyDefault, LacksEmptyDefault};
+
+use crate::call_lists::list_calls;
+use crate::fitting::any_takes;
+use crate::tables::Tables;
+use std::alloc::{AllocError, Global};
+use widl_idl::tree::{Argument, ArgumentKind, Definition};
+use widl_idl::{Defs, IdlType, Literal, Spot, lesser_spot};
+use widl_names::Resolver;
+
+/// The least place of the name of an argument that takes a dictionary without required members and has
+/// no default value where it needs one: it is optional, or it is required though a call may leave out all
+/// arguments that follow it.
+///
+/// # Errors
+///
+/// `AllocError` where there is no memory, also where a dictionary inherits from itself or from none of
+/// the list, which no merged list has, and where resolving a type takes more than `steps`
+/// ([`Resolver::resolve`]).
+pub fn first_without_empty_default<'a>(
+    alloc: Global,
+    defs: &Defs,
+    resolver: &Resolver<'_, '_, 'a>,
+    steps: &mut usize,
+    definitions: &[&'a Definition],
+) -> Result<Option<Spot>, AllocError>
+    requires { listed_definitions definitions.now ≡ plain_definitions resolver.now }
+    ensures { IfOk result (λ found. LeastWhere (HasNoEmptyDefault (defs_term defs.now) (plain_definitions resolver.now)) found) }
+{
+    let lists = list_calls(alloc, definitions)?;
+    let tables = Tables::of_dictionaries(alloc, defs)?;
+    first_lacking(alloc, &tables, resolver, steps, lists.as_slice())
+}
+
+// The least place of such a name in these lists of arguments.
+fn first_lacking<'a>(
+    alloc: Global,
+    tables: &Tables<'_>,
+    resolver: &Resolver<'_, '_, 'a>,
+    steps: &mut usize,
+    lists: &[&'a [Argument]],
+) -> Result<Option<Spot>, AllocError>
+    ensures { IfOk result (λ found. (list : DefsTerm) → KnowsRequired list tables.now → LeastWhere (Somewhere (LacksEmptyDefault list (plain_definitions resolver.now)) (listed_arguments lists.now)) found) }
+{
+    let mut best = None;
+    for list in lists {
+        let found = lacking_in(alloc, tables, resolver, steps, list)?;
+        best = lesser_spot(best, found);
+    }
+    Ok(best)
+}
+
+// The same in one list.
+fn lacking_in<'a>(
+    alloc: Global,
+    tables: &Tables<'_>,
+    resolver: &Resolver<'_, '_, 'a>,
+    steps: &mut usize,
+    arguments: &'a [Argument],
+) -> Result<Option<Spot>, AllocError>
+    ensures { IfOk result (λ found. (list : DefsTerm) → KnowsRequired list tables.now → LeastWhere (LacksEmptyDefault list (plain_definitions resolver.now) (arguments_of arguments.now)) found) }
+{
+    let mut best = None;
+    // Whether a call may leave out all arguments that follow.
+    let mut absent = true;
+    for index in (0..arguments.len()).rev() {
+        let argument = &arguments[index];
+        let found = lacking(alloc, tables, resolver, steps, absent, argument)?;
+        best = lesser_spot(best, found);
+        absent &= !is_required(&argument.kind);
+    }
+    Ok(best)
+}
+
+// The place of an argument's name, if it takes such a dictionary and needs a default value.
+fn lacking<'a>(
+    alloc: Global,
+    tables: &Tables<'_>,
+    resolver: &Resolver<'_, '_, 'a>,
+    steps: &mut usize,
+    absent: bool,
+    argument: &'a Argument,
+) -> Result<Option<Spot>, AllocError>
+    ensures { IfOk result (λ found. (list : DefsTerm) → KnowsRequired list tables.now → LeastWhere (LacksHere list (plain_definitions resolver.now) absent (argument_of argument.now)) found) }
+{
+    if !needs_default(absent, &argument.kind) {
+        return Ok(None);
+    }
+    let ty = resolver.resolve_with(alloc, steps, argument.attributes.as_slice(), &argument.ty)?;
+    if takes_no_member(tables, &ty) {
+        Ok(Some(Spot::at(argument.name.at)))
+    } else {
+        Ok(None)
+    }
+}
+
+// Whether an argument has no default value where one of a dictionary type needs it. `absent` tells whether
+// a call may leave out all that follow.
+fn needs_default(absent: bool, kind: &ArgumentKind) -> bool
+    ensures { result ≡ needs_default absent (argument_kind_of kind.now) }
+{
+    match kind {
+        ArgumentKind::Required => absent,
+        ArgumentKind::Optional(None) => true,
+        ArgumentKind::Optional(Some(_)) | ArgumentKind::Variadic(_) => false,
+    }
+}
+
+fn is_required(kind: &ArgumentKind) -> bool
+    ensures { result ≡ is_required (argument_kind_of kind.now) }
+{
+    match kind {
+        ArgumentKind::Required => true,
+        ArgumentKind::Optional(_) | ArgumentKind::Variadic(_) => false,
+    }
+}
+
+// Whether a type is a dictionary without required members, or a union with one among its flattened
+// members: then the empty dictionary is a value of it.
+fn takes_no_member(tables: &Tables<'_>, t: &IdlType) -> bool
+    ensures { result ≡ takes_no_member tables.now (type_term t.now) }
+{
+    match t {
+        IdlType::Nullable(_) => false,
+        _ => any_takes(tables, &Literal::EmptyDict, t),
+    }
+}

@@ -1,0 +1,70 @@
+//! What interfaces have of iteration themselves, and what they inherit (Web IDL, "inherited interfaces").
+
+ghost use Rattle.std.specs.Prelude.{◌≡◌, length, IfOk};
+ghost use Rattle.widl_idl.specs.MergingRules.{parent_links};
+ghost use Rattle.widl_idl.specs.PlainTrees.{plain_definitions};
+ghost use Rattle.widl_inheritance.specs.Iterations.{TellsMembers};
+ghost use Rattle.widl_inheritance.specs.ReachedFlags.{TellsReached};
+ghost use Rattle.widl_overload.specs.IterableRules.{has_iterable, has_iteration_name};
+
+use crate::interface_members::interface_members;
+use crate::iterations::{has_iterable, has_iteration_name};
+use crate::parent_graph::parent_graph;
+use crate::reached_flags::flags_reached;
+use std::alloc::{AllocError, Global};
+use widl_graph::Walk;
+use widl_names::{Meanings, Parts};
+
+/// Flags of interfaces, by the numbers of their definitions.
+#[derive(Drop)]
+pub struct InterfaceFlags {
+    /// Whether there is an iterable.
+    pub iterable: Vec<bool>,
+    /// Whether there is a member that is named as one of an iterable's methods.
+    pub named: Vec<bool>,
+}
+
+/// What each interface has among its own members and those of its partials and mixins.
+///
+/// # Errors
+///
+/// `AllocError` where there is no memory.
+pub fn own_flags<'a>(
+    alloc: Global,
+    meanings: &Meanings<'_, 'a>,
+    parts: &Parts<'_, 'a>,
+) -> Result<InterfaceFlags, AllocError>
+    requires { parts.now ≡ meanings.now }
+    ensures iterable { IfOk result (λ own. TellsMembers has_iterable (plain_definitions meanings.now) own.iterable.items) }
+    ensures named { IfOk result (λ own. TellsMembers has_iteration_name (plain_definitions meanings.now) own.named.items) }
+{
+    let mut iterable = Vec::new(alloc);
+    let mut named = Vec::new(alloc);
+    for number in 0..meanings.all().len() {
+        let members = interface_members(alloc, meanings, parts, number)?;
+        iterable.push(has_iterable(&members))?;
+        named.push(has_iteration_name(&members))?;
+    }
+    Ok(InterfaceFlags { iterable, named })
+}
+
+/// What each interface inherits, where its own flags and those of all others are at hand.
+///
+/// # Errors
+///
+/// `AllocError` where there is no memory, and where a definition inherits from itself, which none of a
+/// merged list does.
+pub fn inherited_flags(
+    alloc: Global,
+    meanings: &Meanings<'_, '_>,
+    own: &InterfaceFlags,
+) -> Result<InterfaceFlags, AllocError>
+    ensures iterable { IfOk result (λ found. TellsReached (parent_links (plain_definitions meanings.now)) own.now.iterable.items found.iterable.items) }
+    ensures named { IfOk result (λ found. TellsReached (parent_links (plain_definitions meanings.now)) own.now.named.items found.named.items) }
+{
+    let graph = parent_graph(alloc, meanings)?;
+    let walk = Walk::over(alloc, &graph)?;
+    let iterable = flags_reached(alloc, &graph, &walk, own.iterable.as_slice())?;
+    let named = flags_reached(alloc, &graph, &walk, own.named.as_slice())?;
+    Ok(InterfaceFlags { iterable, named })
+}

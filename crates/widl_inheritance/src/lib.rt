@@ -1,0 +1,34 @@
+//! The rules of validity that read what is inherited, and default values: on dictionaries and the types of
+//! their members, on arguments that a call may leave out, and on iterables. It stands on the merged list of
+//! `widl_idl`, on the names of `widl_names`, and on `widl_overload`, where each rule is stated. The contract
+//! that is used above: each function answers exactly the least place at which its rule is broken, or none.
+#![tactic(auto)]
+
+mod argument_lists;
+mod call_lists;
+mod choice_values;
+mod defaulted;
+mod defaults;
+mod empty_defaults;
+mod fitting;
+mod holding;
+mod interface_lines;
+mod interface_members;
+mod iterables;
+mod iterations;
+mod long_chains;
+mod member_names;
+mod parent_graph;
+mod ranges;
+mod reached_flags;
+mod required_members;
+mod span_walk;
+mod spans;
+mod tables;
+
+pub use defaults::first_other_default;
+pub use empty_defaults::first_without_empty_default;
+pub use holding::{Holdings, first_holding_itself};
+pub use iterables::{IterableSpots, find_iterables};
+pub use long_chains::first_long_chain;
+pub use member_names::first_repeated_member;

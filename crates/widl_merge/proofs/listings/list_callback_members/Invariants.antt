@@ -1,8 +1,0 @@
-use Rattle.std.proofs.Common.{◌≡◌, ◌++◌, flat_map, take}
-use Rattle.widl_idl.specs.Things.{things_of_callback_member}
-use Rattle.widl_idl.specs.PlainTrees.{member_of}
-use Rattle.widl_merge.specs.Listings.{things_listed}
-use Rattle.widl_merge.proofs.listings.list_callback_members.Given as goal
-
-abbrev pub invariant-loop-member : goal.invariant-loop-member
-invariant-loop-member l = things_listed l.things.items ≡ things_listed l.initial.things.items ++ flat_map (λ x. things_of_callback_member (member_of x)) (take l.member-index l.members)

@@ -1,0 +1,21 @@
+use Rattle.std.proofs.Common.{◌≡◌, ap, refl, subst, ◌∙◌}
+use Rattle.widl_idl.specs.declared.kind.Kind.TheVariants as kinds
+use Rattle.widl_idl.specs.MergedList.{parent_number}
+use Rattle.widl_idl.specs.Parts.{merged_members}
+use Rattle.widl_idl.specs.PlainTrees.{plain_definitions}
+use Rattle.widl_idl.specs.WrittenLiterals.{units_of}
+use Rattle.widl_merge.specs.PlainMain.{plain_interface}
+use Rattle.widl_merge.specs.PutTogether.{ArePutTogether, listed_members}
+use Rattle.widl_merge.proofs.Made.{interface_made, parent_read}
+use Rattle.widl_merge.proofs.merged_interfaces.interface_meant.Goals as goal
+
+pub returns-clause-term : goal.returns-clause-term
+returns-clause-term c =
+    let all = plain_definitions c.args.sources.now in
+    let plain = plain_interface c.args.interface.now in
+    let m = c.in_ok-members.members in
+    let same : listed_members c.deref.result.now ≡ merged_members all kinds.Interface plain.name.text = ap listed_members c.deref.ensures.value ∙ c.in_ok-list.ensures plain.name.text kinds.Interface c.requires.itself refl in
+    let put : ArePutTogether all (merged_members all kinds.Interface plain.name.text) m =
+    subst (λ ms. ArePutTogether all ms m) same (subst (λ ds. ArePutTogether (plain_definitions ds) (listed_members c.deref.result.now) m) c.resolver.ensures c.in_ok-members.ensures) in
+    interface_made all plain m c.args.interface.now.name.at c.in_ok-name.name c.parent-parent.result put refl (c.in_ok-name.ensures ∙ ap units_of c.as_str.ensures.value)
+    (c.parent-parent.ensures ∙ ap (parent_number all kinds.Interface) (parent_read c.as_ref.result c.args.interface.now.parent c.as_ref.ensures.value))

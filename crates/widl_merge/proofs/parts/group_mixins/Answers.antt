@@ -1,9 +1,0 @@
-use Rattle.std.proofs.Common.{arith, length}
-use Rattle.widl_idl.specs.PlainTrees.{plain_definitions}
-use Rattle.widl_merge.specs.PartTables.{mixin_at}
-use Rattle.widl_merge.proofs.PlainLists.{listed_same}
-use Rattle.widl_merge.proofs.PartLists.{group_all_same}
-use Rattle.widl_merge.proofs.parts.group_mixins.Goals as goal
-
-pub returns : goal.returns
-returns c = group_all_same (mixin_at (plain_definitions c.args.meanings.now)) c.loop-definition.groups.items c.args.definitions.now c.loop-definition.definition-index (length c.args.meanings.now) (plain_definitions c.args.meanings.now) (omega arith) (listed_same c.args.definitions.now c.args.meanings.now c.requires) c.loop-definition.invariant

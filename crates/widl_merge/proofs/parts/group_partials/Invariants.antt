@@ -1,8 +1,0 @@
-use Rattle.std.proofs.Common.{length, take}
-use Rattle.widl_idl.specs.PlainTrees.{definition_kind_of, plain_definitions}
-use Rattle.widl_merge.specs.Listings.{listed_definitions}
-use Rattle.widl_merge.specs.PartTables.{Grouped, partial_at}
-use Rattle.widl_merge.proofs.parts.group_partials.Given as goal
-
-abbrev pub invariant-loop-definition : goal.invariant-loop-definition
-invariant-loop-definition l = Grouped (λ k. definition_kind_of k.now) (partial_at (plain_definitions l.fn.meanings)) l.groups.items (listed_definitions (take l.definition-index l.definitions)) (length l.fn.meanings)

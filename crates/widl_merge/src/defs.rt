@@ -1,0 +1,158 @@
+//! The merged list of definitions.
+
+ghost use Rattle.std.specs.Prelude.{List, [], IfOk, OnOk};
+ghost use Rattle.widl_idl.specs.Counts.{NumberedDictionary, NumberedInterface, NumberedNamespace};
+ghost use Rattle.widl_idl.specs.DefinitionTerms.{dict_term, iface_term, space_term};
+ghost use Rattle.widl_idl.specs.MergedList.{dictionary_if, interface_if, namespace_if};
+ghost use Rattle.widl_idl.specs.PlainTrees.{PlainDefinition, DictionaryDefinition, InterfaceDefinition, NamespaceDefinition, definition_kind_of, plain_definitions};
+ghost use Rattle.widl_merge.specs.GrownLists.{Adds, AreKept, AreListed, Grows, MeansItself};
+ghost use Rattle.widl_merge.specs.PlainMain.{plain_dictionary, plain_interface, plain_namespace};
+
+use crate::callbacks::{callback_interface_meant, callback_meant};
+use crate::enumerations::enumeration_meant;
+use crate::merged_dictionaries::dictionary_meant;
+use crate::merged_interfaces::{interface_meant, namespace_meant};
+use crate::numbered_items::add_numbered;
+use crate::sources::Sources;
+use std::alloc::{AllocError, Global};
+use widl_idl::tree::{DefinitionKind, Dictionary, Interface, Namespace};
+use widl_idl::{Defs, Dicts, Ifaces, Items, Spaces};
+use widl_names::Meanings;
+
+/// The merged list of definitions that break no rule of merging.
+///
+/// `steps` bounds the work on types, and counts down.
+///
+/// # Errors
+///
+/// `AllocError` where there is no memory, also where no steps are left or 32 bits can't number what is
+/// in the list.
+pub fn merge_definitions(
+    alloc: Global,
+    meanings: &Meanings<'_, '_>,
+    steps: &mut usize,
+) -> Result<Defs, AllocError>
+    requires { AreKept (plain_definitions meanings.now) }
+    ensures { IfOk result (λ defs. AreListed (plain_definitions meanings.now) (plain_definitions meanings.now) defs) }
+{
+    let sources = Sources::of(alloc, meanings)?;
+    let mut defs = no_definitions(alloc);
+    let definitions = meanings.all();
+    for (number, definition) in definitions.iter().enumerate() {
+        add_definition(alloc, &sources, steps, &mut defs, number, &definition.kind)?;
+    }
+    Ok(defs)
+}
+
+// The empty list.
+fn no_definitions(alloc: Global) -> Defs
+    ensures { (all : List PlainDefinition) → AreListed all [] result }
+{
+    Defs {
+        ifaces: Items::new(alloc),
+        spaces: Items::new(alloc),
+        dicts: Items::new(alloc),
+        choices: Items::new(alloc),
+        callback_fns: Items::new(alloc),
+        callback_ifaces: Items::new(alloc),
+    }
+}
+
+// Adds the definition of this number to the list of its kind, if it is a main one.
+fn add_definition<'a>(
+    alloc: Global,
+    sources: &Sources<'_, '_, 'a>,
+    steps: &mut usize,
+    defs: &mut Defs,
+    number: usize,
+    kind: &'a DefinitionKind,
+) -> Result<(), AllocError>
+    requires { MeansItself (plain_definitions sources.now) number (definition_kind_of kind.now) }
+    ensures { OnOk result (Grows (plain_definitions sources.now) (definition_kind_of kind.now) defs.old defs.new) }
+{
+    match kind {
+        DefinitionKind::Callback(callback) => {
+            let meant = callback_meant(alloc, sources.resolver(), steps, callback)?;
+            add_numbered(&mut defs.callback_fns, meant)
+        }
+        DefinitionKind::CallbackInterface(callback) => {
+            let meant = callback_interface_meant(alloc, sources.resolver(), steps, callback)?;
+            add_numbered(&mut defs.callback_ifaces, meant)
+        }
+        DefinitionKind::Interface(interface) => {
+            add_interface(alloc, sources, steps, &mut defs.ifaces, number, interface)
+        }
+        DefinitionKind::Namespace(namespace) => {
+            add_namespace(alloc, sources, steps, &mut defs.spaces, number, namespace)
+        }
+        DefinitionKind::Dictionary(dictionary) => {
+            add_dictionary(alloc, sources, steps, &mut defs.dicts, number, dictionary)
+        }
+        DefinitionKind::Enumeration(enumeration) => {
+            add_numbered(&mut defs.choices, enumeration_meant(alloc, enumeration)?)
+        }
+        DefinitionKind::Mixin(_) | DefinitionKind::Typedef(_) | DefinitionKind::Includes(_) => Ok(
+            (),
+        ),
+    }
+}
+
+fn add_interface(
+    alloc: Global,
+    sources: &Sources<'_, '_, '_>,
+    steps: &mut usize,
+    ifaces: &mut Ifaces,
+    number: usize,
+    interface: &Interface,
+) -> Result<(), AllocError>
+    requires { MeansItself (plain_definitions sources.now) number (InterfaceDefinition (plain_interface interface.now)) }
+    ensures { OnOk result (Adds iface_term NumberedInterface (interface_if (plain_definitions sources.now) (InterfaceDefinition (plain_interface interface.now))) ifaces.old ifaces.new) }
+{
+    if interface.partial {
+        return Ok(());
+    }
+    add_numbered(
+        ifaces,
+        interface_meant(alloc, sources, steps, number, interface)?,
+    )
+}
+
+fn add_namespace(
+    alloc: Global,
+    sources: &Sources<'_, '_, '_>,
+    steps: &mut usize,
+    spaces: &mut Spaces,
+    number: usize,
+    namespace: &Namespace,
+) -> Result<(), AllocError>
+    requires { MeansItself (plain_definitions sources.now) number (NamespaceDefinition (plain_namespace namespace.now)) }
+    ensures { OnOk result (Adds space_term NumberedNamespace (namespace_if (plain_definitions sources.now) (NamespaceDefinition (plain_namespace namespace.now))) spaces.old spaces.new) }
+{
+    if namespace.partial {
+        return Ok(());
+    }
+    add_numbered(
+        spaces,
+        namespace_meant(alloc, sources, steps, number, namespace)?,
+    )
+}
+
+fn add_dictionary(
+    alloc: Global,
+    sources: &Sources<'_, '_, '_>,
+    steps: &mut usize,
+    dicts: &mut Dicts,
+    number: usize,
+    dictionary: &Dictionary,
+) -> Result<(), AllocError>
+    requires { MeansItself (plain_definitions sources.now) number (DictionaryDefinition (plain_dictionary dictionary.now)) }
+    ensures { OnOk result (Adds dict_term NumberedDictionary (dictionary_if (plain_definitions sources.now) (DictionaryDefinition (plain_dictionary dictionary.now))) dicts.old dicts.new) }
+{
+    if dictionary.partial {
+        return Ok(());
+    }
+    add_numbered(
+        dicts,
+        dictionary_meant(alloc, sources, steps, number, dictionary)?,
+    )
+}

@@ -1,0 +1,134 @@
+//! Attributes, constants, pair iterables and members of dictionaries, with their types resolved.
+
+ghost use Rattle.std.specs.Prelude.{◌≡◌, IfOk, map, option_map};
+ghost use Rattle.widl_idl.specs.Counts.{NumberedAttr, NumberedConstant, NumberedPairs, NumberedType};
+ghost use Rattle.widl_idl.specs.DefinitionTerms.{attr_term, constant_term, member_term, pair_term};
+ghost use Rattle.widl_idl.specs.MergedMembers.{attr_of, is_static_attribute, pair_of};
+ghost use Rattle.widl_idl.specs.MergedMembers as MergedMembers;
+ghost use Rattle.widl_idl.specs.PlainTrees.{attribute_member_of, dictionary_member_of, plain_definitions};
+ghost use Rattle.widl_idl.specs.PlainTrees as PlainTrees;
+ghost use Rattle.widl_idl.specs.PlainTypes.{annotated_of, attribute_of};
+ghost use Rattle.widl_idl.specs.Terms.{type_term};
+
+use crate::name_units::name_units;
+use crate::numbered::{type_alone, type_with};
+use std::alloc::{AllocError, Global};
+use widl_idl::tree::{
+    self, AnnotatedType, Attribute, AttributeKind, DictionaryMember, ExtendedAttribute, Iterable,
+};
+use widl_idl::{Attr, Constant, Member, Pair};
+use widl_names::{Resolver, default_meant, value_meant};
+
+/// An attribute, by the extended attributes before it.
+///
+/// # Errors
+///
+/// `AllocError` where there is no memory or there are no more steps, also where 32 bits can't
+/// number the members of a union.
+pub fn attribute_meant<'a>(
+    alloc: Global,
+    resolver: &Resolver<'_, '_, 'a>,
+    steps: &mut usize,
+    attributes: &'a [ExtendedAttribute],
+    attribute: &'a Attribute,
+) -> Result<Attr, AllocError>
+    ensures term { IfOk result (λ a. attr_term a ≡ attr_of (plain_definitions resolver.now) (record { attributes = map attribute_of attributes.now; attribute = attribute_member_of attribute.now })) }
+    ensures numbered { IfOk result (λ a. NumberedAttr a) }
+{
+    let name = name_units(alloc, &attribute.name)?;
+    let ty = type_with(alloc, resolver, steps, attributes, &attribute.ty)?;
+    Ok(Attr {
+        at: attribute.name.at,
+        name,
+        ty,
+        readonly: attribute.readonly,
+        fixed: is_static_attribute(attribute.kind),
+    })
+}
+
+fn is_static_attribute(kind: AttributeKind) -> bool
+    ensures { result ≡ is_static_attribute kind }
+{
+    match kind {
+        AttributeKind::Static => true,
+        AttributeKind::Regular | AttributeKind::Inherited(_) | AttributeKind::Stringifier(_) => {
+            false
+        }
+    }
+}
+
+/// A constant.
+///
+/// # Errors
+///
+/// Those of [`attribute_meant`].
+pub fn constant_meant<'a>(
+    alloc: Global,
+    resolver: &Resolver<'_, '_, 'a>,
+    steps: &mut usize,
+    constant: &'a tree::Constant,
+) -> Result<Constant, AllocError>
+    ensures term { IfOk result (λ k. constant_term k ≡ MergedMembers.constant_of (plain_definitions resolver.now) (PlainTrees.constant_of constant.now)) }
+    ensures numbered { IfOk result (λ k. NumberedConstant k) }
+{
+    let name = name_units(alloc, &constant.name)?;
+    let ty = type_alone(alloc, resolver, steps, &constant.ty)?;
+    let value = value_meant(alloc, &constant.value.value)?;
+    Ok(Constant {
+        at: constant.name.at,
+        name,
+        ty,
+        value,
+    })
+}
+
+/// The types of an iterable declaration, if it is one of pairs.
+///
+/// # Errors
+///
+/// Those of [`attribute_meant`].
+pub fn pair_meant<'a>(
+    alloc: Global,
+    resolver: &Resolver<'_, '_, 'a>,
+    steps: &mut usize,
+    iterable: &'a Iterable,
+) -> Result<Option<Pair>, AllocError>
+    ensures term { IfOk result (λ p. option_map pair_term p ≡ pair_of (plain_definitions resolver.now) (annotated_of iterable.now.first) (option_map annotated_of iterable.now.second)) }
+    ensures numbered { IfOk result (λ p. NumberedPairs p) }
+{
+    match &iterable.second {
+        None => Ok(None),
+        Some(second) => {
+            let key = type_with(alloc, resolver, steps, &[], &iterable.first)?;
+            let value = type_with(alloc, resolver, steps, &[], second)?;
+            Ok(Some(Pair { key, value }))
+        }
+    }
+}
+
+/// A member of a dictionary.
+///
+/// # Errors
+///
+/// Those of [`attribute_meant`].
+pub fn dictionary_member_meant<'a>(
+    alloc: Global,
+    resolver: &Resolver<'_, '_, 'a>,
+    steps: &mut usize,
+    member: &'a DictionaryMember,
+) -> Result<Member, AllocError>
+    ensures term { IfOk result (λ m. member_term m ≡ MergedMembers.member_of (plain_definitions resolver.now) (dictionary_member_of member.now)) }
+    ensures numbered { IfOk result (λ m. NumberedType (type_term m.ty)) }
+{
+    let name = name_units(alloc, &member.name)?;
+    let attributes = member.attributes.as_slice();
+    let ty = type_with(alloc, resolver, steps, attributes, &member.ty)?;
+    let value = default_meant(alloc, &member.default)?;
+    Ok(Member {
+        at: member.name.at,
+        name,
+        ty,
+        required: member.required,
+        value,
+    })
+}

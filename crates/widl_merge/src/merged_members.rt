@@ -1,0 +1,287 @@
+//! The members of an interface or a namespace, put together from its parts: by kind, and operations by
+//! their names.
+
+ghost use Rattle.std.specs.Prelude.{◌≡◌, ◌<◌, false, List, [], length, map, IfOk, OnOk};
+ghost use Rattle.widl_idl.specs.MergedMembers.{is_stringifier_attribute, operation_text};
+ghost use Rattle.widl_idl.specs.PlainTrees.{AttributeMember, ConstantMember, ConstructorMember, IterableMember, OperationMember, attribute_member_of, constant_of, constructor_of, iterable_of, member_of, operation_of, plain_definitions};
+ghost use Rattle.widl_idl.specs.PlainTypes.{PlainAttribute, attribute_of};
+ghost use Rattle.widl_idl.specs.WrittenLiterals.{units_of};
+ghost use Rattle.widl_merge.specs.PutTogether.{ArePutTogether, GetsStringifier, Grows, GrowsByMember, GrowsByOperation, HasName, HasOverload, listed_members, number_named};
+
+use crate::member_parts::{attribute_meant, constant_meant, pair_meant};
+use crate::numbered_items::push_numbered;
+use crate::operation_numbers::OperationNumbers;
+use crate::operations::is_static;
+use crate::signatures::{constructor_sig, operation_sig};
+use std::alloc::{AllocError, Global};
+use widl_idl::tree::{
+    Attribute, AttributeKind, Constant, Constructor, ExtendedAttribute, Iterable, Member,
+    MemberKind, Operation,
+};
+use widl_idl::{Attrs, Constants, Items, OpName, OpNames, Pair, Sig, Sigs, Slot, Slots, Stringify};
+use widl_names::Resolver;
+use widl_text::Units;
+
+/// The members of an interface or a namespace, by kind, as the list of definitions has them.
+#[derive(Drop)]
+pub struct MergedMembers {
+    /// Its constructors.
+    pub ctors: Sigs,
+    /// Its operations.
+    pub ops: OpNames,
+    /// Its attributes.
+    pub attrs: Attrs,
+    /// Its constants.
+    pub consts: Constants,
+    /// Its stringifier.
+    pub text: Stringify,
+    /// Its pair iterable.
+    pub pairs: Option<Pair>,
+    /// All but its constructors, in order.
+    pub order: Slots,
+}
+
+/// Puts members together that stand in merged order.
+///
+/// # Errors
+///
+/// `AllocError` where there is no memory, also where there are more than 4,294,967,295 members of a
+/// kind, and where the types of the members take more steps than are left.
+pub fn put_together<'a>(
+    alloc: Global,
+    resolver: &Resolver<'_, '_, 'a>,
+    steps: &mut usize,
+    members: &[&'a Member],
+) -> Result<MergedMembers, AllocError>
+    ensures { IfOk result (λ m. ArePutTogether (plain_definitions resolver.now) (listed_members members.now) m) }
+{
+    let mut merged = MergedMembers::new(alloc);
+    let mut numbers = OperationNumbers::new(alloc);
+    for member in members {
+        merged.add(alloc, resolver, steps, &mut numbers, *member)?;
+    }
+    Ok(merged)
+}
+
+impl MergedMembers {
+    // No members.
+    fn new(alloc: Global) -> MergedMembers
+        ensures { result ≡ record { ctors = []; ops = []; attrs = []; consts = []; text = Stringify.No; pairs = None; order = [] } }
+    {
+        MergedMembers {
+            ctors: Items::new(alloc),
+            ops: Items::new(alloc),
+            attrs: Items::new(alloc),
+            consts: Items::new(alloc),
+            text: Stringify::No,
+            pairs: None,
+            order: Items::new(alloc),
+        }
+    }
+
+    // Adds a member. An asynchronous iterable, a maplike and a setlike are no members of the list.
+    fn add<'a>(
+        &mut self,
+        alloc: Global,
+        resolver: &Resolver<'_, '_, 'a>,
+        steps: &mut usize,
+        numbers: &mut OperationNumbers<'a>,
+        member: &'a Member,
+    ) -> Result<(), AllocError>
+        ensures { OnOk result (GrowsByMember (plain_definitions resolver.now) (member_of member.now) self.old (number_named numbers.old.regular numbers.old.fixed) self.new (number_named numbers.new.regular numbers.new.fixed)) }
+    {
+        let attributes = member.attributes.as_slice();
+        match &member.kind {
+            MemberKind::Constant(constant) => self.add_constant(alloc, resolver, steps, constant),
+            MemberKind::Attribute(attribute) => self.add_attribute(
+                alloc, resolver, steps, attributes, attribute,
+            ),
+            MemberKind::Operation(operation) => self.add_operation(
+                alloc, resolver, steps, numbers, operation,
+            ),
+            MemberKind::Constructor(constructor) => self.add_constructor(
+                alloc,
+                resolver,
+                steps,
+                constructor,
+            ),
+            MemberKind::Stringifier(_) => self.add_stringifier(Stringify::Plain),
+            MemberKind::Iterable(iterable) => self.add_iterable(alloc, resolver, steps, iterable),
+            MemberKind::AsyncIterable(_) | MemberKind::Maplike(_) | MemberKind::Setlike(_) => Ok(
+                (),
+            ),
+        }
+    }
+
+    fn add_constructor<'a>(
+        &mut self,
+        alloc: Global,
+        resolver: &Resolver<'_, '_, 'a>,
+        steps: &mut usize,
+        constructor: &'a Constructor,
+    ) -> Result<(), AllocError>
+        ensures { OnOk result ((attributes : List PlainAttribute) → Grows (plain_definitions resolver.now) attributes (ConstructorMember (constructor_of constructor.now)) self.old self.new) }
+    {
+        let sig = constructor_sig(alloc, resolver, steps, constructor)?;
+        push_numbered(&mut self.ctors, sig)?;
+        Ok(())
+    }
+
+    fn add_constant<'a>(
+        &mut self,
+        alloc: Global,
+        resolver: &Resolver<'_, '_, 'a>,
+        steps: &mut usize,
+        constant: &'a Constant,
+    ) -> Result<(), AllocError>
+        ensures { OnOk result ((attributes : List PlainAttribute) → Grows (plain_definitions resolver.now) attributes (ConstantMember (constant_of constant.now)) self.old self.new) }
+    {
+        let meant = constant_meant(alloc, resolver, steps, constant)?;
+        let number = push_numbered(&mut self.consts, meant)?;
+        push_numbered(&mut self.order, Slot::Constant(number))?;
+        Ok(())
+    }
+
+    fn add_attribute<'a>(
+        &mut self,
+        alloc: Global,
+        resolver: &Resolver<'_, '_, 'a>,
+        steps: &mut usize,
+        attributes: &'a [ExtendedAttribute],
+        attribute: &'a Attribute,
+    ) -> Result<(), AllocError>
+        ensures { OnOk result (Grows (plain_definitions resolver.now) (map attribute_of attributes.now) (AttributeMember (attribute_member_of attribute.now)) self.old self.new) }
+    {
+        let meant = attribute_meant(alloc, resolver, steps, attributes, attribute)?;
+        let number = push_numbered(&mut self.attrs, meant)?;
+        push_numbered(&mut self.order, Slot::Attr(number))?;
+        if is_stringifier(attribute.kind) {
+            self.add_stringifier(Stringify::Attr(number))
+        } else {
+            Ok(())
+        }
+    }
+
+    // Keeps the first stringifier, and its place among the members.
+    fn add_stringifier(&mut self, text: Stringify) -> Result<(), AllocError>
+        ensures { OnOk result (GetsStringifier self.old self.new text) }
+    {
+        match self.text {
+            Stringify::No => {
+                self.text = text;
+                push_numbered(&mut self.order, Slot::Stringifier)?;
+                Ok(())
+            }
+            Stringify::Plain | Stringify::Attr(_) => Ok(()),
+        }
+    }
+
+    // Keeps the types of the first pair iterable, and its place among the members.
+    fn add_iterable<'a>(
+        &mut self,
+        alloc: Global,
+        resolver: &Resolver<'_, '_, 'a>,
+        steps: &mut usize,
+        iterable: &'a Iterable,
+    ) -> Result<(), AllocError>
+        ensures { OnOk result ((attributes : List PlainAttribute) → Grows (plain_definitions resolver.now) attributes (IterableMember (iterable_of iterable.now)) self.old self.new) }
+    {
+        if self.pairs.is_some() {
+            return Ok(());
+        }
+        match pair_meant(alloc, resolver, steps, iterable)? {
+            None => Ok(()),
+            Some(pair) => {
+                self.pairs = Some(pair);
+                push_numbered(&mut self.order, Slot::Pairs)?;
+                Ok(())
+            }
+        }
+    }
+
+    fn add_operation<'a>(
+        &mut self,
+        alloc: Global,
+        resolver: &Resolver<'_, '_, 'a>,
+        steps: &mut usize,
+        numbers: &mut OperationNumbers<'a>,
+        operation: &'a Operation,
+    ) -> Result<(), AllocError>
+        ensures { OnOk result (GrowsByOperation (plain_definitions resolver.now) (operation_of operation.now) self.old (number_named numbers.old.regular numbers.old.fixed) self.new (number_named numbers.new.regular numbers.new.fixed)) }
+    {
+        let sig = operation_sig(alloc, resolver, steps, operation)?;
+        let text = operation_text(operation);
+        let fixed = is_static(operation.kind);
+        match numbers.number(text, fixed) {
+            Some(number) => add_overload(alloc, &mut self.ops, number as usize, sig),
+            None => {
+                let number = add_name(alloc, &mut self.ops, text, fixed, sig)?;
+                numbers.keep(text, fixed, number)?;
+                push_numbered(&mut self.order, Slot::Op(number))?;
+                Ok(())
+            }
+        }
+    }
+}
+
+fn is_stringifier(kind: AttributeKind) -> bool
+    ensures { result ≡ is_stringifier_attribute kind }
+{
+    match kind {
+        AttributeKind::Stringifier(_) => true,
+        AttributeKind::Regular | AttributeKind::Static | AttributeKind::Inherited(_) => false,
+    }
+}
+
+// The name of an operation. One without a name has the empty one.
+fn operation_text(operation: &Operation) -> &str
+    ensures { result.now ≡ operation_text (operation_of operation.now).name }
+{
+    match &operation.name {
+        None => "",
+        Some(name) => name.text.as_str(),
+    }
+}
+
+// Adds a signature to the operations of the name of this number. Each number that is kept for a name is
+// that of one.
+fn add_overload(alloc: Global, ops: &mut OpNames, number: usize, sig: Sig) -> Result<(), AllocError>
+    ensures { OnOk result (HasOverload ops.old ops.new number sig) }
+{
+    if number >= ops.len() {
+        return Err(AllocError);
+    }
+    let mut op = ops.replace(number, nameless(alloc));
+    push_numbered(&mut op.sigs, sig)?;
+    ops.replace(number, op);
+    Ok(())
+}
+
+// No operations, of no name.
+fn nameless(alloc: Global) -> OpName
+    ensures { result ≡ record { name = []; fixed = false; sigs = [] } }
+{
+    OpName {
+        name: Units::new(alloc),
+        fixed: false,
+        sigs: Items::new(alloc),
+    }
+}
+
+// Adds a name with one operation, and gives its number.
+fn add_name(
+    alloc: Global,
+    ops: &mut OpNames,
+    text: &str,
+    fixed: bool,
+    sig: Sig,
+) -> Result<u32, AllocError>
+    ensures list { OnOk result (HasName ops.old ops.new (units_of text.now) fixed sig) }
+    ensures few { OnOk result (length ops.new < 4294967296) }
+    ensures number { IfOk result (λ number. number ≡ length ops.old) }
+{
+    let name = Units::of_str(alloc, text)?;
+    let mut sigs = Items::new(alloc);
+    push_numbered(&mut sigs, sig)?;
+    push_numbered(ops, OpName { name, fixed, sigs })
+}

@@ -1,0 +1,133 @@
+//! What the merged list is made from.
+
+ghost use Rattle.std.specs.Prelude.{◌≡◌, ℕ, List, ◌++◌, flat_map, map, option_map, IfOk, OnOk, true};
+ghost use Rattle.widl_idl.specs.declared.kind.Kind.{Kind as KindType};
+ghost use Rattle.widl_idl.specs.declared.kind.Kind.TheVariants as kinds;
+ghost use Rattle.widl_idl.specs.MergedList.{parent_number};
+ghost use Rattle.widl_idl.specs.Parts.{members_in, merged_dictionary_members, merged_members};
+ghost use Rattle.widl_idl.specs.PlainTrees.{dictionary_member_of, members_of, plain_definitions};
+ghost use Rattle.widl_idl.specs.PlainTypes.{name_of};
+ghost use Rattle.widl_names.specs.PartTables.{has_parts, listed_parts};
+ghost use Rattle.widl_merge.specs.GrownLists.{HasParentOf, Means};
+ghost use Rattle.widl_merge.specs.PutTogether.{listed_members};
+
+use crate::dictionary_parts::DictionaryParts;
+use std::alloc::{AllocError, Global};
+use std::marker::Model;
+use widl_idl::Kind;
+use widl_idl::tree::{DefinitionKind, DictionaryMember, Member, Name};
+use widl_names::{Meanings, Parts, Resolver, members_in};
+
+/// The definitions of a set of files with what their types mean, and with their parts.
+#[derive(Drop)]
+pub struct Sources<'m, 'd, 'a> {
+    resolver: Resolver<'m, 'd, 'a>,
+    parts: Parts<'d, 'a>,
+    dictionaries: DictionaryParts<'d, 'a>,
+}
+
+impl<'m, 'd, 'a> Model for Sources<'m, 'd, 'a> {
+    ghost use Rattle.std.specs.Prelude.{◌≡◌, List};
+    ghost use Rattle.std.specs.Coded.{codes};
+    ghost use Rattle.widl_idl.specs.contracts.tree.types.TypeForm as written;
+    ghost use Rattle.widl_idl.specs.declared.tree.definitions.Definition.{Definition as DefinitionType};
+
+    ghost Value = { List DefinitionType };
+
+    ghost coded = { Prim.hlevel (codes, written.the_row.coded) };
+
+    ghost view = { λ s. s.resolver };
+
+    ghost invariant = { λ s. (s.parts ≡ s.resolver) × (s.dictionaries ≡ s.resolver) };
+}
+
+impl<'m, 'd, 'a> Sources<'m, 'd, 'a> {
+    /// What the merged list of these definitions is made from.
+    ///
+    /// # Errors
+    ///
+    /// `AllocError` where there is no memory.
+    pub fn of(
+        alloc: Global,
+        meanings: &'m Meanings<'d, 'a>,
+    ) -> Result<Sources<'m, 'd, 'a>, AllocError>
+        ensures { IfOk result (λ sources. sources ≡ meanings.now) }
+    {
+        let resolver = Resolver::of(alloc, meanings)?;
+        let parts = Parts::of(alloc, meanings)?;
+        let dictionaries = DictionaryParts::of(alloc, meanings)?;
+        Ok(Sources {
+            resolver,
+            parts,
+            dictionaries,
+        })
+    }
+
+    /// What types mean.
+    pub fn resolver(&self) -> &Resolver<'m, 'd, 'a>
+        ensures { result.now ≡ self.now }
+    {
+        &self.resolver
+    }
+
+    /// The number of the parent, among the definitions of its kind, that a definition of this kind has.
+    pub fn parent(&self, parent: Option<&Name>, kind: Kind) -> Option<u32>
+        requires { HasParentOf (plain_definitions self.now) kind (option_map (λ name. name_of name.now) parent) }
+        ensures { result ≡ parent_number (plain_definitions self.now) kind (option_map (λ name. name_of name.now) parent.entry) }
+    {
+        match parent {
+            None => None,
+            Some(name) => self.resolver.kind_number(name.text.as_str(), kind),
+        }
+    }
+
+    /// The members of the interface or the namespace of this number in merged order.
+    ///
+    /// # Errors
+    ///
+    /// `AllocError` where there is no memory.
+    pub fn members(&self, alloc: Global, number: usize) -> Result<Vec<&'a Member>, AllocError>
+        ensures { IfOk result (λ list. (text : List ℕ) (kind : KindType) → Means (plain_definitions self.now) text number kind → has_parts kind ≡ true → listed_members list.items ≡ merged_members (plain_definitions self.now) kind text) }
+    {
+        let parts = self.parts.list(alloc, number)?;
+        list_members(alloc, &parts)
+    }
+
+    /// The members of the dictionary of this number, its own before those of its partials.
+    ///
+    /// # Errors
+    ///
+    /// `AllocError` where there is no memory.
+    pub fn dictionary_members(
+        &self,
+        alloc: Global,
+        number: usize,
+    ) -> Result<Vec<&'a DictionaryMember>, AllocError>
+        ensures { IfOk result (λ list. (text : List ℕ) → Means (plain_definitions self.now) text number kinds.Dictionary → map (λ m. dictionary_member_of m.now) list.items ≡ merged_dictionary_members (plain_definitions self.now) text) }
+    {
+        self.dictionaries.list(alloc, number)
+    }
+}
+
+// The members of all of these parts.
+fn list_members<'a>(
+    alloc: Global,
+    parts: &[&'a DefinitionKind],
+) -> Result<Vec<&'a Member>, AllocError>
+    ensures { IfOk result (λ list. listed_members list.items ≡ flat_map members_in (listed_parts parts.now)) }
+{
+    let mut list = Vec::new(alloc);
+    for part in parts {
+        add_members(&mut list, members_in(part))?;
+    }
+    Ok(list)
+}
+
+fn add_members<'a>(list: &mut Vec<&'a Member>, members: &'a [Member]) -> Result<(), AllocError>
+    ensures { OnOk result (listed_members list.new.items ≡ listed_members list.old.items ++ members_of members.now) }
+{
+    for member in members {
+        list.push(member)?;
+    }
+    Ok(())
+}

@@ -1,0 +1,15 @@
+pub mod Listed
+pub mod Numbers
+pub mod NameMeanings
+pub mod Mapped
+pub mod PlainLists
+pub mod Pushed
+pub mod PartLists
+pub mod NamedParts
+pub mod KeptMembers
+pub mod SaidNotes
+pub mod KindNumbers
+pub mod TypeUses
+pub mod TypedefEnds
+pub mod TypedefLinks
+pub mod Saturated

@@ -1,0 +1,8 @@
+use Rattle.std.proofs.Common.{length, take}
+use Rattle.widl_idl.specs.PlainTrees.{definition_kind_of, plain_definitions}
+use Rattle.widl_names.specs.Listings.{listed_definitions}
+use Rattle.widl_names.specs.PartTables.{Grouped, partial_at}
+use Rattle.widl_names.proofs.parts.group_partials.Given as goal
+
+abbrev pub invariant-loop-definition : goal.invariant-loop-definition
+invariant-loop-definition l = Grouped (λ k. definition_kind_of k.now) (partial_at (plain_definitions l.fn.meanings)) l.groups.items (listed_definitions (take l.definition-index l.definitions)) (length l.fn.meanings)

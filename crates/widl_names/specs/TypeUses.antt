@@ -1,0 +1,96 @@
+-- Uses of types: what is left of a type where its typedefs are followed.
+use Rattle.std.specs.Prelude.{◌≡◌, ℕ, ◌<◌, zero, suc, Bool, false, List, Option, None, Some, option_map, slice_get}
+use Rattle.widl_text.specs.declared.place.Place.{Place}
+use Rattle.widl_idl.specs.declared.kind.Kind.TheVariants as kinds
+use Rattle.widl_idl.specs.declared.tree.types.Container.{Container}
+use Rattle.widl_idl.specs.declared.tree.types.Container.TheVariants as container
+use Rattle.widl_idl.specs.Meanings.{meant, meant_kind}
+use Rattle.widl_idl.specs.MergingRules.{is_kind}
+use Rattle.widl_idl.specs.PlainTrees.{PlainDefinition, PlainKind, TypedefDefinition}
+use Rattle.widl_idl.specs.PlainTypes.{PlainForm, PlainType, PlainAnnotated, PlainNamed, plain_annotated, form_term}
+use Rattle.widl_idl.specs.Resolution.{Note, WrittenType, WithoutParts, resolved, typedef_in}
+use Rattle.widl_idl.specs.Terms.{TypeTerm, AnyType, NullableType, SequenceType}
+use Rattle.widl_idl.specs.WrittenTypes.{notes_of, typedefs, written_form, written_type}
+use Rattle.widl_names.specs.declared.resolver.Use.{Use}
+use Rattle.widl_names.specs.SaidNotes.{Says}
+
+abbrev pub question_count : Option Place → ℕ
+question_count None = 0
+question_count (Some question) = 1
+
+-- a type with so many `?`s behind it
+abbrev pub questioned : ℕ → TypeTerm → TypeTerm
+questioned zero t = t
+questioned (suc count) t = NullableType (questioned count t)
+
+-- what a written type without parts stands for
+abbrev pub without_parts : WrittenType → TypeTerm
+without_parts (WithoutParts t) = t
+without_parts t = AnyType
+
+-- what a form means with these annotations, where typedefs lead at most so many levels down
+abbrev pub form_meaning : List PlainDefinition → ℕ → List Note → PlainForm → TypeTerm
+form_meaning definitions levels notes form = resolved (typedef_in (typedefs definitions) levels) notes (written_form definitions form)
+
+-- the same of a type
+abbrev pub meaning_at : List PlainDefinition → ℕ → List Note → PlainType → TypeTerm
+meaning_at definitions levels notes t = resolved (typedef_in (typedefs definitions) levels) notes (written_type definitions t)
+
+-- the same of a type with its own annotations alone
+abbrev pub own_meaning : List PlainDefinition → ℕ → PlainAnnotated → TypeTerm
+own_meaning definitions levels (plain_annotated at attributes inner) = meaning_at definitions levels (notes_of attributes) inner
+
+-- what a use of a type means with these annotations
+abbrev pub meaning_of_use : List PlainDefinition → List Note → Use → TypeTerm
+meaning_of_use definitions notes u = questioned u.questions (form_meaning definitions u.typedefs notes (form_term u.form.now))
+
+-- the use means what the written type does
+pub record MeansWritten (u : Use) (t : PlainType) : Type 0 where
+  pub same : (definitions : List PlainDefinition) (notes : List Note) → meaning_of_use definitions notes u ≡ meaning_at definitions u.typedefs notes t
+
+abbrev pub notes_in : PlainAnnotated → List Note
+notes_in (plain_annotated at attributes inner) = notes_of attributes
+
+abbrev pub type_in : PlainAnnotated → PlainType
+type_in (plain_annotated at attributes inner) = inner
+
+-- a use of a type means what another one does
+pub record Leads (definitions : List PlainDefinition) (u v : Use) : Type 0 where
+  pub same : (notes : List Note) → Says u.annotations notes → (more : List Note) × Says v.annotations more × (meaning_of_use definitions notes u ≡ meaning_of_use definitions more v)
+
+abbrev pub where_left : ℕ → Bool → Bool
+where_left zero test = false
+where_left (suc levels) test = test
+
+-- whether the form is the name of a typedef that may be followed
+abbrev pub is_followed : List PlainDefinition → ℕ → PlainForm → Bool
+is_followed definitions levels (PlainNamed name) = where_left levels (is_kind kinds.Typedef (meant_kind definitions name.text))
+is_followed definitions levels form = false
+
+-- no typedef is left to follow
+abbrev pub IsLast : List PlainDefinition → Use → Type 0
+IsLast definitions u = is_followed definitions u.typedefs (form_term u.form.now) ≡ false
+
+-- where a use of a type leads, with fewer typedefs left, or none where it is the last
+abbrev pub Behind : List PlainDefinition → Use → Option Use → Type 0
+Behind definitions u None = IsLast definitions u
+Behind definitions u (Some next) = Leads definitions u next × (next.typedefs < u.typedefs)
+
+-- the type of a typedef
+abbrev pub typedef_type : Option PlainKind → Option PlainAnnotated
+typedef_type (Some (TypedefDefinition t)) = Some t.ty
+typedef_type kind = None
+
+-- the type of the typedef that a definition is, if it is one
+abbrev pub typedef_at : List PlainDefinition → ℕ → Option PlainAnnotated
+typedef_at definitions number = typedef_type (option_map (λ d. d.kind) (slice_get definitions number))
+
+-- the type of the typedef that a form names, if it is the name of one
+abbrev pub typedef_of_form : List PlainDefinition → PlainForm → Option PlainAnnotated
+typedef_of_form definitions (PlainNamed name) = typedef_type (meant definitions name.text)
+typedef_of_form definitions form = None
+
+-- what a container means: only a sequence is a type
+abbrev pub container_meaning : List PlainDefinition → ℕ → Container → PlainAnnotated → TypeTerm
+container_meaning definitions levels container.Sequence inner = SequenceType (own_meaning definitions levels inner)
+container_meaning definitions levels container inner = AnyType

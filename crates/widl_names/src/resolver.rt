@@ -1,0 +1,528 @@
+//! What the types of a set of files mean: their typedefs are replaced by their types, and other names
+//! by the numbers of their definitions.
+//!
+//! A chain of typedefs whose types are names of typedefs is as long as a file allows. Where it ends is
+//! kept for each typedef, so following it is one look-up. Only where fewer typedefs may still be followed
+//! than the chain has is it followed by one at a time. The recursion goes down into the parts of types
+//! alone, at most 16 levels.
+
+ghost use Rattle.std.specs.Prelude.{◌≡◌, ◌<◌, ◌+◌, List, [], Some, IfOk, OnOk, map, option_map, slice_get};
+ghost use Rattle.widl_idl.specs.Meanings.{kind_of, meaning, meant_kind};
+ghost use Rattle.widl_idl.specs.declared.kind.Kind.{Kind as KindType};
+ghost use Rattle.widl_idl.specs.MergedList.{number_of_meaning};
+ghost use Rattle.widl_idl.specs.PlainTrees.{plain_definitions};
+ghost use Rattle.widl_idl.specs.PlainTypes.{PlainNamed, annotated_of, attribute_of, form_term, name_of, type_of, union_of};
+ghost use Rattle.widl_idl.specs.Resolution.{Note, resolved_members, typedef_in};
+ghost use Rattle.widl_idl.specs.Terms.{packed, type_term, type_terms};
+ghost use Rattle.widl_idl.specs.WrittenTypes.{meaning_alone, meaning_of_type, meaning_with, named_type, type_of_kind, type_of_meaning, typedefs, written_members};
+ghost use Rattle.widl_names.specs.SaidNotes.{Says};
+ghost use Rattle.widl_names.specs.TypedefEnds.{GoesTo, IsNext};
+ghost use Rattle.widl_names.specs.TypeUses.{Behind, IsLast, Leads, MeansWritten, container_meaning, form_meaning, meaning_at, meaning_of_use, own_meaning, questioned, typedef_at, without_parts};
+
+use crate::annotations::Annotations;
+use crate::kind_numbers::{KindNumbers, number_kinds};
+use crate::meanings::Meanings;
+use crate::typedef_ends::{ChainEnd, QUESTIONS, count_question, kept_end, typedef_ends};
+use crate::typedef_links::typedef_at;
+use std::alloc::{AllocError, Global};
+use std::marker::Model;
+use widl_idl::tree::{AnnotatedType, Container, ExtendedAttribute, Name, TypeForm, WrittenType};
+use widl_idl::{IdlType, IdlTypes, Kind};
+
+// How deep types may nest, each with the `?`s behind it.
+const LEVELS: usize = 16;
+
+// How many bytes of a name are looked up in one step.
+const NAME_BYTES: usize = 64;
+
+/// The definitions of a set of files with their numbers, by which types are resolved.
+#[derive(Drop)]
+pub struct Resolver<'m, 'd, 'a> {
+    meanings: &'m Meanings<'d, 'a>,
+    kinds: KindNumbers,
+    // For each definition the end of its chain, if it is a typedef.
+    ends: Vec<Option<ChainEnd<'a>>>,
+}
+
+impl<'m, 'd, 'a> Model for Resolver<'m, 'd, 'a> {
+    ghost use Rattle.std.specs.Prelude.{List};
+    ghost use Rattle.std.specs.Coded.{codes};
+    ghost use Rattle.widl_idl.specs.contracts.tree.types.TypeForm as written;
+    ghost use Rattle.widl_idl.specs.declared.tree.definitions.Definition.{Definition as DefinitionType};
+    ghost use Rattle.widl_idl.specs.PlainTrees.{plain_definitions};
+    ghost use Rattle.widl_names.specs.KindNumbers.{AreCounts, AreNumbers};
+    ghost use Rattle.widl_names.specs.TypedefEnds.{AreEnds};
+
+    ghost Value = { List DefinitionType };
+
+    ghost coded = { Prim.hlevel (codes, written.the_row.coded) };
+
+    ghost view = { λ r. r.meanings.now };
+
+    ghost invariant = { λ r. AreNumbers (plain_definitions r.meanings.now) r.kinds.numbers.items × AreCounts (plain_definitions r.meanings.now) r.kinds.counts × AreEnds (plain_definitions r.meanings.now) r.ends.items };
+}
+
+// A type as it is used.
+#[derive(Clone, Copy)]
+pub struct Use<'t> {
+    // The type without its `?`.
+    pub form: &'t TypeForm,
+    // What the annotations before it say.
+    pub annotations: Annotations,
+    // How many typedefs it may still lead to.
+    pub typedefs: u32,
+    // How many `?`s stand behind it.
+    pub questions: usize,
+}
+
+impl<'t> Use<'t> {
+    // A type behind these annotations.
+    fn of(ty: &'t WrittenType, annotations: Annotations, typedefs: u32) -> Use<'t>
+        ensures annotations { result.annotations ≡ annotations }
+        ensures same { MeansWritten result (type_of ty.now) }
+        ensures count { result.typedefs ≡ typedefs }
+    {
+        Use {
+            form: &ty.form,
+            annotations,
+            typedefs,
+            questions: count_question(ty.question),
+        }
+    }
+
+    // The end of the chain of the typedef that is named where this one stands.
+    fn through(&self, end: &ChainEnd<'t>) -> Result<Use<'t>, AllocError>
+        requires { end.now.passed < self.now.typedefs }
+        ensures { IfOk result (λ next. GoesTo self.now end.now next) }
+    {
+        Ok(Use {
+            form: end.form,
+            annotations: self.annotations.followed_by(end.annotations),
+            typedefs: self.typedefs - 1 - end.passed,
+            questions: more_questions(self.questions, end.questions)?,
+        })
+    }
+}
+
+// So many `?`s, and so many more.
+fn more_questions(questions: usize, more: usize) -> Result<usize, AllocError>
+    ensures { IfOk result (λ all. all ≡ questions + more) }
+{
+    if questions <= QUESTIONS && more <= QUESTIONS - questions {
+        Ok(questions + more)
+    } else {
+        Err(AllocError)
+    }
+}
+
+impl<'m, 'd, 'a> Resolver<'m, 'd, 'a> {
+    /// What resolves the types of these definitions.
+    ///
+    /// # Errors
+    ///
+    /// `AllocError` where there is no memory, also where there are more than 4,294,967,295 definitions
+    /// of a kind.
+    pub fn of(
+        alloc: Global,
+        meanings: &'m Meanings<'d, 'a>,
+    ) -> Result<Resolver<'m, 'd, 'a>, AllocError>
+        ensures { IfOk result (λ resolver. resolver ≡ meanings.now) }
+    {
+        let kinds = number_kinds(alloc, meanings.all())?;
+        let ends = typedef_ends(alloc, meanings)?;
+        Ok(Resolver {
+            meanings,
+            kinds,
+            ends,
+        })
+    }
+
+    /// What a type means behind these annotations (Web IDL, "Typedefs" and "Annotated types").
+    ///
+    /// Typedefs of typedefs may make types and take time that grow far faster than their source. So
+    /// `steps` bounds both: it counts down with each type that is made or followed, each 64 bytes of a
+    /// name that is looked up and each extended attribute that is read.
+    ///
+    /// # Errors
+    ///
+    /// `AllocError` where there is no memory, also where there are no more steps, or where the type
+    /// nests deeper than any that the rules allow.
+    pub fn resolve(
+        &self,
+        alloc: Global,
+        steps: &mut usize,
+        annotations: Annotations,
+        ty: &'a WrittenType,
+    ) -> Result<IdlType, AllocError>
+        ensures { IfOk result (λ t. (notes : List Note) → Says annotations notes → type_term t ≡ meaning_of_type (plain_definitions self.now) notes (type_of ty.now)) }
+    {
+        let start = Use::of(ty, annotations, self.kinds.counts.count(Kind::Typedef));
+        self.use_type(alloc, steps, LEVELS, &start)
+    }
+
+    /// What a type without annotations means, as that of a result or a constant.
+    ///
+    /// # Errors
+    ///
+    /// Those of [`Resolver::resolve`].
+    pub fn resolve_alone(
+        &self,
+        alloc: Global,
+        steps: &mut usize,
+        ty: &'a WrittenType,
+    ) -> Result<IdlType, AllocError>
+        ensures { IfOk result (λ t. type_term t ≡ meaning_alone (plain_definitions self.now) (type_of ty.now)) }
+    {
+        self.resolve(alloc, steps, Annotations::none(), ty)
+    }
+
+    /// What the type of an argument, an attribute or a dictionary member means, whose own extended
+    /// attributes are annotations of its type too.
+    ///
+    /// # Errors
+    ///
+    /// Those of [`Resolver::resolve`].
+    pub fn resolve_with(
+        &self,
+        alloc: Global,
+        steps: &mut usize,
+        attributes: &[ExtendedAttribute],
+        ty: &'a AnnotatedType,
+    ) -> Result<IdlType, AllocError>
+        ensures { IfOk result (λ t. type_term t ≡ meaning_with (plain_definitions self.now) (map attribute_of attributes.now) (annotated_of ty.now)) }
+    {
+        spend(steps, attributes.len())?;
+        spend(steps, ty.attributes.len())?;
+        let before = Annotations::of(attributes);
+        let own = Annotations::of(ty.attributes.as_slice());
+        self.resolve(alloc, steps, before.followed_by(own), &ty.ty)
+    }
+
+    /// The number of the definition that a name means among the main ones of its kind, which is this
+    /// one.
+    pub fn kind_number(&self, text: &str, kind: Kind) -> Option<u32>
+        requires { (other : KindType) → meant_kind (plain_definitions self.now) text.now ≡ Some other → other ≡ kind }
+        ensures { result ≡ number_of_meaning (plain_definitions self.now) kind (meaning (plain_definitions self.now) text.now) }
+    {
+        match self.meanings.number(text) {
+            None => None,
+            Some(number) => Some(self.kinds.numbers[number]),
+        }
+    }
+
+    // The type that a name stands for, where a typedef is `any`.
+    fn named_type(&self, name: &Name) -> IdlType
+        ensures { type_term result ≡ without_parts (named_type (plain_definitions self.now) (name_of name.now)) }
+    {
+        let text = name.text.as_str();
+        match self.meanings.number(text) {
+            None => IdlType::Any,
+            Some(number) => self.numbered_type(self.meanings.kind(text), number),
+        }
+    }
+
+    // The type that a definition of the number is.
+    fn numbered_type(&self, kind: Option<Kind>, number: usize) -> IdlType
+        requires { option_map kind_of (option_map (λ d. d.kind) (slice_get (plain_definitions self.now) number)) ≡ kind }
+        ensures { type_term result ≡ without_parts (type_of_meaning (plain_definitions self.now) (Some number) kind) }
+    {
+        match kind {
+            None => IdlType::Any,
+            Some(kind) => type_of_kind(kind, self.kinds.numbers[number]),
+        }
+    }
+
+    // Where a use of a type leads, if that type is a typedef's name.
+    fn behind(&self, steps: &mut usize, from: &Use<'a>) -> Result<Option<Use<'a>>, AllocError>
+        ensures { IfOk result (λ next. Behind (plain_definitions self.now) from.now next) }
+    {
+        match from.form {
+            TypeForm::Named(name) => self.behind_name(steps, from, name),
+            TypeForm::Any
+            | TypeForm::Undefined
+            | TypeForm::Boolean
+            | TypeForm::Object
+            | TypeForm::Symbol
+            | TypeForm::BigInt
+            | TypeForm::Integer(_)
+            | TypeForm::Float(_)
+            | TypeForm::Text(_)
+            | TypeForm::Buffer(_)
+            | TypeForm::Container(..)
+            | TypeForm::Record(..)
+            | TypeForm::Promise(_)
+            | TypeForm::Union(_) => Ok(None),
+        }
+    }
+
+    // Where a use of a name's type leads, if the name is a typedef's.
+    fn behind_name(
+        &self,
+        steps: &mut usize,
+        from: &Use<'a>,
+        name: &Name,
+    ) -> Result<Option<Use<'a>>, AllocError>
+        requires { form_term from.now.form.now ≡ PlainNamed (name_of name.now) }
+        ensures { IfOk result (λ next. Behind (plain_definitions self.now) from.now next) }
+    {
+        if from.typedefs == 0 {
+            return Ok(None);
+        }
+        match self.meanings.number(name.text.as_str()) {
+            None => Ok(None),
+            Some(number) => match self.next_end(steps, from.typedefs, number)? {
+                None => Ok(None),
+                Some(end) => Ok(Some(from.through(&end)?)),
+            },
+        }
+    }
+
+    // The end of the chain of the definition with this number, if it is a typedef: the kept one, or its
+    // type alone where so few typedefs may be followed that the kept one is too far away.
+    fn next_end(
+        &self,
+        steps: &mut usize,
+        typedefs: u32,
+        number: usize,
+    ) -> Result<Option<ChainEnd<'a>>, AllocError>
+        requires { 0 < typedefs }
+        ensures { IfOk result (λ next. IsNext (plain_definitions self.now) typedefs (typedef_at (plain_definitions self.now) number) next) }
+    {
+        match kept_end(&self.ends, number) {
+            None => self.first_end(steps, number),
+            Some(end) => if end.passed < typedefs {
+                Ok(Some(end))
+            } else {
+                self.first_end(steps, number)
+            },
+        }
+    }
+
+    // The type of the definition with this number as the end of a chain, if it is a typedef.
+    fn first_end(
+        &self,
+        steps: &mut usize,
+        number: usize,
+    ) -> Result<Option<ChainEnd<'a>>, AllocError>
+        ensures { IfOk result (λ next. IsNext (plain_definitions self.now) 1 (typedef_at (plain_definitions self.now) number) next) }
+    {
+        match typedef_at(self.meanings, number) {
+            None => Ok(None),
+            Some(ty) => {
+                spend(steps, ty.attributes.len())?;
+                Ok(Some(ChainEnd::of(ty)))
+            }
+        }
+    }
+
+    // The last type of a chain of typedefs.
+    fn follow(&self, steps: &mut usize, start: &Use<'a>) -> Result<Use<'a>, AllocError>
+        ensures leads { IfOk result (λ last. Leads (plain_definitions self.now) start.now last) }
+        ensures last { IfOk result (λ last. IsLast (plain_definitions self.now) last) }
+    {
+        let mut reached = *start;
+        spend(steps, form_size(reached.form))?;
+        while let Some(next) = self.behind(steps, &reached)? {
+            reached = next;
+            spend(steps, form_size(reached.form))?;
+        }
+        Ok(reached)
+    }
+
+    // What a use of a type means. `levels` is how deep its parts may nest; below, `left` is how many
+    // typedefs may still be followed.
+    #[cycle(resolve)]
+    fn use_type(
+        &self,
+        alloc: Global,
+        steps: &mut usize,
+        levels: usize,
+        start: &Use<'a>,
+    ) -> Result<IdlType, AllocError>
+        ensures { IfOk result (λ t. (notes : List Note) → Says start.now.annotations notes → type_term t ≡ meaning_of_use (plain_definitions self.now) notes start.now) }
+    {
+        if levels == 0 {
+            return Err(AllocError);
+        }
+        let last = self.follow(steps, start)?;
+        let inner = self.form_type(alloc, steps, levels - 1, &last)?;
+        with_questions(alloc, inner, last.questions)
+    }
+
+    // The same of a use of a type that is no typedef's name, without its `?`s.
+    #[cycle(resolve)]
+    fn form_type(
+        &self,
+        alloc: Global,
+        steps: &mut usize,
+        levels: usize,
+        last: &Use<'a>,
+    ) -> Result<IdlType, AllocError>
+        requires { IsLast (plain_definitions self.now) last.now }
+        ensures { IfOk result (λ t. (notes : List Note) → Says last.now.annotations notes → type_term t ≡ form_meaning (plain_definitions self.now) last.now.typedefs notes (form_term last.now.form.now)) }
+    {
+        match last.form {
+            TypeForm::Undefined => Ok(IdlType::Undefined),
+            TypeForm::Boolean => Ok(IdlType::Boolean),
+            TypeForm::Object => Ok(IdlType::Object),
+            TypeForm::Integer(kind) => Ok(last.annotations.integer(*kind)),
+            TypeForm::Text(kind) => Ok(last.annotations.text(*kind)),
+            TypeForm::Named(name) => Ok(self.named_type(name)),
+            TypeForm::Container(container, inner) => {
+                self.container_type(alloc, steps, levels, last.typedefs, *container, inner)
+            }
+            TypeForm::Record(key, inner) => {
+                let value = self.boxed_type(alloc, steps, levels, last.typedefs, inner)?;
+                Ok(IdlType::Rec(*key, value))
+            }
+            TypeForm::Promise(inner) => {
+                let value = self.promised_type(alloc, steps, levels, last.typedefs, inner)?;
+                Ok(IdlType::Promise(value))
+            }
+            TypeForm::Union(members) => {
+                let list = members.as_slice();
+                let types = self.member_types(alloc, steps, levels, last.typedefs, list)?;
+                Ok(IdlType::Union(types))
+            }
+            _ => Ok(IdlType::Any),
+        }
+    }
+
+    // What a container of this type means; only a sequence is a type.
+    #[cycle(resolve)]
+    fn container_type(
+        &self,
+        alloc: Global,
+        steps: &mut usize,
+        levels: usize,
+        left: u32,
+        container: Container,
+        inner: &'a AnnotatedType,
+    ) -> Result<IdlType, AllocError>
+        ensures { IfOk result (λ t. type_term t ≡ container_meaning (plain_definitions self.now) left container (annotated_of inner.now)) }
+    {
+        match container {
+            Container::Sequence => {
+                let element = self.boxed_type(alloc, steps, levels, left, inner)?;
+                Ok(IdlType::Seq(element))
+            }
+            Container::AsyncSequence | Container::FrozenArray | Container::ObservableArray => {
+                Ok(IdlType::Any)
+            }
+        }
+    }
+
+    // What a type means behind no annotations.
+    #[cycle(resolve)]
+    fn promised_type(
+        &self,
+        alloc: Global,
+        steps: &mut usize,
+        levels: usize,
+        left: u32,
+        ty: &'a WrittenType,
+    ) -> Result<Box<IdlType>, AllocError>
+        ensures { IfOk result (λ t. type_term t.value ≡ meaning_at (plain_definitions self.now) left [] (type_of ty.now)) }
+    {
+        let start = Use::of(ty, Annotations::none(), left);
+        let value = self.use_type(alloc, steps, levels, &start)?;
+        Ok(Box::new(alloc, value)?)
+    }
+
+    // What a type means behind its own annotations alone.
+    #[cycle(resolve)]
+    fn annotated_type(
+        &self,
+        alloc: Global,
+        steps: &mut usize,
+        levels: usize,
+        left: u32,
+        ty: &'a AnnotatedType,
+    ) -> Result<IdlType, AllocError>
+        ensures { IfOk result (λ t. type_term t ≡ own_meaning (plain_definitions self.now) left (annotated_of ty.now)) }
+    {
+        spend(steps, ty.attributes.len())?;
+        let start = Use::of(&ty.ty, Annotations::of(ty.attributes.as_slice()), left);
+        self.use_type(alloc, steps, levels, &start)
+    }
+
+    // The same in memory of its own.
+    #[cycle(resolve)]
+    fn boxed_type(
+        &self,
+        alloc: Global,
+        steps: &mut usize,
+        levels: usize,
+        left: u32,
+        ty: &'a AnnotatedType,
+    ) -> Result<Box<IdlType>, AllocError>
+        ensures { IfOk result (λ t. type_term t.value ≡ own_meaning (plain_definitions self.now) left (annotated_of ty.now)) }
+    {
+        let value = self.annotated_type(alloc, steps, levels, left, ty)?;
+        Ok(Box::new(alloc, value)?)
+    }
+
+    // What the members of a union mean.
+    #[cycle(resolve)]
+    fn member_types(
+        &self,
+        alloc: Global,
+        steps: &mut usize,
+        levels: usize,
+        left: u32,
+        members: &'a [AnnotatedType],
+    ) -> Result<IdlTypes, AllocError>
+        ensures { IfOk result (λ types. packed (type_terms types) ≡ resolved_members (typedef_in (typedefs (plain_definitions self.now)) left) (written_members (plain_definitions self.now) (union_of members.now))) }
+    {
+        let mut types = IdlTypes::new(alloc);
+        for member in members {
+            let ty = self.annotated_type(alloc, steps, levels, left, member)?;
+            types.push(ty)?;
+        }
+        Ok(types)
+    }
+}
+
+// The type that a definition of the kind is, by its number; what is no type stands as `any`.
+fn type_of_kind(kind: Kind, number: u32) -> IdlType
+    ensures { type_term result ≡ without_parts (type_of_kind kind number) }
+{
+    match kind {
+        Kind::Interface => IdlType::Interface(number),
+        Kind::Dictionary => IdlType::Dict(number),
+        Kind::Enumeration => IdlType::Choice(number),
+        Kind::CallbackFunction => IdlType::CallbackFn(number),
+        Kind::CallbackInterface => IdlType::CallbackIface(number),
+        Kind::Typedef | Kind::Mixin | Kind::Namespace | Kind::Includes => IdlType::Any,
+    }
+}
+
+// Counts down by what a step costs.
+fn spend(steps: &mut usize, cost: usize) -> Result<(), AllocError>
+    ensures { OnOk result (steps.new + cost ≡ steps.old) }
+{
+    if *steps < cost {
+        return Err(AllocError);
+    }
+    *steps -= cost;
+    Ok(())
+}
+
+// What it costs to look at a form: 1, and the length of its name.
+fn form_size(form: &TypeForm) -> usize {
+    match form {
+        TypeForm::Named(name) => 1 + name.text.len() / NAME_BYTES,
+        _ => 1,
+    }
+}
+
+// A type with so many `?`s behind it.
+fn with_questions(alloc: Global, inner: IdlType, questions: usize) -> Result<IdlType, AllocError>
+    ensures { IfOk result (λ t. type_term t ≡ questioned questions (type_term inner)) }
+{
+    let mut ty = inner;
+    for _question in 0..questions {
+        ty = IdlType::Nullable(Box::new(alloc, ty)?);
+    }
+    Ok(ty)
+}

@@ -1,0 +1,74 @@
+-- Tuples that differ before an index, and the smallest length at which a rule on overloads is broken.
+use Rattle.std.proofs.Common.{◌≡◌, inl, inr, ℕ, ◌+◌, ◌<◌, ◌++◌, Bool, true, false, cond, List, [], ◌∷◌, length, take, get_or, arith, refl, sym, subst, ◌∙◌}
+use Rattle.std.specs.Prelude.{None, Some, MatchBool, Contains, slice_get}
+use Rattle.std.specs.List.{All}
+use Rattle.std.proofs.lemmas.List.Elements.{All-contains, All-append, All-cons, All-nil}
+use Rattle.std.proofs.lemmas.Option.{slice_get_within, get_or_from_slice_get}
+use Rattle.widl_idl.specs.declared.interface.Iface.{Iface}
+use Rattle.widl_overload.specs.declared.tuple.Tuple.{Tuple}
+use Rattle.widl_overload.specs.Index.{IsIndex, has_length, of_one_length, tells_apart, terms_of_length}
+use Rattle.widl_overload.specs.OverloadRules.{DifferEarly}
+use Rattle.widl_overload.specs.OverloadSpots.{AgreeBefore, DifferBefore, DiffersFromOne, TwoDiffer}
+use Rattle.widl_overload.specs.Sets.{TupleTerm, tuple_term}
+use Rattle.widl_overload.proofs.OneLength.{term_listed, terms_more}
+
+pub when_true : (b : Bool) (P Q : Type 0) → b ≡ true → MatchBool b P Q → P
+when_true b P Q e h = subst (λ c. MatchBool c P Q) e h
+
+pub when_false : (b : Bool) (P Q : Type 0) → b ≡ false → MatchBool b P Q → Q
+when_false b P Q e h = subst (λ c. MatchBool c P Q) e h
+
+no_first : (tuples : List TupleTerm) (t : TupleTerm) → None ≡ slice_get tuples 0 → Contains tuples t → ⊥
+no_first [] t e c = omega (arith, c.1)
+no_first (u ∷ tuples) t e c = cc
+
+-- where there is no first tuple no two differ
+pub none_differ : (index : ℕ) (tuples : List TupleTerm) → None ≡ slice_get tuples 0 → TwoDiffer index tuples → ⊥
+none_differ index tuples e d = no_first tuples d.one e d.one_listed
+
+first_listed : (tuples : List TupleTerm) (t : TupleTerm) → Some t ≡ slice_get tuples 0 → Contains tuples t
+first_listed tuples t e = (0, slice_get_within tuples 0 t (sym e), get_or_from_slice_get tuples 0 t t (sym e))
+
+agreeing : (index : ℕ) (first t u : TupleTerm) → AgreeBefore index first t → AgreeBefore index first u → DifferBefore index t u → ⊥
+agreeing index first t u a b d = elim d.differ [
+  | inl types ↦ types (sym (a d.place d.early).types ∙ (b d.place d.early).types)
+  | inr opts ↦ opts (sym (a d.place d.early).opts ∙ (b d.place d.early).opts)
+]
+
+-- two tuples differ exactly where one differs from the first
+pub differ_by_first : (index : ℕ) (tuples : List TupleTerm) (first : TupleTerm) (b : Bool) → Some first ≡ slice_get tuples 0 → MatchBool b (DiffersFromOne index first tuples) (All (AgreeBefore index first) tuples) → MatchBool b (TwoDiffer index tuples) (TwoDiffer index tuples → ⊥)
+differ_by_first index tuples first true e d = record { one = first; other = d.other; one_listed = first_listed tuples first e; other_listed = d.listed; differ = d.differ }
+differ_by_first index tuples first false e all = λ d. agreeing index first d.one d.other (All-contains (AgreeBefore index first) tuples d.one all d.one_listed) (All-contains (AgreeBefore index first) tuples d.other all d.other_listed) d.differ
+
+one_agrees : (index : ℕ) (first t : TupleTerm) (tuples : List TupleTerm) (b : Bool) → (b ≡ true → AgreeBefore index first t) → All (AgreeBefore index first) tuples → All (AgreeBefore index first) (tuples ++ cond b (t ∷ []) [])
+one_agrees index first t tuples true h all = All-append (AgreeBefore index first) tuples (t ∷ []) all (All-cons (AgreeBefore index first) t [] (h refl) (All-nil (AgreeBefore index first)))
+one_agrees index first t tuples false h all = All-append (AgreeBefore index first) tuples [] all (All-nil (AgreeBefore index first))
+
+-- one tuple more, which agrees if it has the length
+pub agree_more : (index m i : ℕ) (first : TupleTerm) (tuples : List Tuple) (t : Tuple) → i < length tuples → t ≡ get_or tuples i t → (has_length m (tuple_term t) ≡ true → AgreeBefore index first (tuple_term t)) → All (AgreeBefore index first) (terms_of_length m (take i tuples)) → All (AgreeBefore index first) (terms_of_length m (take (i + 1) tuples))
+agree_more index m i first tuples t below is h all = subst (All (AgreeBefore index first)) (sym (terms_more tuples m i t below is)) (one_agrees index first (tuple_term t) (terms_of_length m (take i tuples)) (has_length m (tuple_term t)) h all)
+
+-- one that differs
+pub differs_here : (index m i : ℕ) (first : TupleTerm) (tuples : List Tuple) (t : Tuple) → i < length tuples → t ≡ get_or tuples i t → has_length m (tuple_term t) ≡ true → DifferBefore index first (tuple_term t) → DiffersFromOne index first (terms_of_length m tuples)
+differs_here index m i first tuples t below is has d = record { other = tuple_term t; listed = term_listed tuples m i t below is has; differ = d }
+
+module _ (ifaces : List Iface) (tuples : List TupleTerm) (m : ℕ) where
+  not_both : (b : Bool) → b ≡ true → b ≡ false → ⊥
+  not_both b e f = cc
+
+  one_index : (i j : ℕ) → IsIndex ifaces tuples m i → IsIndex ifaces tuples m j → i ≡ j
+  one_index i j a b =
+      let not_below : i < j → ⊥ = λ l. not_both (tells_apart ifaces tuples m i) a.tells (b.lowest i l) in
+      let not_above : j < i → ⊥ = λ l. not_both (tells_apart ifaces tuples m j) b.tells (a.lowest j l) in
+      omega (arith, not_below, not_above)
+
+  early_of : (index : ℕ) → IsIndex ifaces tuples m index → TwoDiffer index (of_one_length m tuples) → DifferEarly ifaces tuples m
+  early_of index is d = record { index = index; is_index = is; place = d.differ.place; early = d.differ.early; one = d.one; other = d.other; one_listed = d.one_listed; other_listed = d.other_listed; differ = d.differ.differ }
+
+  early_at : (index : ℕ) → IsIndex ifaces tuples m index → DifferEarly ifaces tuples m → TwoDiffer index (of_one_length m tuples)
+  early_at index is d = record { one = d.one; other = d.other; one_listed = d.one_listed; other_listed = d.other_listed; differ = record { place = d.place; early = subst (λ n. d.place < n) (one_index d.index index d.is_index is) d.early; differ = d.differ } }
+
+  -- where there is an index tuples of the length differ early exactly where two differ before it
+  pub early_by_index : (index : ℕ) (b : Bool) → IsIndex ifaces tuples m index → MatchBool b (TwoDiffer index (of_one_length m tuples)) (TwoDiffer index (of_one_length m tuples) → ⊥) → MatchBool b (DifferEarly ifaces tuples m) (DifferEarly ifaces tuples m → ⊥)
+  early_by_index index true is d = early_of index is d
+  early_by_index index false is none = λ d. none (early_at index is d)

@@ -1,0 +1,19 @@
+use Rattle.widl_overload.specs.OverloadRules.{DifferEarly, LacksIndex}
+use Rattle.widl_overload.specs.Sets.{tuples_in}
+use Rattle.widl_overload.proofs.OnlySpots.{callee_spot}
+use Rattle.widl_overload.proofs.SpotSteps.{none_alike_beyond, none_early_beyond, spots_of_few}
+use Rattle.widl_overload.proofs.overload_rules.spots_of_overloads.Goals as goal
+
+pub returns-then-sigs-lt2 : goal.returns-then-sigs-lt2
+returns-then-sigs-lt2 c = spots_of_few c.args.defs.now.ifaces c.args.sigs.now c.none.result c.if-sigs-lt2.true c.none.ensures
+
+pub returns : goal.returns
+returns c =
+    let ifaces = c.args.defs.now.ifaces in
+    let sigs = c.args.sigs.now in
+    let tuples = tuples_in c.in_ok-set.set in
+    let most = c.longest_list-most.result in
+    record {
+      alike = callee_spot (LacksIndex ifaces) sigs tuples most c.smallest_alike-alike.result c.at_names.result c.in_ok-set.ensures (λ m. none_alike_beyond ifaces sigs most m c.longest_list-most.ensures.is) c.smallest_alike-alike.ensures c.at_names.ensures;
+      early = callee_spot (DifferEarly ifaces) sigs tuples most c.smallest_early-early.result c.at_names-2.result c.in_ok-set.ensures (λ m. none_early_beyond ifaces sigs most m c.longest_list-most.ensures.is) c.smallest_early-early.ensures c.at_names-2.ensures;
+    }

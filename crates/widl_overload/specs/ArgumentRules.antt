@@ -1,0 +1,64 @@
+-- The rules of validity on lists of arguments, each as one predicate.
+-- Source: Web IDL, "Operations" and "arguments".
+use Rattle.std.specs.Prelude.{◌≡◌, ℕ, Bool, true, false, List, [], ◌∷◌, length, flat_map, Option, bytes_eq}
+use Rattle.std.specs.Option.{option_to_list}
+use Rattle.std.specs.List.{list_any}
+use Rattle.widl_idl.specs.declared.spot.Spot.{Spot}
+use Rattle.widl_idl.specs.Least.{AtOne, Somewhere}
+use Rattle.widl_idl.specs.MergingRules.{IsAt}
+use Rattle.widl_idl.specs.PlainTrees.{PlainArgument, PlainArgumentKind, RequiredArgument, OptionalArgument, VariadicArgument, PlainMember, PlainMemberKind, OperationMember, ConstructorMember, AsyncIterableMember, PlainDefinition, PlainKind, CallbackFunctionDefinition, CallbackInterfaceDefinition, InterfaceDefinition, MixinDefinition, NamespaceDefinition}
+
+-- the list of arguments of a member, if it has one
+abbrev pub lists_in_member : PlainMemberKind → List (List PlainArgument)
+lists_in_member (OperationMember o) = o.arguments ∷ []
+lists_in_member (ConstructorMember c) = c.arguments ∷ []
+lists_in_member (AsyncIterableMember i) = option_to_list i.arguments
+lists_in_member kind = []
+
+abbrev pub lists_in_members : List PlainMember → List (List PlainArgument)
+lists_in_members members = flat_map (λ (m : PlainMember). lists_in_member m.kind) members
+
+abbrev pub lists_in_definition : PlainKind → List (List PlainArgument)
+lists_in_definition (CallbackFunctionDefinition c) = c.arguments ∷ []
+lists_in_definition (CallbackInterfaceDefinition c) = lists_in_members c.members
+lists_in_definition (InterfaceDefinition i) = lists_in_members i.members
+lists_in_definition (MixinDefinition m) = lists_in_members m.members
+lists_in_definition (NamespaceDefinition n) = lists_in_members n.members
+lists_in_definition kind = []
+
+-- all lists of arguments that are written in these definitions
+abbrev pub argument_lists_of : List PlainDefinition → List (List PlainArgument)
+argument_lists_of definitions = flat_map (λ (d : PlainDefinition). lists_in_definition d.kind) definitions
+
+-- an earlier argument has the name: at the name
+abbrev pub RepeatsArgument : List PlainArgument → PlainArgument → Spot → Type 0
+RepeatsArgument before a s = (list_any (λ (b : PlainArgument). bytes_eq b.name.text a.name.text) before ≡ true) × IsAt a.name.at s
+
+-- the ellipsis of an argument, if it has one
+abbrev pub AtEllipsis : PlainArgumentKind → Spot → Type 0
+AtEllipsis (VariadicArgument ellipsis) s = IsAt ellipsis s
+AtEllipsis kind s = ⊥
+
+-- an argument follows one with an ellipsis: at the ellipsis
+abbrev pub FollowsEllipsis : List PlainArgument → PlainArgument → Spot → Type 0
+FollowsEllipsis before a s = Somewhere (λ (b : PlainArgument). AtEllipsis b.kind) before s
+
+abbrev pub is_required : PlainArgumentKind → Bool
+is_required RequiredArgument = true
+is_required kind = false
+
+abbrev pub is_optional : PlainArgumentKind → Bool
+is_optional (OptionalArgument default) = true
+is_optional kind = false
+
+-- a required argument follows an optional one: at its name
+abbrev pub FollowsOptional : List PlainArgument → PlainArgument → Spot → Type 0
+FollowsOptional before a s = ((is_required a.kind ≡ true) × (list_any (λ (b : PlainArgument). is_optional b.kind) before ≡ true)) × IsAt a.name.at s
+
+-- 64 arguments stand before this one: at its name
+abbrev pub IsArgument65 : List PlainArgument → PlainArgument → Spot → Type 0
+IsArgument65 before a s = (length before ≡ 64) × IsAt a.name.at s
+
+-- in one of the lists an argument breaks the rule
+abbrev pub InOneList : (List PlainArgument → PlainArgument → Spot → Type 0) → List PlainDefinition → Spot → Type 0
+InOneList Breaks definitions s = Somewhere (AtOne Breaks) (argument_lists_of definitions) s

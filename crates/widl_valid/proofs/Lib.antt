@@ -1,0 +1,27 @@
+pub mod ResolvedUses
+pub mod ListedUses
+pub mod MappedLoops
+pub mod RepeatedTexts
+pub mod ArgumentPlaces
+pub mod DefinitionPlaces
+pub mod NamedSpots
+pub mod Repetitions
+pub mod Counted
+pub mod Returned
+pub mod SecondStringifiers
+pub mod OwnerSpots
+pub mod JoinedRules
+mod AlikeKinds
+mod AlikePairs
+mod AnyPair
+mod Closing
+mod NestedSpans
+mod Opening
+mod PairCounts
+mod TouchingSpans
+pub mod FlatMembers
+pub mod EarliestNotes
+pub mod TypedefNotes
+pub mod RangeEnds
+pub mod SameSets
+pub mod Valid

@@ -1,0 +1,117 @@
+-- The annotations of the typedefs that a type leads to.
+use Rattle.std.proofs.Common.{◌≡◌, ℕ, ◌-◌, ◌<◌, ◌++◌, false, List, [], map, zero, suc, Option, None, Some, option_map, slice_get, arith, refl, sym, ap, subst, ◌∙◌, Bor}
+use Rattle.std.specs.Prelude.{option_and_then}
+use Rattle.std.proofs.lemmas.List.{append_assoc, append-nil}
+use Rattle.std.proofs.lemmas.List.Elements.{filter_map-append}
+use Rattle.widl_text.specs.declared.place.Place.{Place}
+use Rattle.widl_idl.specs.declared.kind.Kind.{Kind}
+use Rattle.widl_idl.specs.declared.kind.Kind.TheVariants as kinds
+use Rattle.widl_idl.specs.declared.tree.types.AnnotatedType.{AnnotatedType}
+use Rattle.widl_idl.specs.declared.tree.types.Container.{Container}
+use Rattle.widl_idl.specs.declared.tree.types.Container.TheVariants as container
+use Rattle.widl_idl.specs.Meanings.{kind_of, meaning, meant, meant_kind, same_kind}
+use Rattle.widl_idl.specs.PlainTrees.{PlainDefinition, PlainKind, PlainTypedef, TypedefDefinition}
+use Rattle.widl_idl.specs.PlainTypes.{PlainAttribute, PlainForm, PlainType, PlainAnnotated, PlainName, PlainNamed, PlainContainer, PlainRecord, plain_type, plain_annotated, annotated_of, attribute_of, form_term}
+use Rattle.widl_idl.specs.Resolution.{Note, WrittenType, TypedefName, NullableOf}
+use Rattle.widl_idl.specs.WrittenTypes.{container_of, note_of, notes_of, nullable_if, type_of_kind, type_of_meaning, typedef_in_tree, typedefs, written_form, written_type}
+use Rattle.widl_names.specs.TypeUses.{notes_in as own_notes, type_in, typedef_of_form, typedef_type}
+use Rattle.widl_names.proofs.KindNumbers.{typedef_numbered}
+use Rattle.widl_overload.specs.TypeRules.{notes_behind, notes_in, notes_of_typedef}
+use Rattle.widl_valid.specs.declared.range_annotations.RangeAnnotations.{RangeAnnotations}
+use Rattle.widl_valid.specs.EarliestNotes.{AreEarliest, Gathered, notes_from}
+
+some_is : {A : Type 0} {a b : A} → Some a ≡ Some b → a ≡ b
+some_is e = (cc)
+
+-- where no level is left nothing is gathered
+pub none_at_zero : (definitions : List PlainDefinition) (w : WrittenType) → notes_in (notes_behind (typedefs definitions) zero) w ≡ []
+none_at_zero definitions (TypedefName n) = refl
+none_at_zero definitions (NullableOf t) = none_at_zero definitions t
+none_at_zero definitions w = refl
+
+-- a `?` changes nothing
+pub notes_under : (inner : ℕ → List Note) (question : Option Place) (w : WrittenType) → notes_in inner (nullable_if question w) ≡ notes_in inner w
+notes_under inner None w = refl
+notes_under inner (Some p) w = refl
+
+module _ (definitions : List PlainDefinition) (levels : ℕ) where
+  abbrev inner : ℕ → List Note
+  inner = notes_behind (typedefs definitions) levels
+
+  of_kind : (kind : Kind) (n : ℕ) → same_kind kinds.Typedef kind ≡ false → notes_in inner (type_of_kind kind n) ≡ []
+  of_kind kinds.Typedef n other = absurd (cc)
+  of_kind kind n other = refl
+
+  not_typedef : (kind : PlainKind) → typedef_type (Some kind) ≡ None → same_kind kinds.Typedef (kind_of kind) ≡ false
+  not_typedef (TypedefDefinition t) e = absurd (cc)
+  not_typedef kind e = refl
+
+  of_meaning : (number : Option ℕ) (kind : Option PlainKind) → typedef_type kind ≡ None → notes_in inner (type_of_meaning definitions number (option_map kind_of kind)) ≡ []
+  of_meaning None kind none = refl
+  of_meaning (Some n) None none = refl
+  of_meaning (Some n) (Some kind) none = of_kind (kind_of kind) _ (not_typedef kind none)
+
+  of_container : (kind : Container) (notes : List Note) (w : WrittenType) → notes_in inner (container_of kind notes w) ≡ []
+  of_container container.Sequence notes w = refl
+  of_container kind notes w = refl
+
+  -- a form that names no typedef leads to no annotations
+  pub no_notes : (form : PlainForm) → typedef_of_form definitions form ≡ None → notes_from definitions levels form ≡ []
+  no_notes (PlainNamed name) none = of_meaning (meaning definitions name.text) (meant definitions name.text) none
+  no_notes (PlainContainer kind (plain_annotated at attributes t)) none = of_container kind (notes_of attributes) (written_type definitions t)
+  no_notes (PlainRecord key (plain_annotated at attributes t)) none = refl
+  no_notes form none = refl
+
+module _ (definitions : List PlainDefinition) (levels : ℕ) where
+  meant_at : (text : List ℕ) (kind : PlainKind) → meant definitions text ≡ Some kind → (y : ℕ) × (meaning definitions text ≡ Some y) × (option_map (λ (d : PlainDefinition). d.kind) (slice_get definitions y) ≡ Some kind)
+  meant_at text kind e = by_number (meaning definitions text) e
+    where
+      by_number : (m : Option ℕ) → option_map (λ (d : PlainDefinition). d.kind) (option_and_then (slice_get definitions) m) ≡ Some kind → (y : ℕ) × (m ≡ Some y) × (option_map (λ (d : PlainDefinition). d.kind) (slice_get definitions y) ≡ Some kind)
+      by_number None h = absurd (cc)
+      by_number (Some y) h = (y, refl, h)
+
+  typedef_of : (kind : Option PlainKind) (ty : PlainAnnotated) → typedef_type kind ≡ Some ty → (t : PlainTypedef) × (kind ≡ Some (TypedefDefinition t)) × (t.ty ≡ ty)
+  typedef_of (Some (TypedefDefinition t)) ty e = (t, refl, some_is e)
+  typedef_of kind ty e = absurd (cc)
+
+  in_tree : (f : ℕ → List Note) (a : PlainAnnotated) → notes_of_typedef f (Some (typedef_in_tree definitions a)) ≡ own_notes a ++ notes_in f (written_type definitions (type_in a))
+  in_tree f (plain_annotated at attributes t) = refl
+
+  -- the name of a typedef leads to its annotations, and to those behind it
+  named_notes : (name : PlainName) (ty : PlainAnnotated) → typedef_type (meant definitions name.text) ≡ Some ty → notes_from definitions (suc levels) (PlainNamed name) ≡ own_notes ty ++ notes_in (notes_behind (typedefs definitions) levels) (written_type definitions (type_in ty))
+  named_notes name ty is =
+      let t = typedef_of (meant definitions name.text) ty is in
+      let a = meant_at name.text (TypedefDefinition t.0) t.1 in
+      let f : ℕ → List Note = notes_behind (typedefs definitions) levels in
+      ap (λ m. notes_in (notes_behind (typedefs definitions) (suc levels)) (type_of_meaning definitions m (meant_kind definitions name.text))) a.1
+      ∙ ap (λ k. notes_in (notes_behind (typedefs definitions) (suc levels)) (type_of_meaning definitions (Some a.0) (option_map kind_of k))) t.1
+      ∙ ap (notes_of_typedef f) (typedef_numbered definitions a.0 t.0 a.2)
+      ∙ in_tree f t.0.ty
+      ∙ ap (λ a. own_notes a ++ notes_in f (written_type definitions (type_in a))) t.2
+
+  pub typed_notes : (form : PlainForm) (ty : PlainAnnotated) → typedef_of_form definitions form ≡ Some ty → notes_from definitions (suc levels) form ≡ own_notes ty ++ notes_in (notes_behind (typedefs definitions) levels) (written_type definitions (type_in ty))
+  typed_notes (PlainNamed name) ty is = named_notes name ty is
+  typed_notes form ty is = absurd (cc)
+
+-- nothing is gathered yet
+pub gathered_start : (whole : List Note) (said : RangeAnnotations) → AreEarliest said [] → Gathered whole said whole
+gathered_start whole said none = record { seen = []; earliest = none; parts = refl }
+
+-- one typedef more
+pub gathered_more : (whole rest left more : List Note) (said own both : RangeAnnotations) → Gathered whole said rest → rest ≡ more ++ left → AreEarliest own more → ((notes more : List Note) → AreEarliest said notes → AreEarliest own more → AreEarliest both (notes ++ more)) → Gathered whole both left
+gathered_more whole rest left more said own both g is earliest joined = record {
+  seen = g.seen ++ more;
+  earliest = joined g.seen more g.earliest earliest;
+  parts = g.parts ∙ ap (λ l. g.seen ++ l) is ∙ sym (append_assoc g.seen more left);
+}
+
+-- all are gathered
+pub gathered_all : (whole rest : List Note) (said : RangeAnnotations) → Gathered whole said rest → rest ≡ [] → AreEarliest said whole
+gathered_all whole rest said g none = subst (AreEarliest said) (sym (g.parts ∙ ap (λ l. g.seen ++ l) none ∙ append-nil g.seen)) g.earliest
+
+-- the annotations of a type
+pub whole_notes : (definitions : List PlainDefinition) (levels : ℕ) (outer own : List PlainAttribute) (t : PlainType) (form : PlainForm) (at : Place) (question : Option Place) → t ≡ plain_type at form question
+    → (notes_of outer ++ notes_of own) ++ notes_from definitions levels form ≡ notes_of (outer ++ own) ++ notes_in (notes_behind (typedefs definitions) levels) (written_type definitions t)
+whole_notes definitions levels outer own t form at question is =
+    ap (λ l. l ++ notes_from definitions levels form) (sym (filter_map-append note_of outer own))
+    ∙ ap (λ l. notes_of (outer ++ own) ++ l) (sym (notes_under (notes_behind (typedefs definitions) levels) question (written_form definitions form)) ∙ ap (λ u. notes_in (notes_behind (typedefs definitions) levels) (written_type definitions u)) (sym is))

@@ -1,0 +1,7 @@
+use Rattle.std.proofs.Common.{take}
+use Rattle.widl_valid.specs.MemberTables.{listed_members, overload_count}
+use Rattle.widl_valid.proofs.Counted.{Counted}
+use Rattle.widl_valid.proofs.overload_counts.first_overload_past_limit.Given as goal
+
+abbrev pub invariant-loop-member : goal.invariant-loop-member
+invariant-loop-member l = Counted (overload_count l.counts.operations.regular l.counts.operations.fixed) l.counts.constructors (listed_members (take l.member-index l.members)) l.best

@@ -1,0 +1,11 @@
+use Rattle.std.proofs.Common.{◌≡◌, take, false}
+use Rattle.widl_valid.specs.AlikePairs.{any_pair}
+use Rattle.widl_valid.specs.Lineages.{begins_within}
+use Rattle.widl_valid.proofs.TouchingSpans.{Reaches}
+use Rattle.widl_valid.proofs.related_interfaces.any_begins_within.Given as goal
+
+abbrev pub invariant-loop-place : goal.invariant-loop-place
+invariant-loop-place l = record {
+  none : any_pair begins_within (take l.place l.spans) ≡ false;
+  reaches : Reaches l.reach (take l.place l.spans);
+}

@@ -1,0 +1,14 @@
+pub mod UsesListed
+pub mod WrittenLists
+pub mod KnownTexts
+pub mod MemberTables
+pub mod Owners
+pub mod Invalidity
+pub mod TypeRuleList
+pub mod Misplaced
+pub mod AlikeKinds
+pub mod AlikePairs
+pub mod Lineages
+pub mod MemberRuleList
+pub mod EarliestNotes
+pub mod RangeEnds

@@ -1,0 +1,81 @@
+-- What the rules on the members of one owner keep of the members that stand before.
+use Rattle.std.specs.Prelude.{ℕ, Bool, true, false, ◌&&◌, ◌||◌, not, nat_eq, List, map, Option, None, Some, if◌then◌else◌, bytes_eq, unwrap_or}
+use Rattle.std.specs.Borrow.{Bor}
+use Rattle.indexmap.specs.IndexMap.{IndexMap, get_by}
+use Rattle.indexmap.specs.IndexSet.{IndexSet, contains_by}
+use Rattle.widl_text.specs.declared.place.Place.{Place}
+use Rattle.widl_idl.specs.declared.spot.Spot.{Spot}
+use Rattle.widl_idl.specs.declared.tree.members.Member.{Member}
+use Rattle.widl_idl.specs.Least.{spot_at}
+use Rattle.widl_idl.specs.MergedMembers.{operation_text}
+use Rattle.widl_idl.specs.MergingRules.{both_or_none, is_static}
+use Rattle.widl_idl.specs.PlainTypes.{PlainName}
+use Rattle.widl_idl.specs.PlainTrees.{PlainDefinition, PlainOperation, PlainMember, PlainMemberKind, ConstructorMember, OperationMember, member_of}
+use Rattle.widl_overload.specs.MemberRules.{returns_promise}
+
+-- members as definitions see them
+abbrev pub listed_members : List (Bor Member) → List PlainMember
+listed_members members = map (λ m. member_of m.now) members
+
+-- the place of a name whose text passes the test
+abbrev pub spot_of_name : Option PlainName → (List ℕ → Bool) → Option Spot
+spot_of_name None test = None
+spot_of_name (Some name) test = if test name.text then Some (spot_at name.at) else None
+
+-- whether a set has a text
+abbrev pub has_text : {S : Type 0} → IndexSet (Bor (List ℕ)) S → List ℕ → Bool
+has_text set text = contains_by (λ k. bytes_eq text k.now) set
+
+-- whether a member, an operation or not, may not have a name, where operations and others have these names
+abbrev pub clashes : {S : Type 0} → IndexSet (Bor (List ℕ)) S → IndexSet (Bor (List ℕ)) S → List ℕ → Bool → Bool
+clashes operations others text operation = if operation then has_text others text else (has_text others text || has_text operations text)
+
+-- whether an operation has this name, empty where it has none, and is static or not
+abbrev pub has_overload : List ℕ → Bool → PlainOperation → Bool
+has_overload text static o = bytes_eq text (operation_text o.name) && both_or_none static (is_static o.kind)
+
+-- whether a name is known, of a static operation or of another
+abbrev pub has_name : {S : Type 0} → IndexSet (Bor (List ℕ)) S → IndexSet (Bor (List ℕ)) S → List ℕ → Bool → Bool
+has_name regular fixed text static = if static then has_text fixed text else has_text regular text
+
+-- the count that is kept for a text
+abbrev pub count_in : {S : Type 0} → IndexMap (Bor (List ℕ)) ℕ S → List ℕ → ℕ
+count_in counts text = unwrap_or (get_by (λ k. bytes_eq text k.now) counts) 0
+
+-- the count that is kept for the operations of a name, static or not
+abbrev pub overload_count : {S : Type 0} → IndexMap (Bor (List ℕ)) ℕ S → IndexMap (Bor (List ℕ)) ℕ S → List ℕ → Bool → ℕ
+overload_count regular fixed text static = if static then count_in fixed text else count_in regular text
+
+-- whether a member is an operation of this name, static or not
+abbrev pub is_overload : List ℕ → Bool → PlainMemberKind → Bool
+is_overload text static (OperationMember o) = has_overload text static o
+is_overload text static kind = false
+
+abbrev pub is_constructor : PlainMemberKind → Bool
+is_constructor (ConstructorMember c) = true
+is_constructor kind = false
+
+-- the place of a member that follows 64 overloads, by these counts
+abbrev pub spot_past_limit : (List ℕ → Bool → ℕ) → ℕ → PlainMemberKind → Option Spot
+spot_past_limit overloads constructors (OperationMember o) = spot_of_name o.name (λ text. nat_eq (overloads text (is_static o.kind)) 64)
+spot_past_limit overloads constructors (ConstructorMember c) = if nat_eq constructors 64 then Some (spot_at c.at) else None
+spot_past_limit overloads constructors kind = None
+
+-- whether a member is an operation that returns a promise
+abbrev pub gives_promise : List PlainDefinition → PlainMemberKind → Bool
+gives_promise definitions (OperationMember o) = returns_promise definitions o
+gives_promise definitions kind = false
+
+-- whether an operation of this name, static or not, is known that returns a promise, or one that returns none
+abbrev pub has_returned : {S : Type 0} → IndexSet (Bor (List ℕ)) S → IndexSet (Bor (List ℕ)) S → IndexSet (Bor (List ℕ)) S → IndexSet (Bor (List ℕ)) S → List ℕ → Bool → Bool → Bool
+has_returned regular_promises fixed_promises regular_others fixed_others text static promise = if promise then has_name regular_promises fixed_promises text static else has_name regular_others fixed_others text static
+
+-- the place of the name of an operation that returns a promise, or none, where all that are known of its name don't
+abbrev pub spot_of_other : (List ℕ → Bool → Bool → Bool) → Bool → PlainMemberKind → Option Spot
+spot_of_other known promise (OperationMember o) = spot_of_name o.name (λ text. known text (is_static o.kind) (not promise) && not (known text (is_static o.kind) promise))
+spot_of_other known promise kind = None
+
+-- the spot at a place, where there is one and something stands before
+abbrev pub spot_behind : Bool → Option Place → Option Spot
+spot_behind seen None = None
+spot_behind seen (Some place) = if seen then Some (spot_at place) else None

@@ -1,0 +1,28 @@
+-- The rules that read a type by itself, and what is sought among the types that a type is flattened to.
+use Rattle.std.specs.Prelude.{Bool}
+use Rattle.widl_idl.specs.declared.spot.Spot.{Spot}
+use Rattle.widl_idl.specs.Terms.{TypeTerm}
+use Rattle.widl_overload.specs.Distinct.{is_dictionary}
+use Rattle.widl_overload.specs.TypeRules.{HasMisplacedAnnotation, HaveNullableAndDictionary, HaveSeveralNullable, IsAnnotatedMember, IsCopiedAttribute, IsNullableDictionary, IsOtherConstantType, IsUndefinedInside, IsWronglyNullable, OfUnion, is_copied}
+use Rattle.widl_valid.specs.declared.sought.Sought.{Sought}
+use Rattle.widl_valid.specs.declared.sought.Sought.TheVariants as sought
+use Rattle.widl_valid.specs.declared.type_rules.TypeRule.{TypeRule}
+use Rattle.widl_valid.specs.declared.type_rules.TypeRule.TheVariants as rule
+use Rattle.widl_valid.specs.UsesListed.{UseTerm}
+
+-- a type, with what it means, breaks the rule
+abbrev pub BreaksTypeRule : TypeRule → UseTerm → Spot → Type 0
+BreaksTypeRule rule.OtherConstantType r s = IsOtherConstantType r.meaning r.written s
+BreaksTypeRule rule.CopiedAttribute r s = IsCopiedAttribute r.meaning r.written s
+BreaksTypeRule rule.UndefinedInside r s = IsUndefinedInside r.written s
+BreaksTypeRule rule.WronglyNullable r s = IsWronglyNullable r.meaning r.written s
+BreaksTypeRule rule.SeveralNullable r s = OfUnion HaveSeveralNullable r.meaning r.written s
+BreaksTypeRule rule.NullableBesideDictionary r s = OfUnion HaveNullableAndDictionary r.meaning r.written s
+BreaksTypeRule rule.AnnotatedMember r s = IsAnnotatedMember r.meaning r.written s
+BreaksTypeRule rule.NullableDictionary r s = IsNullableDictionary r.meaning r.written s
+BreaksTypeRule rule.MisplacedAnnotation r s = HasMisplacedAnnotation r.meaning r.written s
+
+-- whether a type is what is sought
+unfoldable pub is_sought : Sought → TypeTerm → Bool
+is_sought sought.Dictionary = is_dictionary
+is_sought sought.Copied = is_copied

@@ -1,0 +1,194 @@
+//! The rule that a type doesn't have `[Clamp]` and `[EnforceRange]` both, its own and those of the typedefs
+//! that it leads to.
+//!
+//! A chain of typedefs whose types are names of typedefs is as long as a file allows. What stands on it is
+//! kept for each typedef, so following it is one look-up. Only where fewer typedefs may still be followed
+//! than the chain has is it followed by one at a time; so `steps` counts down here too.
+
+ghost use Rattle.std.specs.Prelude.{◌≡◌, ◌<◌, ◌+◌, IfOk, OnOk, length, map};
+ghost use Rattle.widl_idl.specs.declared.kind.Kind.TheVariants as kinds;
+ghost use Rattle.widl_idl.specs.Least.{LeastWhere, Somewhere};
+ghost use Rattle.widl_idl.specs.Meanings.{kind_of, same_kind};
+ghost use Rattle.widl_idl.specs.PlainTrees.{definition_kind_of, plain_definitions};
+ghost use Rattle.widl_idl.specs.PlainTypes.{form_term};
+ghost use Rattle.widl_idl.specs.WrittenTypes.{typedefs};
+ghost use Rattle.widl_names.specs.TypeUses.{typedef_at};
+ghost use Rattle.widl_overload.specs.TypeRules.{HasClampAndEnforceRange};
+ghost use Rattle.widl_valid.specs.EarliestNotes.{AreEarliest, notes_from};
+ghost use Rattle.widl_valid.specs.RangeEnds.{AreEnds, IsNext, Leads};
+ghost use Rattle.widl_valid.specs.UsesListed.{UseTerm, resolved_use};
+
+use crate::range_annotations::RangeAnnotations;
+use crate::range_ends::{RangeEnd, kept_end, range_ends};
+use crate::resolved_uses::ResolvedUse;
+use std::alloc::{AllocError, Global};
+use widl_idl::tree::{DefinitionKind, TypeForm, WrittenType};
+use widl_idl::{Spot, lesser_spot};
+use widl_names::{Meanings, number_named, typedef_at};
+
+/// The least place at which a type has `[Clamp]` and `[EnforceRange]`, which is the name that stands
+/// later.
+///
+/// `steps` counts down with each end of a chain of typedefs that is looked up, each byte of a name that
+/// stands there and each extended attribute that is read again.
+///
+/// # Errors
+///
+/// `AllocError` where there is no memory, also where there are no more steps.
+pub fn first_clamp_and_enforce<'a>(
+    alloc: Global,
+    meanings: &Meanings<'_, 'a>,
+    steps: &mut usize,
+    uses: &[ResolvedUse<'a>],
+) -> Result<Option<Spot>, AllocError>
+    ensures { IfOk result (λ found. LeastWhere (Somewhere (λ (r : UseTerm). HasClampAndEnforceRange (plain_definitions meanings.now) r.written) (map resolved_use uses.now)) found) }
+{
+    let ends = range_ends(alloc, meanings)?;
+    let levels = count_typedefs(meanings);
+    let mut best = None;
+    for ty in uses {
+        let found = clamp_and_enforce(meanings, ends.as_slice(), steps, levels, ty)?;
+        best = lesser_spot(best, found);
+    }
+    Ok(best)
+}
+
+// The least place at which this type has both, where there are so many typedefs that it may lead to.
+fn clamp_and_enforce<'a>(
+    meanings: &Meanings<'_, 'a>,
+    ends: &[Option<RangeEnd<'a>>],
+    steps: &mut usize,
+    levels: usize,
+    ty: &ResolvedUse<'a>,
+) -> Result<Option<Spot>, AllocError>
+    requires ends { AreEnds (plain_definitions meanings.now) ends.now }
+    requires levels { levels ≡ length (typedefs (plain_definitions meanings.now)) }
+    ensures { IfOk result (λ found. LeastWhere (HasClampAndEnforceRange (plain_definitions meanings.now) (resolved_use ty.now).written) found) }
+{
+    let outer = RangeAnnotations::of(ty.written.outer);
+    let own = RangeAnnotations::of(ty.written.own);
+    let behind = annotations_behind(meanings, ends, steps, levels, ty.written.ty)?;
+    Ok(outer.followed_by(own).followed_by(behind).later())
+}
+
+// How many typedefs there are.
+fn count_typedefs(meanings: &Meanings<'_, '_>) -> usize
+    ensures { result ≡ length (typedefs (plain_definitions meanings.now)) }
+{
+    let mut count = 0;
+    let definitions = meanings.all();
+    for definition in definitions {
+        if is_typedef(&definition.kind) {
+            count += 1;
+        }
+    }
+    count
+}
+
+fn is_typedef(definition: &DefinitionKind) -> bool
+    ensures { result ≡ same_kind kinds.Typedef (kind_of (definition_kind_of definition.now)) }
+{
+    matches!(definition, DefinitionKind::Typedef(_))
+}
+
+// The annotations of the typedefs that a type leads to, of which so many may be followed.
+fn annotations_behind<'a>(
+    meanings: &Meanings<'_, 'a>,
+    ends: &[Option<RangeEnd<'a>>],
+    steps: &mut usize,
+    levels: usize,
+    ty: &'a WrittenType,
+) -> Result<RangeAnnotations, AllocError>
+    requires { AreEnds (plain_definitions meanings.now) ends.now }
+    ensures { IfOk result (λ said. AreEarliest said (notes_from (plain_definitions meanings.now) levels (form_term ty.now.form))) }
+{
+    let mut said = RangeAnnotations::none();
+    let mut form = &ty.form;
+    let mut left = levels;
+    while let Some(next) = next_end(meanings, ends, steps, left, form)? {
+        spend(steps, form_size(next.form))?;
+        said = said.followed_by(next.said);
+        form = next.form;
+        left -= next.passed + 1;
+    }
+    Ok(said)
+}
+
+// The end of the chain of the typedef that a form names, where so many may still be followed.
+fn next_end<'a>(
+    meanings: &Meanings<'_, 'a>,
+    ends: &[Option<RangeEnd<'a>>],
+    steps: &mut usize,
+    left: usize,
+    form: &TypeForm,
+) -> Result<Option<RangeEnd<'a>>, AllocError>
+    requires { AreEnds (plain_definitions meanings.now) ends.now }
+    ensures { IfOk result (λ found. Leads (plain_definitions meanings.now) left (form_term form.now) found) }
+{
+    if left == 0 {
+        return Ok(None);
+    }
+    match number_named(meanings, form) {
+        None => Ok(None),
+        Some(number) => end_within(meanings, ends, steps, left, number),
+    }
+}
+
+// The end of the chain of the definition with this number, if it is a typedef: the kept one, or its type
+// alone where so few typedefs may be followed that the kept one is too far away.
+fn end_within<'a>(
+    meanings: &Meanings<'_, 'a>,
+    ends: &[Option<RangeEnd<'a>>],
+    steps: &mut usize,
+    left: usize,
+    number: usize,
+) -> Result<Option<RangeEnd<'a>>, AllocError>
+    requires ends { AreEnds (plain_definitions meanings.now) ends.now }
+    requires some { 0 < left }
+    ensures { IfOk result (λ found. IsNext (plain_definitions meanings.now) left (typedef_at (plain_definitions meanings.now) number) found) }
+{
+    match kept_end(ends, number) {
+        None => first_end(meanings, steps, number),
+        Some(end) => if end.passed < left {
+            Ok(Some(end))
+        } else {
+            first_end(meanings, steps, number)
+        },
+    }
+}
+
+// The type of the definition with this number as the end of a chain, if it is a typedef.
+fn first_end<'a>(
+    meanings: &Meanings<'_, 'a>,
+    steps: &mut usize,
+    number: usize,
+) -> Result<Option<RangeEnd<'a>>, AllocError>
+    ensures { IfOk result (λ found. IsNext (plain_definitions meanings.now) 1 (typedef_at (plain_definitions meanings.now) number) found) }
+{
+    match typedef_at(meanings, number) {
+        None => Ok(None),
+        Some(ty) => {
+            spend(steps, ty.attributes.len())?;
+            Ok(Some(RangeEnd::of(ty)))
+        }
+    }
+}
+
+// Counts down by what a step costs.
+fn spend(steps: &mut usize, cost: usize) -> Result<(), AllocError>
+    ensures { OnOk result (steps.new + cost ≡ steps.old) }
+{
+    if *steps < cost {
+        return Err(AllocError);
+    }
+    *steps -= cost;
+    Ok(())
+}
+
+// What it costs to look at a form: 1, and the length of its name.
+fn form_size(form: &TypeForm) -> usize {
+    match form {
+        TypeForm::Named(name) => name.text.len().saturating_add(1),
+        _ => 1,
+    }
+}

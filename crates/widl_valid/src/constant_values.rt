@@ -1,0 +1,82 @@
+//! The values of constants: whether one is of its type, and in its range.
+
+ghost use Rattle.std.specs.Prelude.{◌≡◌, IfOk};
+ghost use Rattle.widl_idl.specs.Least.{LeastWhere};
+ghost use Rattle.widl_idl.specs.PlainTrees.{ConstantMember, constant_of, plain_definitions};
+ghost use Rattle.widl_idl.specs.PlainTypes.{value_of};
+ghost use Rattle.widl_idl.specs.Terms.{type_term};
+ghost use Rattle.widl_idl.specs.Things.{MemberThing};
+ghost use Rattle.widl_overload.specs.Ranges.{greatest_value, is_in_range, least_value};
+ghost use Rattle.widl_overload.specs.TypeRules.{HasOtherValue, takes_value};
+
+use std::alloc::{AllocError, Global};
+use widl_idl::tree::{Constant, LiteralValue};
+use widl_idl::{IdlType, IntKind, Spot};
+use widl_names::{Resolver, integer_of};
+
+// The place of a constant's value that is not of its type, or not in its range.
+//
+// Its errors are those of `Resolver::resolve`.
+pub fn other_constant_value<'a>(
+    alloc: Global,
+    resolver: &Resolver<'_, '_, 'a>,
+    steps: &mut usize,
+    constant: &'a Constant,
+) -> Result<Option<Spot>, AllocError>
+    ensures { IfOk result (λ found. LeastWhere (HasOtherValue (plain_definitions resolver.now) (MemberThing (ConstantMember (constant_of constant.now)))) found) }
+{
+    let ty = resolver.resolve_alone(alloc, steps, &constant.ty)?;
+    if takes_value(&ty, &constant.value.value) {
+        Ok(None)
+    } else {
+        Ok(Some(Spot::at(constant.value.at)))
+    }
+}
+
+// Whether a constant of the type may have the value.
+fn takes_value(t: &IdlType, value: &LiteralValue) -> bool
+    ensures { result ≡ takes_value (type_term t.now) (value_of value.now) }
+{
+    match t {
+        IdlType::Boolean => matches!(value, LiteralValue::Boolean(_)),
+        IdlType::Int(kind, _) => match value {
+            LiteralValue::Integer(token) => is_in_range(*kind, integer_of(token.as_bytes())),
+            _ => false,
+        },
+        _ => false,
+    }
+}
+
+// Whether an integer type has the value.
+fn is_in_range(kind: IntKind, value: i128) -> bool
+    ensures { result ≡ is_in_range kind value }
+{
+    least_value(kind) <= value && value <= greatest_value(kind)
+}
+
+fn least_value(kind: IntKind) -> i128
+    ensures { result ≡ least_value kind }
+{
+    match kind {
+        IntKind::Byte => i128::from(i8::MIN),
+        IntKind::Short => i128::from(i16::MIN),
+        IntKind::Long => i128::from(i32::MIN),
+        IntKind::LongLong => i128::from(i64::MIN),
+        IntKind::Octet | IntKind::UShort | IntKind::ULong | IntKind::ULongLong => 0,
+    }
+}
+
+fn greatest_value(kind: IntKind) -> i128
+    ensures { result ≡ greatest_value kind }
+{
+    match kind {
+        IntKind::Byte => i128::from(i8::MAX),
+        IntKind::Octet => i128::from(u8::MAX),
+        IntKind::Short => i128::from(i16::MAX),
+        IntKind::UShort => i128::from(u16::MAX),
+        IntKind::Long => i128::from(i32::MAX),
+        IntKind::ULong => i128::from(u32::MAX),
+        IntKind::LongLong => i128::from(i64::MAX),
+        IntKind::ULongLong => i128::from(u64::MAX),
+    }
+}

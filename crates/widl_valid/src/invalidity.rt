@@ -1,0 +1,85 @@
+//! The joined list of the rules of validity.
+
+ghost use Rattle.std.specs.Prelude.{◌≡◌, [], ◌∷◌, IfOk};
+ghost use Rattle.widl_idl.specs.PlainTrees.{plain_definitions};
+ghost use Rattle.widl_overload.specs.declared.validity_rule.ValidityRule.TheVariants as rule;
+ghost use Rattle.widl_valid.specs.Invalidity.{IsInvalidity, Joins, JoinsOver};
+
+use crate::clamp_rules::first_clamp_and_enforce;
+use crate::joined_inherited::{join_defaults, join_dictionaries, join_iterables, join_overloads};
+use crate::joined_rules::{join_arguments, join_definitions, join_owners, join_things, join_types};
+use crate::owners::find_in_owners;
+use crate::resolved_uses::resolve_uses;
+use crate::union_rules::first_alike_union;
+use std::alloc::{AllocError, Global};
+use widl_idl::{Defs, Merged, Refusal, joined};
+use widl_names::{Meanings, Parts, Resolver, list_definitions, list_things, steps_of};
+use widl_overload::ValidityRule;
+
+/// The least refusal of a set of files by the rules of validity, or none where all of them are kept.
+///
+/// # Errors
+///
+/// `AllocError` where there is no memory, also where resolving the types of the files takes more steps
+/// than [`steps_of`] allows.
+pub fn find_invalid(alloc: Global, merged: &Merged) -> Result<Option<Refusal>, AllocError>
+    ensures { IfOk result (λ refusal. IsInvalidity merged.now refusal) }
+{
+    let fragments = merged.fragments().as_slice();
+    let definitions = list_definitions(alloc, fragments)?;
+    let all = definitions.as_slice();
+    let meanings = Meanings::of(alloc, all)?;
+    let resolver = Resolver::of(alloc, &meanings)?;
+    let parts = Parts::of(alloc, &meanings)?;
+    let mut steps = steps_of(fragments);
+    let defs = merged.defs();
+    let best = join_overloads(alloc, defs, None)?;
+    let best = join_iterables(alloc, &meanings, &parts, best)?;
+    let best = join_dictionaries(alloc, defs, best)?;
+    let best = join_defaults(alloc, defs, &meanings, &resolver, &mut steps, best)?;
+    let best = join_members(alloc, &meanings, &parts, &resolver, &mut steps, best)?;
+    let best = join_uses(alloc, defs, &meanings, &resolver, &mut steps, best)?;
+    let best = join_arguments(alloc, all, best)?;
+    join_definitions(alloc, all, best)
+}
+
+// The rules on members.
+fn join_members<'a>(
+    alloc: Global,
+    meanings: &Meanings<'_, 'a>,
+    parts: &Parts<'_, 'a>,
+    resolver: &Resolver<'_, '_, 'a>,
+    steps: &mut usize,
+    best: Option<Refusal>,
+) -> Result<Option<Refusal>, AllocError>
+    requires same { parts.now ≡ meanings.now }
+    requires resolved { resolver.now ≡ meanings.now }
+    ensures { IfOk result (λ least. Joins (rule.OtherConstantValue ∷ rule.WritablePromise ∷ rule.Stringifiers ∷ rule.PromisesAndOthers ∷ rule.RepeatedMember ∷ rule.KeptName ∷ rule.TooManyOverloads ∷ []) (plain_definitions meanings.now) best least) }
+{
+    let spots = find_in_owners(alloc, meanings, parts, resolver, steps)?;
+    let best = join_owners(spots, best);
+    let listed = list_things(alloc, meanings.all())?;
+    let things = listed.as_slice();
+    join_things(alloc, resolver, steps, things, spots.stringifier, best)
+}
+
+// The rules on types.
+fn join_uses<'a>(
+    alloc: Global,
+    defs: &Defs,
+    meanings: &Meanings<'_, 'a>,
+    resolver: &Resolver<'_, '_, 'a>,
+    steps: &mut usize,
+    best: Option<Refusal>,
+) -> Result<Option<Refusal>, AllocError>
+    requires { resolver.now ≡ meanings.now }
+    ensures { IfOk result (λ least. JoinsOver (rule.OtherConstantType ∷ rule.CopiedAttribute ∷ rule.UndefinedInside ∷ rule.WronglyNullable ∷ rule.SeveralNullableMembers ∷ rule.NullableBesideDictionary ∷ rule.AnnotatedUnionMember ∷ rule.NullableDictionary ∷ rule.MisplacedAnnotation ∷ rule.ClampAndEnforceRange ∷ rule.AlikeUnionMembers ∷ []) defs.now (plain_definitions meanings.now) best least) }
+{
+    let resolved = resolve_uses(alloc, resolver, steps, meanings.all())?;
+    let uses = resolved.as_slice();
+    let found = first_alike_union(alloc, defs, uses)?;
+    let best = joined(ValidityRule::AlikeUnionMembers.number(), found, best);
+    let found = first_clamp_and_enforce(alloc, meanings, steps, uses)?;
+    let best = joined(ValidityRule::ClampAndEnforceRange.number(), found, best);
+    Ok(join_types(uses, best))
+}

@@ -1,0 +1,86 @@
+//! The joined lists of the rules on default values, on what is inherited, and on overloads.
+
+ghost use Rattle.std.specs.Prelude.{◌≡◌, [], ◌∷◌, List, IfOk};
+ghost use Rattle.widl_idl.specs.Counts.{IsNumberedList};
+ghost use Rattle.widl_idl.specs.PlainTrees.{PlainDefinition, plain_definitions};
+ghost use Rattle.widl_overload.specs.declared.validity_rule.ValidityRule.TheVariants as rule;
+ghost use Rattle.widl_valid.specs.Invalidity.{Joins, JoinsOver};
+
+use std::alloc::{AllocError, Global};
+use widl_idl::{Defs, Refusal, joined};
+use widl_inheritance::{
+    Holdings, find_iterables, first_holding_itself, first_long_chain, first_other_default,
+    first_repeated_member, first_without_empty_default,
+};
+use widl_names::{Meanings, Parts, Resolver};
+use widl_overload::{ValidityRule, least_overload_spots};
+
+/// The rules on overloads.
+pub fn join_overloads(
+    alloc: Global,
+    defs: &Defs,
+    best: Option<Refusal>,
+) -> Result<Option<Refusal>, AllocError>
+    requires { IsNumberedList defs.now }
+    ensures { IfOk result (λ least. (definitions : List PlainDefinition) → JoinsOver (rule.AlikeOverloads ∷ rule.EarlyDifference ∷ []) defs.now definitions best least) }
+{
+    let spots = least_overload_spots(alloc, defs)?;
+    let best = joined(ValidityRule::EarlyDifference.number(), spots.early, best);
+    Ok(joined(ValidityRule::AlikeOverloads.number(), spots.alike, best))
+}
+
+/// The rules on dictionaries with all that they inherit.
+pub fn join_dictionaries(
+    alloc: Global,
+    defs: &Defs,
+    best: Option<Refusal>,
+) -> Result<Option<Refusal>, AllocError>
+    ensures { IfOk result (λ least. (definitions : List PlainDefinition) → JoinsOver (rule.RepeatedDictionaryMember ∷ rule.DictionaryHoldsItself ∷ rule.LongDictionaryChain ∷ []) defs.now definitions best least) }
+{
+    let dicts = defs.dicts.as_slice();
+    let holdings = Holdings::of(alloc, dicts)?;
+    let found = first_long_chain(alloc, dicts, &holdings)?;
+    let best = joined(ValidityRule::LongDictionaryChain.number(), found, best);
+    let found = first_holding_itself(dicts, &holdings);
+    let best = joined(ValidityRule::DictionaryHoldsItself.number(), found, best);
+    let found = first_repeated_member(alloc, dicts)?;
+    Ok(joined(ValidityRule::RepeatedDictionaryMember.number(), found, best))
+}
+
+/// The rules on default values, and on arguments that need one.
+pub fn join_defaults<'a>(
+    alloc: Global,
+    defs: &Defs,
+    meanings: &Meanings<'_, 'a>,
+    resolver: &Resolver<'_, '_, 'a>,
+    steps: &mut usize,
+    best: Option<Refusal>,
+) -> Result<Option<Refusal>, AllocError>
+    requires { resolver.now ≡ meanings.now }
+    ensures { IfOk result (λ least. JoinsOver (rule.OtherDefault ∷ rule.NoEmptyDefault ∷ []) defs.now (plain_definitions meanings.now) best least) }
+{
+    let all = meanings.all();
+    let found = first_without_empty_default(alloc, defs, resolver, steps, all)?;
+    let best = joined(ValidityRule::NoEmptyDefault.number(), found, best);
+    let found = first_other_default(alloc, defs, resolver, steps, all)?;
+    Ok(joined(ValidityRule::OtherDefault.number(), found, best))
+}
+
+/// The rules on iterables.
+pub fn join_iterables(
+    alloc: Global,
+    meanings: &Meanings<'_, '_>,
+    parts: &Parts<'_, '_>,
+    best: Option<Refusal>,
+) -> Result<Option<Refusal>, AllocError>
+    requires { parts.now ≡ meanings.now }
+    ensures { IfOk result (λ least. Joins (rule.SecondIterable ∷ rule.HiddenIterationMethod ∷ []) (plain_definitions meanings.now) best least) }
+{
+    let spots = find_iterables(alloc, meanings, parts)?;
+    let best = joined(
+        ValidityRule::HiddenIterationMethod.number(),
+        spots.hidden,
+        best,
+    );
+    Ok(joined(ValidityRule::SecondIterable.number(), spots.second, best))
+}

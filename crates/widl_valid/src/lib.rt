@@ -1,0 +1,43 @@
+//! The rules of validity over a set of files whose definitions are put together. It stands on the trees
+//! and the merged list of `widl_idl`, on the names of `widl_names`, and on `widl_overload`, where each rule
+//! is stated. The one contract that is used above: [`validate`] accepts exactly the sets that break none of
+//! these rules, and otherwise answers the least refusal.
+#![tactic(auto)]
+
+mod acceptance;
+mod alike_members;
+mod annotation_rules;
+mod argument_lists;
+mod argument_rules;
+mod clamp_rules;
+mod constant_values;
+mod definition_rules;
+mod invalidity;
+mod joined_inherited;
+mod joined_rules;
+mod kept_names;
+mod kinds_seen;
+mod known_texts;
+mod lineage_walk;
+mod lineages;
+mod member_types;
+mod nullable_rules;
+mod operation_names;
+mod overload_counts;
+mod owner_members;
+mod owners;
+mod promise_overloads;
+mod range_annotations;
+mod range_ends;
+mod related_interfaces;
+mod repeated_members;
+mod resolved_uses;
+mod role_rules;
+mod sought;
+mod stringifiers;
+mod type_rules;
+mod type_uses;
+mod union_rules;
+
+pub use acceptance::{ValidFault, validate};
+pub use invalidity::find_invalid;

@@ -1,0 +1,76 @@
+//! Names of operations, static and regular apart.
+
+ghost use Rattle.std.specs.Prelude.{◌≡◌, ℕ, Bool, false, List, ◌||◌, ◌&&◌, bytes_eq, OnOk};
+ghost use Rattle.widl_idl.specs.MergingRules.{both_or_none};
+ghost use Rattle.widl_idl.specs.PlainTrees.{operation_of};
+ghost use Rattle.widl_valid.specs.MemberTables.{has_name, has_overload, has_text};
+
+use crate::owner_members::{is_static, operation_text};
+use indexmap::IndexSet;
+use std::alloc::{AllocError, Global};
+use widl_idl::tree::Operation;
+
+/// Names of operations.
+#[derive(Drop)]
+pub struct OperationNames<'a> {
+    /// Those of operations that aren't static.
+    pub regular: IndexSet<&'a str>,
+    /// Those of static operations.
+    pub fixed: IndexSet<&'a str>,
+}
+
+impl<'a> OperationNames<'a> {
+    /// No names.
+    pub fn new(alloc: Global) -> OperationNames<'a>
+        ensures { (text : List ℕ) (static : Bool) → has_name result.regular result.fixed text static ≡ false }
+    {
+        OperationNames {
+            regular: IndexSet::new(alloc),
+            fixed: IndexSet::new(alloc),
+        }
+    }
+
+    /// Whether the name is among those of static operations, or of others.
+    pub fn contains(&self, text: &str, fixed: bool) -> bool
+        ensures { result ≡ has_name self.now.regular self.now.fixed text.now fixed }
+    {
+        if fixed {
+            self.fixed.contains(text)
+        } else {
+            self.regular.contains(text)
+        }
+    }
+
+    /// Adds the name of an operation; it is empty where the operation has none.
+    ///
+    /// # Errors
+    ///
+    /// `AllocError` where there is no memory.
+    pub fn add(&mut self, operation: &'a Operation) -> Result<(), AllocError>
+        ensures { OnOk result ((text : List ℕ) (static : Bool) → has_name self.new.regular self.new.fixed text static ≡ (has_name self.old.regular self.old.fixed text static || has_overload text static (operation_of operation.now))) }
+    {
+        self.insert(operation_text(operation), is_static(operation.kind))
+    }
+
+    fn insert(&mut self, text: &'a str, fixed: bool) -> Result<(), AllocError>
+        ensures { OnOk result ((other : List ℕ) (static : Bool) → has_name self.new.regular self.new.fixed other static ≡ (has_name self.old.regular self.old.fixed other static || (bytes_eq other text.now && both_or_none static fixed))) }
+    {
+        if fixed {
+            add_text(&mut self.fixed, text)
+        } else {
+            add_text(&mut self.regular, text)
+        }
+    }
+}
+
+/// Adds a text to a set.
+///
+/// # Errors
+///
+/// `AllocError` where there is no memory.
+pub fn add_text<'a>(texts: &mut IndexSet<&'a str>, text: &'a str) -> Result<(), AllocError>
+    ensures { OnOk result ((other : List ℕ) → has_text texts.new other ≡ (has_text texts.old other || bytes_eq other text.now)) }
+{
+    texts.insert(text)?;
+    Ok(())
+}

@@ -1,0 +1,61 @@
+//! What the types that are written in a set of files mean.
+
+ghost use Rattle.std.specs.Prelude.{◌≡◌, List, map, IfOk};
+ghost use Rattle.widl_idl.specs.PlainTrees.{plain_definitions};
+ghost use Rattle.widl_overload.specs.TypeUses.{type_uses_of};
+ghost use Rattle.widl_valid.specs.UsesListed.{resolved_use, use_of, with_meaning};
+
+use crate::type_uses::{TypeUse, list_type_uses};
+use std::alloc::{AllocError, Global};
+use widl_idl::IdlType;
+use widl_idl::tree::Definition;
+use widl_names::{Annotations, Resolver};
+
+/// A type as it is written, with what it means there.
+#[derive(Drop)]
+pub struct ResolvedUse<'a> {
+    /// The type as it is written.
+    pub written: TypeUse<'a>,
+    /// What it means.
+    pub meaning: IdlType,
+}
+
+/// All types that are written in these definitions, with what they mean.
+///
+/// # Errors
+///
+/// Those of [`Resolver::resolve`], which also says what `steps` bounds.
+pub fn resolve_uses<'a>(
+    alloc: Global,
+    resolver: &Resolver<'_, '_, 'a>,
+    steps: &mut usize,
+    definitions: &[&'a Definition],
+) -> Result<Vec<ResolvedUse<'a>>, AllocError>
+    requires { map (λ d. d.now) definitions.now ≡ resolver.now }
+    ensures { IfOk result (λ list. map resolved_use list.items ≡ map (with_meaning (plain_definitions resolver.now)) (type_uses_of (plain_definitions resolver.now))) }
+{
+    let uses = list_type_uses(alloc, definitions)?;
+    let mut resolved = Vec::new(alloc);
+    for written in uses.iter() {
+        resolved.push(resolve_use(alloc, resolver, steps, written)?)?;
+    }
+    Ok(resolved)
+}
+
+// One of these types with what it means.
+fn resolve_use<'a>(
+    alloc: Global,
+    resolver: &Resolver<'_, '_, 'a>,
+    steps: &mut usize,
+    written: &TypeUse<'a>,
+) -> Result<ResolvedUse<'a>, AllocError>
+    ensures { IfOk result (λ resolved. resolved_use resolved ≡ with_meaning (plain_definitions resolver.now) (use_of written.now)) }
+{
+    let outer = Annotations::of(written.outer);
+    let own = Annotations::of(written.own);
+    let meaning = resolver.resolve(alloc, steps, outer.followed_by(own), written.ty)?;
+    Ok(ResolvedUse {
+        written: *written,
+        meaning,
+    })
+}
