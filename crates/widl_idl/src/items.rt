@@ -72,7 +72,22 @@ impl<T: Drop> Items<T> {
         ensures ok { OnOk result (self.new ≡ self.old ++ item ∷ []) }
         ensures err { OnErr result (self.new ≡ self.old) }
     {
+        self.make_room()?;
         self.items.push(item)?;
+        Ok(())
+    }
+
+    /// Makes room for one more item, at least.
+    ///
+    /// Most lists of a tree have one item or two, which are large: so room grows from one item on, always
+    /// to twice as much.
+    fn make_room(&mut self) -> Result<(), AllocError>
+        ensures { self.new ≡ self.old }
+    {
+        let count = self.items.len();
+        if count == self.items.capacity() {
+            self.items.reserve_exact(count.max(1))?;
+        }
         Ok(())
     }
 }

@@ -104,7 +104,8 @@ impl Units {
     pub fn of_str(alloc: Global, text: &str) -> Result<Units, AllocError>
         ensures { IfOk result (λ units. units ≡ utf16_of (chars text.now)) }
     {
-        let mut items = Vec::new(alloc);
+        // Names are mostly ASCII, whose characters are one byte and one unit each.
+        let mut items = Vec::with_capacity(alloc, text.len())?;
         for character in text.chars() {
             push_character(&mut items, character)?;
         }
@@ -143,6 +144,10 @@ impl Units {
 fn push_character(items: &mut Vec<u16>, character: char) -> Result<(), AllocError>
     ensures { OnOk result (items.new.items ≡ items.old.items ++ encode_utf16 character) }
 {
+    if let Ok(unit) = u8::try_from(character) {
+        items.push(u16::from(unit))?;
+        return Ok(());
+    }
     let mut pair = [0; 2];
     let units = character.encode_utf16(&mut pair);
     items.extend_from_slice(units)?;
