@@ -162,6 +162,11 @@ Best (Some r) place w = (r.0 ≤ place) × (0 < r.0) × Matches (scanned r.1) (t
 none_some : {X : Type 0} {x : X} → None ≡ Some x → ⊥
 none_some e = cc
 
+-- a kind that ends at two places in a row is best at the second
+better_again : (best : Option (ℕ × PieceKind)) (p q : ℕ) (end : Option PieceKind) → better_of (better_of best p end) q end ≡ better_of best q end
+better_again best p q None = refl
+better_again best p q (Some k) = refl
+
 module _ (w : List ℕ) (all : AllBytes w) where
   pub run_more : (p : ℕ) (s t : ℕ) → p < length w → s ≡ run 0 (take p w) → t ≡ next_of s (get_or w p 0) → t ≡ run 0 (take (p + 1) w)
   run_more p s t lt e f = let one : p + 1 ≡ suc p = omega arith in f ∙ ap (λ x. next_of x (get_or w p 0)) e ∙ sym (run-append 0 (take p w) (get_or w p 0 ∷ [])) ∙ sym (ap (run 0) (ap (λ i. take i w) one ∙ take_more w p lt))
@@ -208,3 +213,22 @@ module _ (w : List ℕ) (all : AllBytes w) where
       let dead : run 0 (take m w) ≡ 11 = ap (run 0) cut.1 ∙ run-append 0 (take (p + 1) w) cut.0 ∙ ap (λ x. run x cut.0) (sym e ∙ is) ∙ run_dead cut.0 (all_right (take (p + 1) w) cut.0 all_m) in
       let nothing_ends : end_of 11 ≡ Some k = subst (λ x. end_of x ≡ Some k) dead (scan_ends k (take m w) (all_take m w all) match) in
       none_some nothing_ends
+
+  -- bytes that keep the state: it is the state behind each of them
+  run_kept : (d p q s : ℕ) → q ≡ p + d → q ≤ length w → s ≡ run 0 (take p w) → ((i : ℕ) → p ≤ i → i < q → next_of s (get_or w i 0) ≡ s) → s ≡ run 0 (take q w)
+  run_kept zero p q s is le e keep = e ∙ ap (λ i. run 0 (take i w)) (omega (arith, is))
+  run_kept (suc d) p q s is le e keep =
+      let before = run_kept d p (p + d) s refl (omega (arith, is)) e (λ i from to. keep i from (omega (arith, is))) in
+      run_more (p + d) s s (omega (arith, is)) before (sym (keep (p + d) (omega arith) (omega (arith, is)))) ∙ ap (λ i. run 0 (take i w)) (omega (arith, is))
+
+  -- a run ends as its last byte does
+  pub best_run : (best : Option (ℕ × PieceKind)) (d p q s : ℕ) → q ≡ p + 1 + d → q ≤ length w → s ≡ run 0 (take (p + 1) w) → ((i : ℕ) → p + 1 ≤ i → i < q → next_of s (get_or w i 0) ≡ s) → Best best p w → (s ≡ run 0 (take q w)) × Best (better_of best q (end_of s)) q w
+  best_run best zero p q s is le e keep b =
+      let here : p + 1 ≡ q = omega (arith, is) in
+      (e ∙ ap (λ i. run 0 (take i w)) here, subst (λ i. Best (better_of best i (end_of s)) i w) here (better_kept best p (end_of s) (ap end_of e) b))
+  best_run best (suc d) p q s is le e keep b =
+      let here : p + 1 + d + 1 ≡ q = omega (arith, is) in
+      let at = run_kept (suc d) (p + 1) q s is le e keep in
+      let before = best_run best d p (p + 1 + d) s refl (omega (arith, is)) e (λ i from to. keep i from (omega (arith, is))) b in
+      let end_is : end_of s ≡ end_of (run 0 (take (p + 1 + d + 1) w)) = ap end_of at ∙ ap (λ i. end_of (run 0 (take i w))) (sym here) in
+      (at, subst (λ i. Best (better_of best i (end_of s)) i w) here (subst (λ x. Best x (p + 1 + d + 1) w) (better_again best (p + 1 + d) (p + 1 + d + 1) (end_of s)) (better_kept (better_of best (p + 1 + d) (end_of s)) (p + 1 + d) (end_of s) end_is before.1)))

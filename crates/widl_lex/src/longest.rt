@@ -1,6 +1,6 @@
 //! The longest piece at the front of a text, by the table of states.
 
-ghost use Rattle.std.specs.Prelude.{◌≡◌, ◌<◌, MatchOption};
+ghost use Rattle.std.specs.Prelude.{◌≡◌, ◌<◌, ◌≤◌, ℕ, length, slice_index, MatchOption};
 ghost use Rattle.widl_lex.specs.Walk.{next_of, better_of, NoScan, IsLongestScan};
 
 use crate::tables::{CLASSES, DEAD, ENDS, NEXT, STATES};
@@ -29,18 +29,37 @@ fn better(
     }
 }
 
-/// The longest front of the text that one of the table's patterns matches: how many bytes, and its kind.
+/// The end of the run of bytes, from a place on, that keep the state.
+fn run_end(text: &[u8], from: usize, state: usize) -> usize
+    requires small { state < STATES }
+    requires from { from ≤ length text.now }
+    ensures within { (from ≤ result) × (result ≤ length text.now) }
+    ensures kept { (place : ℕ) → from ≤ place → place < result → next_of state (slice_index text.now place) ≡ state }
+    ensures left { result < length text.now → next_of state (slice_index text.now result) ≡ state → ⊥ }
+{
+    for place in from..text.len() {
+        if next_state(state, text[place]) != state {
+            return place;
+        }
+    }
+    text.len()
+}
+
+/// The longest front of the text that one of the table's patterns matches: how many bytes, and its kind. Most
+/// bytes of white space, comments and names keep the state: a run of them ends as its last byte does.
 pub fn longest(text: &[u8]) -> Option<(usize, PieceKind)>
     ensures { MatchOption result (NoScan text.now) (λ r. IsLongestScan r.1 r.0 text.now) }
 {
     let mut state = 0;
     let mut best = None;
-    for (place, byte) in text.iter().enumerate() {
-        state = next_state(state, *byte);
+    let mut place = 0;
+    while place < text.len() {
+        state = next_state(state, text[place]);
         if state == DEAD {
             return best;
         }
-        best = better(best, place + 1, ENDS[state]);
+        place = run_end(text, place + 1, state);
+        best = better(best, place, ENDS[state]);
     }
     best
 }

@@ -1,7 +1,7 @@
 use Rattle.std.proofs.Common.{arith}
 use Rattle.widl_lex.proofs.Computed.{all_bytes}
 use Rattle.widl_lex.proofs.Characters.{utf8_run_more, fault_within, fault_at_end, no_fault}
-use Rattle.widl_lex.proofs.utf8.utf8_fault.Goals as goal
+use Rattle.widl_lex.proofs.utf8.fault_place.Goals as goal
 
 pub returns-then-state-eq-UTF8_DEAD : goal.returns-then-state-eq-UTF8_DEAD
 returns-then-state-eq-UTF8_DEAD c =
@@ -18,12 +18,8 @@ loop-place-preserved c =
       alive = c.if-state-eq-UTF8_DEAD.false;
     }
 
-pub returns-then-state-eq0 : goal.returns-then-state-eq0
-returns-then-state-eq0 c =
+pub returns : goal.returns
+returns c =
     let all = all_bytes c.args.bytes.now (λ i. omega (arith, c.type_inv.bytes i)) in
-    no_fault c.args.bytes.now all c.loop-place.place c.loop-place.state (omega arith) c.loop-place.invariant.state c.if-state-eq0.true
-
-pub returns-else-state-eq0 : goal.returns-else-state-eq0
-returns-else-state-eq0 c =
-    let all = all_bytes c.args.bytes.now (λ i. omega (arith, c.type_inv.bytes i)) in
-    fault_at_end c.args.bytes.now all c.loop-place.place c.loop-place.state (omega arith) c.loop-place.invariant.state c.loop-place.invariant.alive c.if-state-eq0.false
+    fault_at_end c.args.bytes.now all c.loop-place.place c.loop-place.state (omega arith) c.loop-place.invariant.state c.loop-place.invariant.alive
+    (λ zero. c.requires (no_fault c.args.bytes.now all c.loop-place.place c.loop-place.state (omega arith) c.loop-place.invariant.state zero))
