@@ -139,6 +139,22 @@ QUOTED = sorted(
 )
 
 
+# How many slots the quoted terminals are spread over: no two have the same.
+SLOTS = 512
+
+
+def slot(text):
+    """The slot of a text, as `slot_of` of specs/Walk.antt has it."""
+    return (text[0] + 11 * (text[len(text) // 3] + text[len(text) // 2])) % SLOTS
+
+
+def quoted_at():
+    """For each slot the place of its quoted terminal, or 0, as good as any, where it has none."""
+    places = {slot(text.encode()): place for place, text in enumerate(QUOTED)}
+    assert len(places) == len(QUOTED)
+    return [places.get(number, 0) for number in range(SLOTS)]
+
+
 def matches_empty(pattern):
     form = pattern[0]
     if form in ("never", "range"):
@@ -317,8 +333,8 @@ pub static ENDS: [Option<PieceKind>; STATES] = [
 pub static QUOTED: [&[u8]; {len(QUOTED)}] = [
 {"".join(f'    b"{text}",{chr(10)}' for text in QUOTED)}];
 
-/// For each first byte, how many quoted terminals stand before those that begin with it.
-pub static QUOTED_FROM: [u8; 257] = {rust_list(sum(ord(text[0]) < byte for text in QUOTED) for byte in range(257))};
+/// For each slot of a text, the place above of the one quoted terminal that the text can be.
+pub static QUOTED_AT: [u8; {SLOTS}] = {rust_list(quoted_at())};
 
 /// How many states of UTF-8 there are.
 pub const UTF8_STATES: usize = {len(utf8_states)};

@@ -1,6 +1,6 @@
 -- The walk through the table of states, and what its patterns match.
-use Rattle.std.specs.Prelude.{ℕ, ◌<◌, ◌≤◌, List, [], ◌∷◌, Bool, true, false, Option, Some, None, ◌+◌, map, slice_index, slice_index_or, slice_range, length, take, codes}
-use Rattle.widl_lex.specs.declared.tables.TheConstants.{CLASSES, NEXT, ENDS, UTF8_CLASSES, UTF8_NEXT, QUOTED, QUOTED_FROM}
+use Rattle.std.specs.Prelude.{ℕ, ◌<◌, ◌≤◌, List, [], ◌∷◌, Bool, true, false, Option, Some, None, ◌+◌, ◌*◌, ◌/◌, ◌%◌, map, slice_index, slice_index_or, length, take, codes}
+use Rattle.widl_lex.specs.declared.tables.TheConstants.{CLASSES, NEXT, ENDS, UTF8_CLASSES, UTF8_NEXT, QUOTED, QUOTED_AT}
 use Rattle.widl_lex.specs.declared.token.PieceKind.{PieceKind}
 use Rattle.widl_lex.specs.declared.token.PieceKind.TheVariants.{Token, Gap}
 use Rattle.widl_lex.specs.declared.token.TokenKind.TheVariants.{Quoted, Integer, Decimal, Identifier, Text, Other}
@@ -52,6 +52,10 @@ abbrev pub better_of : Option (ℕ × PieceKind) → ℕ → Option PieceKind �
 better_of best place (Some kind) = Some (place, kind)
 better_of best place None = best
 
--- the quoted terminals in the table that begin with a byte
-abbrev pub quoted_with : ℕ → List (List ℕ)
-quoted_with first = map (λ word. word.now) (slice_range QUOTED (slice_index QUOTED_FROM first) (slice_index QUOTED_FROM (first + 1)))
+-- the slot of a text among those of the quoted terminals
+abbrev pub slot_of : List ℕ → ℕ
+slot_of text = (slice_index text 0 + 11 * (slice_index text (length text / 3) + slice_index text (length text / 2))) % 512
+
+-- the quoted terminal in the table that a text can be
+abbrev pub candidate_of : List ℕ → List ℕ
+candidate_of text = slice_index_or (map (λ word. word.now) QUOTED) (slice_index QUOTED_AT (slot_of text)) []

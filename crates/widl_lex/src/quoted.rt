@@ -1,47 +1,42 @@
-//! The quoted terminals, found by their first byte.
+//! The quoted terminals, each found by a few of its bytes.
 
-ghost use Rattle.std.specs.Prelude.{◌≡◌, ◌<◌, ◌≤◌, ◌↔◌, IsTrue, Contains, map, slice_index};
+ghost use Rattle.std.specs.Prelude.{◌≡◌, ◌<◌, ◌↔◌, IsTrue, List, [], map, length, slice_index_or};
 ghost use Rattle.widl_lex.specs.Quoted.{IsQuoted};
-ghost use Rattle.widl_lex.specs.Walk.{quoted_with};
+ghost use Rattle.widl_lex.specs.Walk.{slot_of, candidate_of};
 
-use crate::tables::{QUOTED, QUOTED_FROM};
+use crate::tables::{QUOTED, QUOTED_AT};
 
-/// How many quoted terminals stand before those that begin with the byte.
-fn count_before(first: usize) -> usize
-    requires { first < 257 }
-    ensures count { result ≡ slice_index QUOTED_FROM first }
-    ensures within { result ≤ 86 }
+/// The slot of the text among those of the quoted terminals, no two of which have the same.
+fn slot(text: &[u8]) -> usize
+    requires { 0 < length text.now }
+    ensures slot { result ≡ slot_of text.now }
+    ensures small { result < 512 }
 {
-    QUOTED_FROM[first] as usize
+    let first = text[0] as usize;
+    let third = text[text.len() / 3] as usize;
+    let middle = text[text.len() / 2] as usize;
+    (first + 11 * (third + middle)) % 512
 }
 
-/// The quoted terminals that begin with the byte.
-fn words_with(first: u8) -> &'static [&'static [u8]]
-    ensures { map (λ word. word.now) result.now ≡ quoted_with first }
+/// The word at a place of the list.
+fn word_at(words: &[&'static [u8]], place: usize) -> &'static [u8]
+    requires { place < length words.now }
+    ensures { result.now ≡ slice_index_or (map (λ word. word.now) words.now) place [] }
 {
-    let from = count_before(first as usize);
-    let to = count_before(first as usize + 1);
-    &QUOTED[from..to]
+    words[place]
 }
 
-/// Whether the text is one of the words.
-fn contains(words: &[&[u8]], text: &[u8]) -> bool
-    ensures { IsTrue result ↔ Contains (map (λ word. word.now) words.now) text.now }
+/// The one quoted terminal that the text can be.
+fn candidate(text: &[u8]) -> &'static [u8]
+    requires { 0 < length text.now }
+    ensures { result.now ≡ candidate_of text.now }
 {
-    for word in words {
-        if *word == text {
-            return true;
-        }
-    }
-    false
+    word_at(&QUOTED, QUOTED_AT[slot(text)] as usize)
 }
 
 /// Whether the text is a word or a sign that the grammar writes out.
 pub fn is_quoted(text: &[u8]) -> bool
     ensures { IsTrue result ↔ IsQuoted text.now }
 {
-    match text.first() {
-        Some(first) => contains(words_with(*first), text),
-        None => false,
-    }
+    !text.is_empty() && candidate(text) == text
 }

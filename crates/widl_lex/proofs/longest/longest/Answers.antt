@@ -1,4 +1,4 @@
-use Rattle.std.proofs.Common.{◌+◌, ◌-◌, arith, subst, sym, ap}
+use Rattle.std.proofs.Common.{◌+◌, ◌-◌, arith, subst, sym}
 use Rattle.widl_lex.proofs.Computed.{all_bytes}
 use Rattle.widl_lex.proofs.Table.{Best, run_more, best_run, best_done, dead_no}
 use Rattle.widl_lex.proofs.longest.longest.Goals as goal

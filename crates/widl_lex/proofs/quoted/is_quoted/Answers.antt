@@ -1,10 +1,14 @@
-use Rattle.std.proofs.Common.{sym, arith}
+use Rattle.std.proofs.Common.{◌∙◌, sym, ap, not}
 use Rattle.widl_lex.proofs.Computed.{differ}
-use Rattle.widl_lex.proofs.QuotedTable.{found_quoted, empty_not}
+use lib.Pointwise.{bytes_decides}
+use Rattle.widl_lex.proofs.QuotedTable.{is_candidate, quoted_candidate, empty_not}
 use Rattle.widl_lex.proofs.quoted.is_quoted.Goals as goal
 
-pub returns-in-Some : goal.returns-in-Some
-returns-in-Some c = found_quoted c.in-Some.first.now c.args.text.now _ c.contains.result c.in-Some.ensures.value (omega (arith, c.type_inv.text 0)) c.words_with.ensures c.contains.ensures
+pub returns-then-not-is_empty : goal.returns-then-not-is_empty
+returns-then-not-is_empty c = (
+  λ t. is_candidate c.args.text.now (sym c.candidate.ensures ∙ (bytes_decides _ _).0 (sym c.eq.ensures ∙ t)),
+  λ q. c.eq.ensures ∙ (bytes_decides _ _).1 (c.candidate.ensures ∙ quoted_candidate c.args.text.now q),
+)
 
-pub returns-in-None : goal.returns-in-None
-returns-in-None c = (λ t. absurd (differ (sym t)), λ q. absurd (empty_not c.args.text.now c.in-None.ensures.value q))
+pub returns-else-not-is_empty : goal.returns-else-not-is_empty
+returns-else-not-is_empty c = (λ t. absurd (differ (sym t ∙ ap not c.if-not-is_empty.false)), λ q. absurd (empty_not c.args.text.now c.is_empty.result c.is_empty.ensures c.if-not-is_empty.false q))
