@@ -289,7 +289,6 @@ def finish(utf8_rows, dead):
 
 def main():
     states, rows = automaton(tuple(PATTERNS[kind] for kind in KINDS))
-    classes, members = classes_of(rows)
     ends = []
     for state in states:
         found = [kind for kind, pattern in zip(KINDS, state) if matches_empty(pattern)]
@@ -317,13 +316,10 @@ pub const STATES: usize = {len(states)};
 /// The state in which no more bytes make a piece.
 pub const DEAD: usize = {dead};
 
-/// The class of each byte: bytes of one class lead to the same states.
-pub static CLASSES: [u8; 256] = {rust_list(classes)};
-
-/// The state after a byte of each class, for each state, which begins at 0. Beside each state stand its number
-/// and a text that leads to it.
-pub static NEXT: [[u8; {len(members)}]; STATES] = [
-{rust_rows(rows, members)}];
+/// The state after each byte, for each state, which begins at 0. Beside each state stand its number and a text
+/// that leads to it.
+pub static NEXT: [[u8; 256]; STATES] = [
+{rust_rows(rows, range(256))}];
 
 /// The kind of piece that ends in each state, if any.
 pub static ENDS: [Option<PieceKind>; STATES] = [
@@ -378,7 +374,7 @@ pub static UTF8_NEXT: [[u8; {len(utf8_members)}]; UTF8_STATES] = [
         out.write(antt_list(map(str, beside(rows, utf8_rows, utf8_dead, False))) + "\n\n")
         out.write("-- the same within the first character\nabbrev pub within_first : List ℕ\nwithin_first =")
         out.write(antt_list(map(str, beside(rows, utf8_rows, utf8_dead, True))) + "\n")
-    print(f"{len(states)} states, {len(members)} classes, dead {dead}; UTF-8: {len(utf8_states)} states, {len(utf8_members)} classes, dead {utf8_dead}")
+    print(f"{len(states)} states, dead {dead}; UTF-8: {len(utf8_states)} states, {len(utf8_members)} classes, dead {utf8_dead}")
 
 
 if __name__ == "__main__":

@@ -2,7 +2,6 @@
 use Rattle.std.proofs.Common.{◌≡◌, ℕ, zero, suc, ◌+◌, ◌<◌, ◌≤◌, Bool, true, false, Option, Some, None, List, [], ◌∷◌, ◌++◌, length, get_or, take, refl, sym, ◌∙◌, ap, subst, arith, eqb, eqb-true, eq-eqb, ltb, ltb-true, ltb-false, lit<, inl, inr}
 use Rattle.std.specs.Prelude.{◌&&◌, MatchOption}
 use Rattle.widl_lex.specs.Pattern.{Pattern, Never, Matches}
-use Rattle.widl_lex.specs.declared.tables.TheConstants.{CLASSES}
 use Rattle.widl_lex.specs.declared.token.PieceKind.{PieceKind}
 use Rattle.widl_lex.specs.declared.token.PieceKind.TheVariants.{Token, Gap}
 use Rattle.widl_lex.specs.declared.token.TokenKind.TheVariants.{Quoted, Integer, Decimal, Identifier, Text, Other}
@@ -100,13 +99,6 @@ next_below s b ls lb = ltb-true _ _ (follows_at s b ls lb).0
 
 label_after : (s b : ℕ) (k : PieceKind) → s < 38 → b < 256 → after b (label s k) ≡ label (next_of s b) k
 label_after s b k ls lb = same_true _ _ (every_at (λ j. same (after b (label s j)) (label (next_of s b) j)) (follows_at s b ls lb).1 k)
-
-table_classes : all_below 256 (λ b. ltb (get_or CLASSES b 0) 28) ≡ true
-unfolding all_below
-table_classes = refl
-
-pub class_below : (b : ℕ) → b < 256 → get_or CLASSES b 0 < 28
-class_below b lt = ltb-true _ _ (all_at 256 (λ c. ltb (get_or CLASSES c 0) 28) table_classes b lt)
 
 -- the kind that ends in a state is the one whose pattern wants nothing more
 table_ends : all_below 38 (λ s. every (λ k. alike (empties (label s k)) (is_end (end_of s) k))) ≡ true

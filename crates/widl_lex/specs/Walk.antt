@@ -1,6 +1,6 @@
 -- The walk through the table of states, and what its patterns match.
 use Rattle.std.specs.Prelude.{ℕ, ◌<◌, ◌≤◌, List, [], ◌∷◌, Bool, true, false, Option, Some, None, ◌+◌, ◌*◌, ◌/◌, ◌%◌, map, slice_index, slice_index_or, length, take, codes}
-use Rattle.widl_lex.specs.declared.tables.TheConstants.{CLASSES, NEXT, ENDS, UTF8_CLASSES, UTF8_NEXT, QUOTED, QUOTED_AT}
+use Rattle.widl_lex.specs.declared.tables.TheConstants.{NEXT, ENDS, UTF8_CLASSES, UTF8_NEXT, QUOTED, QUOTED_AT}
 use Rattle.widl_lex.specs.declared.token.PieceKind.{PieceKind}
 use Rattle.widl_lex.specs.declared.token.PieceKind.TheVariants.{Token, Gap}
 use Rattle.widl_lex.specs.declared.token.TokenKind.TheVariants.{Quoted, Integer, Decimal, Identifier, Text, Other}
@@ -9,7 +9,7 @@ use Rattle.widl_lex.specs.Lexical.{integer, decimal, identifier, string, other, 
 
 -- the state after a byte
 abbrev pub next_of : ℕ → ℕ → ℕ
-next_of state byte = slice_index_or (slice_index_or NEXT state []) (slice_index_or CLASSES byte 0) 0
+next_of state byte = slice_index_or (slice_index_or NEXT state []) byte 0
 
 -- the kind that ends in a state
 abbrev pub end_of : ℕ → Option PieceKind

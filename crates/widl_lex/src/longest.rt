@@ -3,7 +3,7 @@
 ghost use Rattle.std.specs.Prelude.{◌≡◌, ◌<◌, ◌≤◌, ℕ, length, slice_index, MatchOption};
 ghost use Rattle.widl_lex.specs.Walk.{next_of, better_of, NoScan, IsLongestScan};
 
-use crate::tables::{CLASSES, DEAD, ENDS, NEXT, STATES};
+use crate::tables::{DEAD, ENDS, NEXT, STATES};
 use crate::token::PieceKind;
 
 /// The state after a byte.
@@ -12,7 +12,7 @@ fn next_state(state: usize, byte: u8) -> usize
     ensures next { result ≡ next_of state byte }
     ensures small { result < STATES }
 {
-    NEXT[state][CLASSES[byte as usize] as usize] as usize
+    NEXT[state][byte as usize] as usize
 }
 
 /// What ends in the state, at the place, or else the best so far.
