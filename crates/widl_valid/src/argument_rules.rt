@@ -1,8 +1,9 @@
 //! The rules on lists of arguments.
 
-ghost use Rattle.std.specs.Prelude.{◌≡◌, ◌&&◌, Bool, None, Some, if◌then◌else◌, IfOk};
+ghost use Rattle.std.specs.Prelude.{◌≡◌, ◌&&◌, Bool, None, Some, if◌then◌else◌, IfOk, bytes_eq};
+ghost use Rattle.std.specs.List.{list_any};
 ghost use Rattle.widl_idl.specs.Least.{AtOne, LeastWhere, Somewhere, spot_at};
-ghost use Rattle.widl_idl.specs.PlainTrees.{argument_kind_of, argument_of, arguments_of};
+ghost use Rattle.widl_idl.specs.PlainTrees.{PlainArgument, argument_kind_of, argument_of, arguments_of};
 ghost use Rattle.widl_overload.specs.ArgumentRules.{AtEllipsis, FollowsEllipsis, FollowsOptional, IsArgument65, RepeatsArgument, is_optional, is_required};
 ghost use Rattle.widl_valid.specs.WrittenLists.{listed_arguments};
 
@@ -14,6 +15,9 @@ use widl_idl::{Spot, lesser_spot};
 
 // The greatest number of arguments that a list may have.
 const LIMIT: usize = 64;
+
+// Up to how many arguments it is faster to compare their names with each other than to keep them.
+const FEW: usize = 8;
 
 /// The least place of the name of an argument that an earlier argument of its list has too.
 ///
@@ -36,6 +40,52 @@ pub fn first_repeated_argument(
 
 // The same in one list.
 fn repeated_in(alloc: Global, arguments: &[Argument]) -> Result<Option<Spot>, AllocError>
+    ensures { IfOk result (λ found. LeastWhere (AtOne RepeatsArgument (arguments_of arguments.now)) found) }
+{
+    if arguments.len() <= FEW {
+        Ok(repeated_among_few(arguments))
+    } else {
+        repeated_among_many(alloc, arguments)
+    }
+}
+
+// The same in a short list, whose names are compared with each other.
+fn repeated_among_few(arguments: &[Argument]) -> Option<Spot>
+    ensures { LeastWhere (AtOne RepeatsArgument (arguments_of arguments.now)) result }
+{
+    let mut best = None;
+    for (index, argument) in arguments.iter().enumerate() {
+        let found = repeating(&arguments[..index], argument);
+        best = lesser_spot(best, found);
+    }
+    best
+}
+
+// The place of the name of an argument that one of those before has too.
+fn repeating(before: &[Argument], argument: &Argument) -> Option<Spot>
+    ensures { LeastWhere (RepeatsArgument (arguments_of before.now) (argument_of argument.now)) result }
+{
+    if is_used(before, argument.name.text.as_str()) {
+        Some(Spot::at(argument.name.at))
+    } else {
+        None
+    }
+}
+
+// Whether one of the arguments has the name.
+fn is_used(arguments: &[Argument], text: &str) -> bool
+    ensures { result ≡ list_any (λ (a : PlainArgument). bytes_eq a.name.text text.now) (arguments_of arguments.now) }
+{
+    for argument in arguments {
+        if argument.name.text.as_str() == text {
+            return true;
+        }
+    }
+    false
+}
+
+// The same in a long list, whose names are kept.
+fn repeated_among_many(alloc: Global, arguments: &[Argument]) -> Result<Option<Spot>, AllocError>
     ensures { IfOk result (λ found. LeastWhere (AtOne RepeatsArgument (arguments_of arguments.now)) found) }
 {
     let mut known = IndexSet::new(alloc);

@@ -2,7 +2,7 @@ use Rattle.std.proofs.Common.{arith, rules}
 use Rattle.widl_idl.specs.PlainTrees.{PlainArgument, argument_of}
 use Rattle.widl_valid.specs.KnownTexts.{has_text}
 use Rattle.widl_valid.proofs.RepeatedTexts.{nothing_repeated, repeated_end, repeated_step}
-use Rattle.widl_valid.proofs.argument_rules.repeated_in.Goals as goal
+use Rattle.widl_valid.proofs.argument_rules.repeated_among_many.Goals as goal
 
 pub loop-argument-init : goal.loop-argument-init
 loop-argument-init c = nothing_repeated (λ (x : PlainArgument). x.name.text) (λ (x : PlainArgument). x.name.at) (has_text c.new-known.result) (λ t. search rules)
