@@ -310,28 +310,18 @@ def quoted(rows):
 
 def write_words(rows):
     words = quoted(rows)
-    arms = "".join(f"        Terminal::{rows.terminal[s]} => Some({s}),\n" for s in words)
     write("src/spelling.rt", f"""//! The words and signs that the grammar quotes.
 
-{GENERATED}ghost use Rattle.std.specs.Prelude.{{◌≡◌, None, Some, MatchOption}};
-ghost use Rattle.widl_grammar.specs.Words.{{spelling}};
-
-use crate::Terminal;
+{GENERATED}use crate::Terminal;
 
 /// The terminals that are quoted words and signs, in the order of their spellings.
 pub static QUOTED: [Terminal; {len(words)}] = [{", ".join("Terminal::" + rows.terminal[s] for s in words)}];
 
+/// How each of them is spelled, in the same order.
+pub static SPELLINGS: [&[u8]; {len(words)}] = [{", ".join("b" + s for s in words)}];
+
 /// How many of them begin with a lower byte than this one.
 pub static QUOTED_FROM: [u8; 257] = [{", ".join(str(sum(ord(s[1]) < b for s in words)) for b in range(257))}];
-
-/// The word or sign that a quoted terminal is; `None` for a class of tokens.
-pub fn spelling(terminal: Terminal) -> Option<&'static str>
-    ensures {{ MatchOption result (spelling terminal ≡ None) (λ text. spelling terminal ≡ Some text.now) }}
-{{
-    match terminal {{
-{arms}        _ => None,
-    }}
-}}
 """)
     names = [rows.terminal[s] for s in words]
     cases = "".join(f"spelling {rows.terminal[s]} = Some (codes {s})\n" for s in words)

@@ -8,3 +8,4 @@ pub mod Spellings
 pub mod FaultPlaces
 pub mod QuotedTokens
 pub mod FirstBytes
+pub mod SpellingTable

@@ -24,7 +24,7 @@ pub use fault::SyntaxFault;
 pub use lookup::quoted;
 pub use rule::Rule;
 pub use sentence::read_definitions;
-pub use source::{check_syntax, terminal_of};
+pub use source::{check_syntax, check_terminals, terminal_of, terminals_of};
 pub use table::is_same;
 pub use terminal::Terminal;
 

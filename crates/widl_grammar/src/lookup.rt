@@ -1,27 +1,48 @@
 //! The terminal that a word or sign of the grammar is.
 
-ghost use Rattle.std.specs.Prelude.{◌≡◌, ◌<◌, ◌≤◌, slice_index};
-ghost use Rattle.widl_grammar.specs.Words.{quoted, quoted_among, beginning, spelling, is_spelled};
+ghost use Rattle.std.specs.Prelude.{◌≡◌, ◌<◌, ◌≤◌, Some, map, slice_index, slice_index_or, slice_range};
+ghost use Rattle.std.specs.Str.{bytes_eq};
+ghost use Rattle.widl_grammar.specs.declared.terminal.Terminal.TheVariants.{Identifier};
+ghost use Rattle.widl_grammar.specs.declared.spelling.TheConstants.{QUOTED};
+ghost use Rattle.widl_grammar.specs.Words.{quoted, quoted_among, spelling};
 
 use crate::Terminal;
-use crate::spelling::{QUOTED, QUOTED_FROM, spelling};
+use crate::spelling::{QUOTED, QUOTED_FROM, SPELLINGS};
 
-fn is_spelled(terminal: Terminal, text: &[u8]) -> bool
-    ensures { result ≡ is_spelled (spelling terminal) text.now }
+/// Whether the texts are the same. Few of the words that begin with one byte have the same length, so
+/// the lengths are compared first.
+fn is_same_text(one: &[u8], other: &[u8]) -> bool
+    ensures { result ≡ bytes_eq one.now other.now }
 {
-    match spelling(terminal) {
-        Some(word) => word.as_bytes() == text,
-        None => false,
-    }
+    one.len() == other.len() && one == other
 }
 
-fn quoted_among(terminals: &[Terminal], text: &[u8]) -> Option<Terminal>
-    ensures { result ≡ quoted_among terminals.now text.now }
+/// How each of the quoted terminals is spelled.
+fn spellings() -> &'static [&'static [u8]]
+    ensures { map spelling QUOTED ≡ map (λ word. Some word.now) result.now }
 {
-    terminals
-        .iter()
-        .copied()
-        .find(|terminal| is_spelled(*terminal, text))
+    &SPELLINGS
+}
+
+/// How the quoted terminal of that number is spelled.
+fn spelling(number: usize) -> &'static [u8]
+    requires { number < 86 }
+    ensures { spelling (slice_index_or QUOTED number Identifier) ≡ Some result.now }
+{
+    spellings()[number]
+}
+
+/// The one of the quoted terminals of these numbers that is spelled so.
+fn quoted_between(from: usize, to: usize, text: &[u8]) -> Option<Terminal>
+    requires { to ≤ 86 }
+    ensures { result ≡ quoted_among (slice_range QUOTED from to) text.now }
+{
+    for number in from..to {
+        if is_same_text(spelling(number), text) {
+            return Some(QUOTED[number]);
+        }
+    }
+    None
 }
 
 /// How many quoted terminals are spelled with a lower first byte.
@@ -33,21 +54,16 @@ fn count_before(byte: usize) -> usize
     QUOTED_FROM[byte] as usize
 }
 
-/// The terminals whose spellings begin with the byte.
-fn beginning(byte: u8) -> &'static [Terminal]
-    ensures { result.now ≡ beginning byte }
-{
-    let from = count_before(byte as usize);
-    let to = count_before(byte as usize + 1);
-    &QUOTED[from..to]
-}
-
 /// The terminal that is spelled so, where the grammar quotes these bytes.
 pub fn quoted(text: &[u8]) -> Option<Terminal>
     ensures { result ≡ quoted text.now }
 {
     match text.first() {
-        Some(byte) => quoted_among(beginning(*byte), text),
+        Some(byte) => {
+            let from = count_before(*byte as usize);
+            let to = count_before(*byte as usize + 1);
+            quoted_between(from, to, text)
+        }
         None => None,
     }
 }

@@ -28,7 +28,11 @@ pub fn terminal_of(token: &Token<'_>) -> Terminal
     }
 }
 
-fn terminals_of(alloc: Global, tokens: &Tokens<'_>) -> Result<Vec<Terminal>, AllocFailed<Terminal>>
+/// The terminals of the tokens, in order.
+pub fn terminals_of(
+    alloc: Global,
+    tokens: &Tokens<'_>,
+) -> Result<Vec<Terminal>, AllocFailed<Terminal>>
     ensures { IfOk result (λ terminals. terminals.items ≡ terminals_of tokens.now) }
 {
     let mut terminals = Vec::new(alloc);
@@ -67,7 +71,22 @@ pub fn check_syntax(alloc: Global, tokens: &Tokens<'_>) -> Result<(), SyntaxFaul
     ensures complete { IsAccepted grammar Definitions (terminals_of tokens.now) → IsOkUnless result Memory }
 {
     let terminals = terminals_of(alloc, tokens)?;
-    match read_definitions(alloc, &terminals) {
+    check_terminals(alloc, tokens, &terminals)
+}
+
+/// The same as [`check_syntax`], for a caller that has use for the terminals of the tokens itself: they
+/// are those of [`terminals_of`].
+pub fn check_terminals(
+    alloc: Global,
+    tokens: &Tokens<'_>,
+    terminals: &[Terminal],
+) -> Result<(), SyntaxFault>
+    requires { terminals.now ≡ terminals_of tokens.now }
+    ensures ok { OnOk result (IsAccepted grammar Definitions (terminals_of tokens.now)) }
+    ensures fault { IfErr result (λ e. (e ≡ Memory) ⊎ IsFaultOf tokens.now e) }
+    ensures complete { IsAccepted grammar Definitions (terminals_of tokens.now) → IsOkUnless result Memory }
+{
+    match read_definitions(alloc, terminals) {
         Ok(()) => Ok(()),
         Err(Fault::Syntax(number)) => Err(SyntaxFault::Syntax(place_of(tokens, number))),
         Err(Fault::TooDeep(number)) => Err(SyntaxFault::TooDeep(place_of(tokens, number))),
