@@ -1,5 +1,6 @@
 -- The tokens from one of them on.
-use Rattle.std.proofs.Common.{◌≡◌, ℕ, zero, suc, ◌+◌, ◌<◌, ◌≤◌, List, [], ◌∷◌, Some, None, length, length-drop, drop, refl, sym, ◌∙◌, ap, subst, arith, ltb, ltb-true, ltb-false, Bool, true, false}
+use Rattle.std.proofs.Common.{◌≡◌, ℕ, zero, suc, ◌+◌, ◌<◌, ◌≤◌, List, [], ◌∷◌, Some, None, length, length-drop, get_or, drop, refl, sym, ◌∙◌, ap, subst, arith, ltb, ltb-true, ltb-false, Bool, true, false}
+use Rattle.std.proofs.lemmas.List.{length-map}
 use Rattle.std.specs.Prelude.{slice_get, map}
 use Rattle.widl_predictive.specs.Predictive.{ahead}
 use Rattle.widl_lex.specs.Tokens.{Lexeme}
@@ -13,9 +14,6 @@ drop_at [] k l e = cc
 drop_at (m ∷ ls) zero l e = let h : m ≡ l = cc in (ls, ap (λ u. u ∷ ls) h)
 drop_at (m ∷ ls) (suc k) l e = drop_at ls k l e
 
-pub ahead_at : (ls : List Lexeme) (k : ℕ) (l : Lexeme) (t : Terminal) → slice_get ls k ≡ Some l → t ≡ terminal_of l → t ≡ terminal_ahead (drop k ls)
-ahead_at ls k l t e is = let d = drop_at ls k l e in is ∙ ap terminal_ahead (sym d.1)
-
 pub if_ahead : (ls whole : List Lexeme) (k : ℕ) (l : Lexeme) (P : Lexeme → Type 0) → slice_get ls k ≡ Some l → drop k ls ≡ whole → P l → IfAhead whole P
 if_ahead ls whole k l P e is h = let d = drop_at ls k l e in subst (λ w. IfAhead w P) (sym d.1 ∙ is) h
 
@@ -28,8 +26,23 @@ past (l ∷ ls) (suc k) le = past ls k (omega arith)
 pub if_ahead_none : (ls whole : List Lexeme) (k : ℕ) (P : Lexeme → Type 0) → length ls ≤ k → drop k ls ≡ whole → IfAhead whole P
 if_ahead_none ls whole k P le is = subst (λ w. IfAhead w P) (sym (past ls k le) ∙ is) tt
 
-pub ahead_none : (ls : List Lexeme) (k : ℕ) → length ls ≤ k → Other ≡ terminal_ahead (drop k ls)
+ahead_none : (ls : List Lexeme) (k : ℕ) → length ls ≤ k → Other ≡ terminal_ahead (drop k ls)
 ahead_none ls k le = ap terminal_ahead (sym (past ls k le))
+
+-- the terminal of that number, in the list of the terminals of the tokens
+within_tokens : (ls : List Lexeme) (k : ℕ) (d : Terminal) → k < length ls → get_or (map terminal_of ls) k d ≡ terminal_ahead (drop k ls)
+within_tokens [] k d lt = absurd (omega arith)
+within_tokens (l ∷ ls) zero d lt = refl
+within_tokens (l ∷ ls) (suc k) d lt = within_tokens ls k d (omega arith)
+
+as_many : (ts : List Terminal) (ls : List Lexeme) → ts ≡ map terminal_of ls → length ts ≡ length ls
+as_many ts ls e = ap length e ∙ length-map ls terminal_of
+
+pub terminal_within : (ts : List Terminal) (ls : List Lexeme) (k : ℕ) (d : Terminal) → ts ≡ map terminal_of ls → k < length ts → get_or ts k d ≡ terminal_ahead (drop k ls)
+terminal_within ts ls k d e lt = ap (λ x. get_or x k d) e ∙ within_tokens ls k d (omega (arith, lt, as_many ts ls e))
+
+pub terminal_past : (ts : List Terminal) (ls : List Lexeme) (k : ℕ) → ts ≡ map terminal_of ls → length ts ≤ k → Other ≡ terminal_ahead (drop k ls)
+terminal_past ts ls k e le = ahead_none ls k (omega (arith, le, as_many ts ls e))
 
 drop_one : (ls : List Lexeme) (k : ℕ) → drop (suc k) ls ≡ drop 1 (drop k ls)
 drop_one [] zero = refl

@@ -1,8 +1,8 @@
 -- Texts without the signs that stand around them.
-use Rattle.std.proofs.Common.{◌≡◌, ℕ, ◌-◌, ◌<◌, ◌≤◌, Bool, true, false, List, [], ◌∷◌, ◌++◌, length, get_or, take, drop, refl, sym, ◌∙◌, ap, subst, arith, lit<, length-append}
+use Rattle.std.proofs.Common.{◌≡◌, ℕ, suc, ◌-◌, ◌<◌, ◌≤◌, Bool, true, false, List, [], ◌∷◌, ◌++◌, length, get_or, take, drop, ◌+◌, refl, sym, ◌∙◌, ap, subst, arith, length-append, length-drop}
 use Rattle.std.specs.Prelude.{IsUtf8, not, nat_eq, unwrap_or}
-use Rattle.std.proofs.Math.Seq.{take-append_seam, get_or-append_seam}
-use Rattle.std.proofs.lemmas.Grind.{common_steps}
+use Rattle.std.proofs.Math.Seq.{get_or-append_seam}
+use Rattle.std.proofs.lemmas.Grind.{common_steps, get_or_after_one}
 use Rattle.std.proofs.lemmas.Str.{IsUtf8-drop, IsUtf8-take, IsCharBoundary-after_ascii, IsCharBoundary-before_ascii}
 use Rattle.widl_lex.specs.declared.token.TokenKind.{TokenKind}
 use Rattle.widl_lex.specs.declared.token.TokenKind.TheVariants as kind
@@ -27,17 +27,21 @@ all_left bytes = grind (arith, common_steps)
 pub behind_ascii : (bytes : List ℕ) → 1 ≤ length bytes → get_or bytes 0 0 < 128 → IsUtf8 bytes → IsUtf8 (take (length bytes - 1) (drop 1 bytes))
 behind_ascii bytes le lt u = subst IsUtf8 (sym (all_left bytes)) (IsUtf8-drop bytes 1 u (IsCharBoundary-after_ascii bytes 0 u (omega arith) lt))
 
-before_ascii : (b : ℕ) (bytes : List ℕ) → b < 128 → IsUtf8 (bytes ++ b ∷ []) → IsUtf8 bytes
-before_ascii b bytes lt u =
-    let below : length bytes < length (bytes ++ b ∷ []) = simp length-append (omega arith) in
-    let ascii : get_or (bytes ++ b ∷ []) (length bytes) 0 < 128 = subst (λ n. n < 128) (sym (get_or-append_seam bytes b [] 0)) lt in
-    subst IsUtf8 (take-append_seam bytes (b ∷ [])) (IsUtf8-take (bytes ++ b ∷ []) (length bytes) u (IsCharBoundary-before_ascii (bytes ++ b ∷ []) (length bytes) below ascii))
-
 -- a text between quotation marks
-pub inside_quotes : (inner : List ℕ) → IsUtf8 (quoted_bytes inner) → IsUtf8 inner
-inside_quotes inner u =
-    before_ascii 0x22 inner (lit< tt)
-    (IsUtf8-drop (quoted_bytes inner) 1 u (IsCharBoundary-after_ascii (quoted_bytes inner) 0 u (omega arith) (lit< tt)))
+pub between_quotes : (bytes : List ℕ) → 2 ≤ length bytes → get_or bytes 0 0 < 128 → get_or bytes (length bytes - 1) 0 < 128 → IsUtf8 bytes → IsUtf8 (take (length bytes - 1 - 1) (drop 1 bytes))
+between_quotes bytes le first last u =
+    let rest : IsUtf8 (drop 1 bytes) = IsUtf8-drop bytes 1 u (IsCharBoundary-after_ascii bytes 0 u (omega arith) first) in
+    let count : length (drop 1 bytes) ≡ length bytes - 1 = length-drop 1 bytes in
+    let place : 1 + (length bytes - 1 - 1) ≡ length bytes - 1 = omega (arith, le) in
+    let closes : get_or (drop 1 bytes) (length bytes - 1 - 1) 0 < 128 = subst (λ n. n < 128) (sym (get_or_after_one bytes (length bytes - 1 - 1) 0 ∙ ap (λ k. get_or bytes k 0) place)) last in
+    IsUtf8-take (drop 1 bytes) (length bytes - 1 - 1) rest (IsCharBoundary-before_ascii (drop 1 bytes) (length bytes - 1 - 1) (omega (arith, le, count)) closes)
+
+-- the marks of a text that stands between them
+pub marks : (bytes inner : List ℕ) → bytes ≡ quoted_bytes inner → (get_or bytes 0 0 ≡ 0x22) × (get_or bytes (length bytes - 1) 0 ≡ 0x22)
+marks bytes inner e =
+    let count : length (quoted_bytes inner) - 1 ≡ suc (length inner) = omega (arith, length-append inner (0x22 ∷ [])) in
+    let closes : get_or (quoted_bytes inner) (length (quoted_bytes inner) - 1) 0 ≡ 0x22 = ap (λ k. get_or (quoted_bytes inner) k 0) count ∙ get_or-append_seam inner 0x22 [] 0 in
+    (ap (λ w. get_or w 0 0) e, ap (λ w. get_or w (length w - 1) 0) e ∙ closes)
 
 -- no quoted terminal is a string
 abbrev is_no_string : List ℕ → Bool
@@ -70,11 +74,8 @@ by_kind kind.Text text p e =
 by_kind kind.Other text p e = cc
 
 -- the token ahead stands between quotation marks if it is a string
-pub quoted_ahead : (w : List Lexeme) (bytes inner text : List ℕ) → IfAhead w (λ l. bytes ≡ l.text) → IfAhead w (λ l. (file : ℕ) × IsSound file l) → IsUtf8 bytes → ((x : List ℕ) → bytes ≡ quoted_bytes x → inner ≡ x) → (IsUtf8 inner → text ≡ inner) → IfAhead w (λ l. terminal_of l ≡ String → quoted_bytes text ≡ l.text)
-quoted_ahead [] bytes inner text b s u cut copy = tt
-quoted_ahead (l ∷ v) bytes inner text b s u cut copy = λ e.
+pub quoted_ahead : (w : List Lexeme) (bytes inner text : List ℕ) → IfAhead w (λ l. bytes ≡ l.text) → IfAhead w (λ l. (file : ℕ) × IsSound file l) → ((x : List ℕ) → bytes ≡ quoted_bytes x → inner ≡ x) → text ≡ inner → IfAhead w (λ l. terminal_of l ≡ String → quoted_bytes text ≡ l.text)
+quoted_ahead [] bytes inner text b s cut copy = tt
+quoted_ahead (l ∷ v) bytes inner text b s cut copy = λ e.
     let q = by_kind l.kind l.text s.1.piece e in
-    let is : bytes ≡ quoted_bytes q.0 = b ∙ q.1 in
-    let same : inner ≡ q.0 = cut q.0 is in
-    let valid : IsUtf8 q.0 = inside_quotes q.0 (subst IsUtf8 is u) in
-    ap quoted_bytes (copy (subst IsUtf8 (sym same) valid) ∙ same) ∙ sym q.1
+    ap quoted_bytes (copy ∙ cut q.0 (b ∙ q.1)) ∙ sym q.1

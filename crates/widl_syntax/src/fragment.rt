@@ -11,7 +11,7 @@ ghost use Rattle.widl_syntax.specs.SpelledDefinitions.{fragment};
 
 use crate::build::Reader;
 use std::alloc::Global;
-use widl_grammar::{SyntaxFault, check_syntax};
+use widl_grammar::{SyntaxFault, check_terminals, terminals_of};
 use widl_idl::Fragment;
 use widl_lex::Tokens;
 
@@ -35,8 +35,9 @@ pub fn parse(alloc: Global, tokens: &Tokens<'_>) -> Result<Fragment, SyntaxFault
     ensures fault { IfErr result (λ e. (e ≡ Memory) ⊎ IsFaultOf tokens.now e) }
     ensures complete { IsAccepted grammar Definitions (terminals_of tokens.now) → IsOkUnless result Memory }
 {
-    match check_syntax(alloc, tokens) {
-        Ok(()) => match Reader::new(alloc, tokens).definitions() {
+    let terminals = terminals_of(alloc, tokens)?;
+    match check_terminals(alloc, tokens, &terminals) {
+        Ok(()) => match Reader::new(alloc, &*tokens, &terminals).definitions() {
             Ok(definitions) => Ok(Fragment {
                 file: tokens.file(),
                 token_count: tokens.len(),

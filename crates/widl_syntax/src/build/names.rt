@@ -12,9 +12,11 @@ use widl_idl::tree::{Name, SourceToken};
 
 /// A copy of the bytes of a token, which are UTF-8.
 fn owned(alloc: Global, text: &[u8]) -> Result<String, AllocError>
-    ensures { IfOk result (λ copy. IsUtf8 text.now → string_bytes copy ≡ text.now) }
+    requires { IsUtf8 text.now }
+    ensures { IfOk result (λ copy. string_bytes copy ≡ text.now) }
 {
-    String::from_utf8_lossy(alloc, text)
+    // The proof meets the `requires` of the call: the bytes need not be decoded again.
+    String::from_str(alloc, unsafe { std::str::from_utf8_unchecked(text) })
 }
 
 /// Whether a `_` stands before a name, and the name without it.
@@ -31,10 +33,11 @@ fn unescaped(text: &[u8]) -> (bool, &[u8])
 
 /// A text without its quotation marks.
 fn unquoted(text: &[u8]) -> &[u8]
-    ensures { (inner : List ℕ) → text.now ≡ quoted_bytes inner → result.now ≡ inner }
+    ensures bytes { (inner : List ℕ) → text.now ≡ quoted_bytes inner → result.now ≡ inner }
+    ensures utf8 { IsUtf8 text.now → IsUtf8 result.now }
 {
     match text {
-        [_, inner @ .., _] => inner,
+        [b'"', inner @ .., b'"'] => inner,
         _ => text,
     }
 }

@@ -1,14 +1,14 @@
 //! The tokens that are still to be read.
 
-ghost use Rattle.std.specs.Prelude.{◌≡◌, ◌≢◌, ◌≤◌, ◌-◌, ℕ, drop, length, MatchOption, IsUtf8, IsTrue, false, map};
+ghost use Rattle.std.specs.Prelude.{◌≡◌, ◌≢◌, ◌≤◌, ◌-◌, ℕ, List, drop, length, MatchOption, IsUtf8, IsTrue, false, map};
 ghost use Rattle.widl_predictive.specs.Predictive.{ahead};
-ghost use Rattle.widl_grammar.specs.Source.{terminal_of};
-ghost use Rattle.widl_lex.specs.Tokens.{lexeme_of, IsSound};
+ghost use Rattle.widl_grammar.specs.Source.{terminal_of, terminals_of};
+ghost use Rattle.widl_lex.specs.Tokens.{Lexeme, IsSound};
 ghost use Rattle.widl_syntax.specs.Reading.{terminal_ahead, IfAhead, IsTaken, IsTakenAs, IsPassedBy};
 
 use std::alloc::Global;
 use std::marker::Model;
-use widl_grammar::{Terminal, is_same, terminal_of};
+use widl_grammar::{Terminal, is_same};
 use widl_lex::Tokens;
 use widl_text::Place;
 
@@ -18,6 +18,8 @@ pub struct Reader<'t, 's> {
     /// Where the parts of the tree are put.
     alloc: Global,
     tokens: &'t Tokens<'s>,
+    /// The terminals that the tokens are.
+    terminals: &'t [Terminal],
     next: usize,
     ahead: Terminal,
 }
@@ -25,36 +27,39 @@ pub struct Reader<'t, 's> {
 impl<'t, 's> Model for Reader<'t, 's> {
     ghost use Rattle.std.specs.Prelude.{◌≡◌, List, drop};
     ghost use Rattle.widl_lex.specs.Tokens.{Lexeme};
+    ghost use Rattle.widl_grammar.specs.Source.{terminals_of};
     ghost use Rattle.widl_syntax.specs.Reading.{terminal_ahead};
 
     ghost Value = { List Lexeme };
 
     ghost view = { λ r. drop r.next r.tokens.now.lexemes };
 
-    ghost invariant = { λ r. r.ahead ≡ terminal_ahead (drop r.next r.tokens.now.lexemes) };
+    ghost invariant = { λ r. (r.terminals.now ≡ terminals_of r.tokens.now) × (r.ahead ≡ terminal_ahead (drop r.next r.tokens.now.lexemes)) };
 }
 
-/// The terminal of a token; [`Terminal::Other`] behind the last one.
-fn terminal_at(tokens: &Tokens<'_>, number: usize) -> Terminal
-    ensures { result ≡ terminal_ahead (drop number tokens.now.lexemes) }
+/// The terminal of that number; [`Terminal::Other`] behind the last one.
+fn terminal_at(terminals: &[Terminal], number: usize) -> Terminal
+    ensures { (tokens : List Lexeme) → terminals.now ≡ map terminal_of tokens → result ≡ terminal_ahead (drop number tokens) }
 {
-    if number < tokens.len() {
-        terminal_of(tokens.at(number))
+    if number < terminals.len() {
+        terminals[number]
     } else {
         Terminal::Other
     }
 }
 
 impl<'t, 's> Reader<'t, 's> {
-    /// All tokens of the file.
-    pub fn new(alloc: Global, tokens: &'t Tokens<'s>) -> Reader<'t, 's>
+    /// All tokens of the file, with the terminals that they are.
+    pub fn new(alloc: Global, tokens: &'t Tokens<'s>, terminals: &'t [Terminal]) -> Reader<'t, 's>
+        requires { terminals.now ≡ terminals_of tokens.now }
         ensures { result ≡ tokens.now.lexemes }
     {
         Reader {
             alloc,
             tokens,
+            terminals,
             next: 0,
-            ahead: terminal_at(tokens, 0),
+            ahead: terminal_at(terminals, 0),
         }
     }
 
@@ -129,7 +134,7 @@ impl<'t, 's> Reader<'t, 's> {
     {
         let at = self.at();
         self.next = self.next.saturating_add(1).min(self.tokens.len());
-        self.ahead = terminal_at(self.tokens, self.next);
+        self.ahead = terminal_at(self.terminals, self.next);
         at
     }
 

@@ -1,9 +1,9 @@
 use Rattle.std.proofs.Common.{arith}
-use Rattle.widl_syntax.proofs.Lexemes.{ahead_at, ahead_none}
+use Rattle.widl_syntax.proofs.Lexemes.{terminal_within, terminal_past}
 use Rattle.widl_syntax.proofs.build.reader.terminal_at.Goals as goal
 
-pub returns-then-number-len : goal.returns-then-number-len
-returns-then-number-len c = ahead_at c.args.tokens.now.lexemes c.args.number _ c.terminal_of.result c.at.ensures.token c.terminal_of.ensures
+pub returns-then-number-terminals : goal.returns-then-number-terminals
+returns-then-number-terminals c = λ ls e. terminal_within c.args.terminals.now ls c.args.number _ e c.if-number-terminals.true
 
-pub returns-else-number-len : goal.returns-else-number-len
-returns-else-number-len c = ahead_none c.args.tokens.now.lexemes c.args.number (omega arith)
+pub returns-else-number-terminals : goal.returns-else-number-terminals
+returns-else-number-terminals c = λ ls e. terminal_past c.args.terminals.now ls c.args.number e (omega (arith, c.if-number-terminals.false))
