@@ -51,7 +51,7 @@ module _ {X : Type 0} (p : X → Bool) where
   or_true true = refl
   or_true false = refl
 
-  item_any : (xs : List X) (x : X) → Contains xs x → p x ≡ true → list_any p xs ≡ true
+  pub item_any : (xs : List X) (x : X) → Contains xs x → p x ≡ true → list_any p xs ≡ true
   item_any [] x c h = absurd (let l = c.1 in omega arith)
   item_any (y ∷ xs) x c h = by_place c.0 c.1 c.2 (λ d. item_any xs x d h)
     where

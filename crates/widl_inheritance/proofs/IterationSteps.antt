@@ -1,7 +1,8 @@
 -- The rules on iterables within one interface, a member at a time.
 use Rattle.std.proofs.Common.{◌≡◌, ℕ, ◌+◌, ◌<◌, ◌≤◌, ◌++◌, Bool, true, false, ◌||◌, List, [], ◌∷◌, length, take, get_or, Option, None, arith, refl, sym, ap, subst, ◌∙◌, Bor}
-use Rattle.std.specs.List.{list_any}
+use Rattle.std.specs.List.{Contains, list_any}
 use Rattle.std.proofs.lemmas.List.{take_all}
+use Rattle.std.proofs.lemmas.Option.{get_or_from_slice_get}
 use Rattle.std.proofs.Math.Bool.{or-false}
 use Rattle.std.proofs.lemmas.List.Folds.{list_any-append}
 use Rattle.widl_idl.specs.declared.spot.Spot.{Spot}
@@ -11,6 +12,7 @@ use Rattle.widl_idl.specs.PlainTrees.{PlainMember, PlainMemberKind, IterableMemb
 use Rattle.widl_idl.proofs.Order.{least_same, one_place}
 use Rattle.widl_inheritance.specs.InterfaceMembers.{listed_members}
 use Rattle.widl_inheritance.specs.Iterations.{FollowsIterable, IsHiding, iterable_place, spot_if}
+use Rattle.widl_inheritance.proofs.Fits.{item_any}
 use Rattle.widl_names.proofs.Mapped.{all_somewhere, next_somewhere}
 use Rattle.widl_names.proofs.PlainLists.{mapped_more}
 use Rattle.widl_names.proofs.Pushed.{at_one_push}
@@ -86,3 +88,18 @@ hides_all named members i best end l =
     (λ s h. (h.breaks.0, record { item = h.item; listed = h.listed; breaks = h.breaks.1 }))
     (λ s h. record { item = h.1.item; listed = h.1.listed; breaks = (h.0, h.1.breaks) })
     (all_somewhere (λ (x : Bor Member). member_of x.now) members (listed_members members) refl (HidesHere named) i best end l)
+
+at_iterable : (kind : PlainMemberKind) (s : Spot) → AtIterable kind s → is_iterable kind ≡ true
+at_iterable (IterableMember i) s h = refl
+at_iterable kind s h = absurd h
+
+-- where no member is an iterable neither rule is broken
+module _ (members : List PlainMember) (none : has_iterable members ≡ false) where
+  not_iterable : (m : PlainMember) (s : Spot) → Contains members m → AtIterable m.kind s → ⊥
+  not_iterable m s listed h = let wrong : true ≡ false = sym (item_any (λ (x : PlainMember). is_iterable x.kind) members m listed (at_iterable m.kind s h)) ∙ none in (cc)
+
+  pub none_follows : (inherited : Bool) → LeastWhere (AtOne (FollowsIterable inherited) members) None
+  none_follows inherited = λ s u. not_iterable u.item s (u.index, u.below, get_or_from_slice_get members u.index u.item u.item u.is) u.breaks.1
+
+  pub none_hiding : (named : Bool) → LeastWhere (IsHiding named members) None
+  none_hiding named = λ s h. not_iterable h.1.item s h.1.listed h.1.breaks

@@ -6,14 +6,18 @@ use Rattle.widl_idl.specs.declared.tree.arguments.Argument.{Argument}
 use Rattle.widl_idl.specs.DefinitionTerms.{DefsTerm}
 use Rattle.widl_idl.specs.Least.{LeastWhere, lesser, spot_at}
 use Rattle.widl_idl.specs.PlainTrees.{PlainArgument, PlainArgumentKind, RequiredArgument, OptionalArgument, VariadicArgument, PlainDefinition, argument_of, arguments_of}
+use Rattle.widl_text.specs.declared.place.Place.{Place}
+use Rattle.widl_idl.specs.declared.tree.types.Container.TheVariants as container
+use Rattle.widl_idl.specs.PlainTypes.{PlainAttribute, PlainForm, PlainType, PlainAnnotated, PlainNamed, PlainContainer, PlainRecord, PlainUnion, plain_type, plain_annotated}
+use Rattle.widl_idl.specs.Resolution.{Note}
 use Rattle.widl_idl.specs.Terms.{TypeTerm}
-use Rattle.widl_idl.specs.WrittenTypes.{meaning_with}
+use Rattle.widl_idl.specs.WrittenTypes.{meaning_of_type, meaning_with}
 use Rattle.widl_idl.proofs.Order.{least_either, one_place}
 use Rattle.widl_overload.specs.ArgumentRules.{is_required}
 use Rattle.widl_overload.specs.DefaultRules.{HasNoDefault, LacksEmptyDefault, TakesNoMember, may_be_absent}
 use Rattle.widl_inheritance.specs.declared.tables.Tables.{Tables}
-use Rattle.widl_inheritance.specs.EmptyDefaults.{LacksHere, needs_default, takes_no_member}
-use Rattle.widl_inheritance.specs.Fitting.{KnowsRequired}
+use Rattle.widl_inheritance.specs.EmptyDefaults.{LacksHere, is_name_or_union, may_take_dictionary, needs_default, takes_no_member}
+use Rattle.widl_inheritance.specs.Fitting.{KnowsRequired, takes}
 use Rattle.widl_inheritance.proofs.Fits.{no_member_told}
 
 -- whether a call may leave out all of these arguments
@@ -107,6 +111,29 @@ module _ (list : DefsTerm) (definitions : List PlainDefinition) where
       (λ h. (tells.0 (sym whole ∙ h), needs))
       (λ h q. let f : true ≡ false = sym (tells.1 q.0) ∙ sym whole ∙ h in (cc))
       is
+
+  -- a type that is written neither as a name nor as a union is no dictionary
+  form_takes_none : (tables : Tables) (notes : List Note) (at : Place) (form : PlainForm) → is_name_or_union form ≡ false → takes_no_member tables (meaning_of_type definitions notes (plain_type at form None)) ≡ false
+  unfolding takes
+  form_takes_none tables notes at (PlainNamed name) e = absurd (cc)
+  form_takes_none tables notes at (PlainUnion members) e = absurd (cc)
+  form_takes_none tables notes at (PlainContainer container.Sequence (plain_annotated place attributes inner)) e = refl
+  form_takes_none tables notes at (PlainContainer kind (plain_annotated place attributes inner)) e = refl
+  form_takes_none tables notes at (PlainRecord key (plain_annotated place attributes inner)) e = refl
+  form_takes_none tables notes at form e = refl
+
+  type_takes_none : (tables : Tables) (notes : List Note) (t : PlainType) → may_take_dictionary t ≡ false → takes_no_member tables (meaning_of_type definitions notes t) ≡ false
+  type_takes_none tables notes (plain_type at form None) e = form_takes_none tables notes at form e
+  type_takes_none tables notes (plain_type at form (Some question)) e = refl
+
+  written_takes_none : (tables : Tables) (attributes : List PlainAttribute) (t : PlainAnnotated) (place : Place) (own : List PlainAttribute) (inner : PlainType) → t ≡ plain_annotated place own inner → may_take_dictionary inner ≡ false → takes_no_member tables (meaning_with definitions attributes t) ≡ false
+  written_takes_none tables attributes t place own inner is e = ap (λ x. takes_no_member tables (meaning_with definitions attributes x)) is ∙ type_takes_none tables _ inner e
+
+  -- an argument whose type takes no dictionary as it is written
+  pub lacking_other : (tables : Tables) → KnowsRequired list tables → (absent : Bool) (a : PlainArgument) (place : Place) (own : List PlainAttribute) (inner : PlainType) → a.ty ≡ plain_annotated place own inner → may_take_dictionary inner ≡ false → LeastWhere (LacksHere list definitions absent a) None
+  lacking_other tables told absent a place own inner is e = λ s h.
+      let taken : true ≡ false = sym ((no_member_told list tables told definitions (meaning_with definitions a.attributes a.ty)).1 h.0.0) ∙ written_takes_none tables a.attributes a.ty place own inner is e in
+      (cc)
 
   -- an argument that needs no default value
   pub lacking_nothing : (absent : Bool) (a : PlainArgument) → needs_default absent a.kind ≡ false → LeastWhere (LacksHere list definitions absent a) None

@@ -6,6 +6,7 @@ use Rattle.widl_idl.specs.declared.spot.Spot.{Spot}
 use Rattle.widl_idl.specs.DefinitionTerms.{DefsTerm}
 use Rattle.widl_idl.specs.Flattened.{flattened_member}
 use Rattle.widl_idl.specs.MergingRules.{IsAt}
+use Rattle.widl_idl.specs.PlainTypes.{PlainForm, PlainType, PlainNamed, PlainUnion, plain_type}
 use Rattle.widl_idl.specs.PlainTrees.{PlainArgument, PlainArgumentKind, RequiredArgument, OptionalArgument, VariadicArgument, PlainDefinition}
 use Rattle.widl_idl.specs.Terms.{TypeTerm, NullableType}
 use Rattle.widl_idl.specs.WrittenTypes.{meaning_with}
@@ -19,6 +20,17 @@ needs_default absent RequiredArgument = absent
 needs_default absent (OptionalArgument None) = true
 needs_default absent (OptionalArgument (Some default)) = false
 needs_default absent (VariadicArgument ellipsis) = false
+
+-- the forms in which a dictionary type, or a union with one, may be written
+abbrev pub is_name_or_union : PlainForm → Bool
+is_name_or_union (PlainNamed name) = true
+is_name_or_union (PlainUnion members) = true
+is_name_or_union form = false
+
+-- whether a type may take a dictionary, by its form and its `?` alone
+abbrev pub may_take_dictionary : PlainType → Bool
+may_take_dictionary (plain_type at form None) = is_name_or_union form
+may_take_dictionary (plain_type at form (Some question)) = false
 
 -- whether the empty dictionary is a value of a type that is not nullable
 abbrev pub takes_no_member : Tables → TypeTerm → Bool

@@ -5,8 +5,9 @@ ghost use Rattle.std.specs.Prelude.{◌≡◌, Bool, IfOk};
 ghost use Rattle.widl_idl.specs.DefinitionTerms.{DefsTerm, defs_term};
 ghost use Rattle.widl_idl.specs.Least.{LeastWhere, Somewhere};
 ghost use Rattle.widl_idl.specs.PlainTrees.{argument_kind_of, argument_of, arguments_of, plain_definitions};
+ghost use Rattle.widl_idl.specs.PlainTypes.{form_term, type_of};
 ghost use Rattle.widl_idl.specs.Terms.{type_term};
-ghost use Rattle.widl_inheritance.specs.EmptyDefaults.{LacksHere, needs_default, takes_no_member};
+ghost use Rattle.widl_inheritance.specs.EmptyDefaults.{LacksHere, is_name_or_union, may_take_dictionary, needs_default, takes_no_member};
 ghost use Rattle.widl_inheritance.specs.Fitting.{KnowsRequired};
 ghost use Rattle.widl_inheritance.specs.WrittenLists.{listed_arguments};
 ghost use Rattle.widl_names.specs.Listings.{listed_definitions};
@@ -17,7 +18,7 @@ use crate::call_lists::list_calls;
 use crate::fitting::any_takes;
 use crate::tables::Tables;
 use std::alloc::{AllocError, Global};
-use widl_idl::tree::{Argument, ArgumentKind, Definition};
+use widl_idl::tree::{Argument, ArgumentKind, Definition, TypeForm, WrittenType};
 use widl_idl::{Defs, IdlType, Literal, Spot, lesser_spot};
 use widl_names::Resolver;
 
@@ -85,7 +86,8 @@ fn lacking_in<'a>(
     Ok(best)
 }
 
-// The place of an argument's name, if it takes such a dictionary and needs a default value.
+// The place of an argument's name, if it takes such a dictionary and needs a default value. Most
+// arguments are of types that take none as they are written, and resolving a type is slow.
 fn lacking<'a>(
     alloc: Global,
     tables: &Tables<'_>,
@@ -97,6 +99,9 @@ fn lacking<'a>(
     ensures { IfOk result (λ found. (list : DefsTerm) → KnowsRequired list tables.now → LeastWhere (LacksHere list (plain_definitions resolver.now) absent (argument_of argument.now)) found) }
 {
     if !needs_default(absent, &argument.kind) {
+        return Ok(None);
+    }
+    if !may_take_dictionary(&argument.ty.ty) {
         return Ok(None);
     }
     let ty = resolver.resolve_with(alloc, steps, argument.attributes.as_slice(), &argument.ty)?;
@@ -125,6 +130,38 @@ fn is_required(kind: &ArgumentKind) -> bool
     match kind {
         ArgumentKind::Required => true,
         ArgumentKind::Optional(_) | ArgumentKind::Variadic(_) => false,
+    }
+}
+
+// Whether a type may be a dictionary, or a union with one, by the way in which it is written: as a name
+// or as a union, without a `?`.
+fn may_take_dictionary(ty: &WrittenType) -> bool
+    ensures { result ≡ may_take_dictionary (type_of ty.now) }
+{
+    match ty.question {
+        None => is_name_or_union(&ty.form),
+        Some(_) => false,
+    }
+}
+
+fn is_name_or_union(form: &TypeForm) -> bool
+    ensures { result ≡ is_name_or_union (form_term form.now) }
+{
+    match form {
+        TypeForm::Named(_) | TypeForm::Union(_) => true,
+        TypeForm::Any
+        | TypeForm::Undefined
+        | TypeForm::Boolean
+        | TypeForm::Object
+        | TypeForm::Symbol
+        | TypeForm::BigInt
+        | TypeForm::Integer(_)
+        | TypeForm::Float(_)
+        | TypeForm::Text(_)
+        | TypeForm::Buffer(_)
+        | TypeForm::Container(_, _)
+        | TypeForm::Record(_, _)
+        | TypeForm::Promise(_) => false,
     }
 }
 

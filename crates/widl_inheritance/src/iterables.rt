@@ -5,8 +5,8 @@
 ghost use Rattle.std.specs.Prelude.{◌≡◌, length, IfOk};
 ghost use Rattle.widl_idl.specs.Least.{LeastWhere, lesser};
 ghost use Rattle.widl_idl.specs.PlainTrees.{plain_definitions};
-ghost use Rattle.widl_inheritance.specs.Iterations.{BelowCount, HasSecondAt, HidesAt};
-ghost use Rattle.widl_overload.specs.IterableRules.{HasSecondIterable, HidesIterationMethod};
+ghost use Rattle.widl_inheritance.specs.Iterations.{BelowCount, HasSecondAt, HidesAt, TellsMembers};
+ghost use Rattle.widl_overload.specs.IterableRules.{HasSecondIterable, HidesIterationMethod, has_iterable};
 
 use crate::interface_lines::{InterfaceFlags, inherited_flags, own_flags};
 use crate::interface_members::interface_members;
@@ -54,7 +54,8 @@ fn find_in_interfaces<'a>(
     own: &InterfaceFlags,
     inherited: &InterfaceFlags,
 ) -> Result<IterableSpots, AllocError>
-    requires { parts.now ≡ meanings.now }
+    requires same { parts.now ≡ meanings.now }
+    requires told { TellsMembers has_iterable (plain_definitions meanings.now) own.now.iterable.items }
     ensures second { IfOk result (λ spots. LeastWhere (BelowCount (HasSecondAt (plain_definitions meanings.now) inherited.now.iterable.items) (length (plain_definitions meanings.now))) spots.second) }
     ensures hidden { IfOk result (λ spots. LeastWhere (BelowCount (HidesAt (plain_definitions meanings.now) own.now.named.items inherited.now.named.items) (length (plain_definitions meanings.now))) spots.hidden) }
 {
@@ -69,7 +70,8 @@ fn find_in_interfaces<'a>(
     Ok(best)
 }
 
-// The least places in the interface of this number.
+// The least places in the interface of this number. Few interfaces have an iterable, so the members of
+// the others aren't listed again.
 fn find_in_interface<'a>(
     alloc: Global,
     meanings: &Meanings<'_, 'a>,
@@ -78,10 +80,17 @@ fn find_in_interface<'a>(
     inherited: &InterfaceFlags,
     number: usize,
 ) -> Result<IterableSpots, AllocError>
-    requires { parts.now ≡ meanings.now }
+    requires same { parts.now ≡ meanings.now }
+    requires told { TellsMembers has_iterable (plain_definitions meanings.now) own.now.iterable.items }
     ensures second { IfOk result (λ spots. LeastWhere (HasSecondAt (plain_definitions meanings.now) inherited.now.iterable.items number) spots.second) }
     ensures hidden { IfOk result (λ spots. LeastWhere (HidesAt (plain_definitions meanings.now) own.now.named.items inherited.now.named.items number) spots.hidden) }
 {
+    if !flag_at(own.iterable.as_slice(), number) {
+        return Ok(IterableSpots {
+            second: None,
+            hidden: None,
+        });
+    }
     let members = interface_members(alloc, meanings, parts, number)?;
     let inherits = flag_at(inherited.iterable.as_slice(), number);
     let named = either_flag(own.named.as_slice(), inherited.named.as_slice(), number);

@@ -1,14 +1,28 @@
-use Rattle.std.proofs.Common.{◌≡◌, ◌||◌, false, slice_index_or, ap, subst, ◌∙◌}
+use Rattle.std.proofs.Common.{◌≡◌, ◌||◌, false, slice_index_or, sym, ap, subst, ◌∙◌}
 use Rattle.widl_idl.specs.Least.{AtOne, LeastWhere}
 use Rattle.widl_idl.specs.PlainTrees.{plain_definitions}
 use Rattle.widl_inheritance.specs.InterfaceMembers.{listed_members, members_at}
 use Rattle.widl_inheritance.specs.Iterations.{FollowsIterable, IsHiding}
+use Rattle.widl_inheritance.proofs.IterationSteps.{none_follows, none_hiding}
+use Rattle.widl_overload.specs.IterableRules.{has_iterable}
 use Rattle.widl_inheritance.proofs.iterables.find_in_interface.Goals as goal
+
+pub returns-then-not-flag_at-clause-second : goal.returns-then-not-flag_at-clause-second
+returns-then-not-flag_at-clause-second c =
+    let members = members_at (plain_definitions c.args.meanings.now) c.args.number in
+    let none : has_iterable members ≡ false = sym (c.requires.told.tells c.args.number) ∙ sym (ap (λ flags. slice_index_or flags c.args.number false) c.as_slice.ensures.value) ∙ sym c.if-not-flag_at.ensures in
+    none_follows members none (slice_index_or c.args.inherited.now.iterable.items c.args.number false)
+
+pub returns-then-not-flag_at-clause-hidden : goal.returns-then-not-flag_at-clause-hidden
+returns-then-not-flag_at-clause-hidden c =
+    let members = members_at (plain_definitions c.args.meanings.now) c.args.number in
+    let none : has_iterable members ≡ false = sym (c.requires.told.tells c.args.number) ∙ sym (ap (λ flags. slice_index_or flags c.args.number false) c.as_slice.ensures.value) ∙ sym c.if-not-flag_at.ensures in
+    none_hiding members none (slice_index_or c.args.own.now.named.items c.args.number false || slice_index_or c.args.inherited.now.named.items c.args.number false)
 
 pub returns-clause-second : goal.returns-clause-second
 returns-clause-second c =
     let members : listed_members c.deref.result.now ≡ members_at (plain_definitions c.args.meanings.now) c.args.number = ap listed_members c.deref.ensures.value ∙ c.in_ok-members.ensures in
-    let flag : c.flag_at-inherits.result ≡ slice_index_or c.args.inherited.now.iterable.items c.args.number false = c.flag_at-inherits.ensures ∙ ap (λ flags. slice_index_or flags c.args.number false) c.as_slice.ensures.value in
+    let flag : c.flag_at-inherits.result ≡ slice_index_or c.args.inherited.now.iterable.items c.args.number false = c.flag_at-inherits.ensures ∙ ap (λ flags. slice_index_or flags c.args.number false) c.as_slice-2.ensures.value in
     subst (λ ms. LeastWhere (AtOne (FollowsIterable (slice_index_or c.args.inherited.now.iterable.items c.args.number false)) ms) c.first_second_iterable.result) members
     (subst (λ b. LeastWhere (AtOne (FollowsIterable b) (listed_members c.deref.result.now)) c.first_second_iterable.result) flag c.first_second_iterable.ensures)
 
@@ -18,7 +32,7 @@ returns-clause-hidden c =
     let own = c.args.own.now.named.items in
     let inherited = c.args.inherited.now.named.items in
     let flag : c.either_flag-named.result ≡ (slice_index_or own c.args.number false || slice_index_or inherited c.args.number false)
-    = c.either_flag-named.ensures ∙ ap (λ flags. slice_index_or flags c.args.number false || slice_index_or c.as_slice-3.result.now c.args.number false) c.as_slice-2.ensures.value
-    ∙ ap (λ flags. slice_index_or own c.args.number false || slice_index_or flags c.args.number false) c.as_slice-3.ensures.value in
+    = c.either_flag-named.ensures ∙ ap (λ flags. slice_index_or flags c.args.number false || slice_index_or c.as_slice-4.result.now c.args.number false) c.as_slice-3.ensures.value
+    ∙ ap (λ flags. slice_index_or own c.args.number false || slice_index_or flags c.args.number false) c.as_slice-4.ensures.value in
     subst (λ ms. LeastWhere (IsHiding (slice_index_or own c.args.number false || slice_index_or inherited c.args.number false) ms) c.first_hiding_iterable.result) members
     (subst (λ b. LeastWhere (IsHiding b (listed_members c.deref-2.result.now)) c.first_hiding_iterable.result) flag c.first_hiding_iterable.ensures)
