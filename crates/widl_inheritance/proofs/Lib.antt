@@ -1,6 +1,7 @@
 pub mod KeptValues
 pub mod Inherited
 pub mod Fits
+pub mod WrittenFits
 pub mod Lacking
 pub mod HoldingNodes
 pub mod HoldingSteps

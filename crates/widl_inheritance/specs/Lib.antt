@@ -3,6 +3,7 @@ pub mod WrittenDefaults
 pub mod ChoiceValues
 pub mod Required
 pub mod Fitting
+pub mod WrittenFitting
 pub mod EmptyDefaults
 pub mod HoldingGraph
 pub mod ChainLengths

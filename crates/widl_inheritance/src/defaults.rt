@@ -12,6 +12,7 @@ ghost use Rattle.widl_overload.specs.DefaultRules.{HasOtherDefault, IsOtherDefau
 use crate::defaulted::{Defaulted, list_defaults};
 use crate::fitting::fits;
 use crate::tables::Tables;
+use crate::written_fitting::fits_as_written;
 use std::alloc::{AllocError, Global};
 use widl_idl::tree::Definition;
 use widl_idl::{Defs, Spot, lesser_spot};
@@ -57,7 +58,8 @@ fn first_other<'a>(
     Ok(best)
 }
 
-// The place of a default value, if it doesn't fit its type.
+// The place of a default value, if it doesn't fit its type. Most fit as they are written, and resolving a
+// type is slow.
 fn other_default<'a>(
     alloc: Global,
     tables: &Tables<'_>,
@@ -67,6 +69,9 @@ fn other_default<'a>(
 ) -> Result<Option<Spot>, AllocError>
     ensures { IfOk result (λ found. (list : DefsTerm) → Knows list tables.now → LeastWhere (IsOtherDefault list (plain_definitions resolver.now) (defaulted_of defaulted.now)) found) }
 {
+    if fits_as_written(&defaulted.ty.ty, &defaulted.value.value) {
+        return Ok(None);
+    }
     let attributes = defaulted.attributes.as_slice();
     let ty = resolver.resolve_with(alloc, steps, attributes, defaulted.ty)?;
     if fits(alloc, tables, steps, &ty, &defaulted.value.value)? {

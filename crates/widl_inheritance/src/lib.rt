@@ -25,6 +25,7 @@ mod required_members;
 mod span_walk;
 mod spans;
 mod tables;
+mod written_fitting;
 
 pub use defaults::first_other_default;
 pub use empty_defaults::first_without_empty_default;
