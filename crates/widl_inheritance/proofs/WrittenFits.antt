@@ -1,6 +1,7 @@
 -- A default value that fits its type as both are written fits what the type means.
-use Rattle.std.proofs.Common.{◌≡◌, Bool, true, false, ◌&&◌, ◌||◌, List, Option, None, Some, refl, sym, ap, ◌∙◌}
+use Rattle.std.proofs.Common.{◌≡◌, true, ◌&&◌, ◌||◌, List, Option, None, Some, refl, sym, ap, ◌∙◌}
 use Rattle.std.specs.List.{list_any}
+use Rattle.std.proofs.Math.Bool.{or-true}
 use Rattle.widl_text.specs.declared.place.Place.{Place}
 use Rattle.widl_idl.specs.declared.text_kind.TextKind.TheVariants as texts
 use Rattle.widl_idl.specs.declared.tree.types.Container.TheVariants as container
@@ -17,10 +18,6 @@ use Rattle.widl_inheritance.specs.Fitting.{Knows, fits_if, literal_if, null_if, 
 use Rattle.widl_inheritance.specs.WrittenFitting.{fits_as_written, is_value_of_form}
 use Rattle.widl_inheritance.proofs.Fits.{other_here}
 
-or_true : (b : Bool) → (b || true) ≡ true
-or_true true = refl
-or_true false = refl
-
 module _ (tables : Tables) (definitions : List PlainDefinition) (notes : List Note) where
   form_fits : (at : Place) (form : PlainForm) (value : PlainValue) → is_value_of_form form value ≡ true → list_any (takes_if tables (literal_if value)) (flattened_member (meaning_of_type definitions notes (plain_type at form None))) ≡ true
   unfolding takes
@@ -36,10 +33,10 @@ module _ (tables : Tables) (definitions : List PlainDefinition) (notes : List No
 
   type_fits : (t : PlainType) (value : PlainValue) → fits_as_written t value ≡ true → fits_if tables (literal_if value) (meaning_of_type definitions notes t) ≡ true
   type_fits (plain_type at form (Some question)) NullValue e = refl
-  type_fits (plain_type at form (Some question)) value e = ap (λ b. (null_if (literal_if value) && true) || b) (form_fits at form value e) ∙ or_true (null_if (literal_if value) && true)
+  type_fits (plain_type at form (Some question)) value e = ap (λ b. (null_if (literal_if value) && true) || b) (form_fits at form value e) ∙ or-true (null_if (literal_if value) && true)
   type_fits (plain_type at form None) value e =
       let includes = includes_nullable_type (meaning_of_type definitions notes (plain_type at form None)) in
-      ap (λ b. (null_if (literal_if value) && includes) || b) (form_fits at form value e) ∙ or_true (null_if (literal_if value) && includes)
+      ap (λ b. (null_if (literal_if value) && includes) || b) (form_fits at form value e) ∙ or-true (null_if (literal_if value) && includes)
 
 annotated_fits : (tables : Tables) (definitions : List PlainDefinition) (attributes : List PlainAttribute) (t : PlainAnnotated) (place : Place) (own : List PlainAttribute) (inner : PlainType) (value : PlainValue) → t ≡ plain_annotated place own inner → fits_as_written inner value ≡ true → fits_if tables (literal_if value) (meaning_with definitions attributes t) ≡ true
 annotated_fits tables definitions attributes t place own inner value is e = ap (λ x. fits_if tables (literal_if value) (meaning_with definitions attributes x)) is ∙ type_fits tables definitions _ inner value e
