@@ -7,12 +7,14 @@ use Rattle.widl_predictive.specs.Grammar.{Grammar}
 use Rattle.widl_predictive.specs.Lookahead as look
 use Rattle.widl_predictive.specs.Lookahead.{Sets, nth, IsPredictive}
 use Rattle.widl_predictive.specs.Machine as machine
-use Rattle.widl_predictive.specs.Machine.{IsSettled, WantsOther, same, more}
+use Rattle.widl_predictive.specs.declared.machine.Top.{Top}
+use Rattle.widl_predictive.specs.declared.machine.Top.TheVariants.{Wanted, Open, Nothing}
+use Rattle.widl_predictive.specs.Machine.{topped, same, more}
 use Rattle.widl_predictive.specs.Predictive as theory
 use Rattle.widl_predictive.proofs.Theory
 use Rattle.widl_predictive.specs.Predictive.{ahead, is_end}
 use Rattle.widl_predictive.proofs.Booleans.{or_cases, or_left, or_right}
-use Rattle.widl_predictive.proofs.Steps.{or-none, or-assoc}
+use Rattle.widl_predictive.proofs.Steps.{or-none, or-assoc, rows_at-none}
 
 module _ {T R : Type 0} (g : Grammar T R) (sets : Sets T R) (owed : IsPredictive g sets) (begun : R) where
   abbrev Leveled : Type 0
@@ -63,11 +65,8 @@ module _ {T R : Type 0} (g : Grammar T R) (sets : Sets T R) (owed : IsPredictive
   abbrev Unfolds : Option T → List (Symbol T Leveled) → List (Symbol T Leveled) → Bool → Type 0
   Unfolds = machine.Unfolds g sets
 
-  abbrev IsStuck : Option T → List (Symbol T Leveled) → Type 0
-  IsStuck = machine.IsStuck g sets
-
-  abbrev Reached : Option T → Bool → List (Symbol T Leveled) → Type 0
-  Reached = machine.Reached g sets
+  abbrev EndsAt : Option T → Top T R → Type 0
+  EndsAt = machine.EndsAt g sets
 
   abbrev predictive : theory.Predictive is nullable first follow rows pick
   predictive = owed.theory
@@ -156,13 +155,12 @@ module _ {T R : Type 0} (g : Grammar T R) (sets : Sets T R) (owed : IsPredictive
   pub Refuses : Option T → List (Symbol T Leveled) → Type 0
   Refuses l s = (v : List T) → ahead v ≡ l → Derives rows s v → ⊥
 
-  pub stuck_refuses : (l : Option T) (s : List (Symbol T Leveled)) → theory.Keeps is nullable first follow s is_end → IsStuck l s → Refuses l s
+  stuck_refuses : (l : Option T) (r : R) (v : ℕ) (s : List (Symbol T Leveled)) → theory.Keeps is nullable first follow (Nonterminal (r, v) ∷ s) is_end → look.choice g sets r l ≡ None → Refuses l (Nonterminal (r, v) ∷ s)
   unfolding Refuses
-  stuck_refuses l [] k h = absurd h
-  stuck_refuses l (Terminal t ∷ s) k h = absurd h
-  stuck_refuses l (Nonterminal n ∷ s) k h = λ v e d.
-      let r = Theory.determined is nullable first follow rows pick predictive n s v k d in
-      let q : pick n l ≡ Some r.0 = subst (λ x. pick n x ≡ Some r.0) e r.1 in
+  stuck_refuses l r v s k h = λ x e d.
+      let n = Theory.determined is nullable first follow rows pick predictive (r, v) s x k d in
+      let q : pick (r, v) l ≡ Some n.0 = subst (λ y. pick (r, v) y ≡ Some n.0) e n.1 in
+      let none : pick (r, v) l ≡ None = rows_at-none g v (g.rows r) (sets.picked r l) h in
       cc
 
   derives_none : {v : List T} → Derives rows [] v → v ≡ []
@@ -171,23 +169,25 @@ module _ {T R : Type 0} (g : Grammar T R) (sets : Sets T R) (owed : IsPredictive
   derives_term : {t : T} {s : List (Symbol T Leveled)} {v : List T} → Derives rows (Terminal t ∷ s) v → (u : List T) × (v ≡ t ∷ u) × Derives rows s u
   derives_term (token d) = (_, refl, d)
 
-  pub empty_refuses : (x : T) → Refuses (Some x) []
+  empty_refuses : (x : T) → Refuses (Some x) []
   unfolding Refuses
   empty_refuses x v e d = let z = derives_none d in let y : ahead {T = T} [] ≡ Some x = subst (λ u. ahead u ≡ Some x) z e in cc
 
-  pub wanted_refuses : (t : T) (l : Option T) (s : List (Symbol T Leveled)) → Some t ≢ l → Refuses l (Terminal t ∷ s)
+  wanted_refuses : (t : T) (l : Option T) (s : List (Symbol T Leveled)) → Some t ≢ l → Refuses l (Terminal t ∷ s)
   unfolding Refuses
   wanted_refuses t l s ne v e d = let u = derives_term d in ne (sym (ap ahead u.1) ∙ e)
 
-  pub other_refuses : (x : T) (s : List (Symbol T Leveled)) → WantsOther x s → Refuses (Some x) s
-  other_refuses x [] h = empty_refuses x
-  other_refuses x (Terminal t ∷ s) h = wanted_refuses t (Some x) s (λ e. h (let f : t ≡ x = cc in f))
-  other_refuses x (Nonterminal n ∷ s) h = absurd h
+  -- what was taken from the top of the stack is not the token ahead
+  unwanted_refuses : (l : Option T) (x : T) (top : Top T R) (z : List (Symbol T Leveled)) → theory.Keeps is nullable first follow (topped top z) is_end → EndsAt l top → l ≡ Some x → top ≢ Wanted x → Refuses l (topped top z)
+  unwanted_refuses l x (Wanted t) z k h e ne = wanted_refuses t l z (λ q. ne (let f : t ≡ x = cc in ap Wanted f))
+  unwanted_refuses l x (Open r v) z k h e ne = stuck_refuses l r v z k h
+  unwanted_refuses l x Nothing z k h e ne = subst (λ y. Refuses y []) (sym e) (empty_refuses x)
 
-  pub end_refuses : (s : List (Symbol T Leveled)) → IsSettled s → s ≢ [] → Refuses None s
-  end_refuses [] h ne = absurd (ne refl)
-  end_refuses (Terminal t ∷ s) h ne = wanted_refuses t None s (λ e. cc)
-  end_refuses (Nonterminal n ∷ s) h ne = absurd h
+  -- something is left at the end
+  left_refuses : (l : Option T) (top : Top T R) (z : List (Symbol T Leveled)) → theory.Keeps is nullable first follow (topped top z) is_end → EndsAt l top → l ≡ None → top ≢ Nothing → Refuses l (topped top z)
+  left_refuses l (Wanted t) z k h e ne = wanted_refuses t l z (λ q. cc)
+  left_refuses l (Open r v) z k h e ne = stuck_refuses l r v z k h
+  left_refuses l Nothing z k h e ne = absurd (ne refl)
 
   -- the token list, cut at its token k
   pub take_more : (w : List T) (k : ℕ) (d : T) (v : List T) → k < length w → take (suc k) w ++ v ≡ take k w ++ get_or w k d ∷ v
@@ -288,12 +288,6 @@ module _ {T R : Type 0} (g : Grammar T R) (sets : Sets T R) (owed : IsPredictive
   pub accepted : (w : List T) (s : List (Symbol T Leveled)) (b : Bool) → s ≡ [] → Ahead w (length w) s None b → Sentence w
   accepted w s b e a = subst Sentence (append-nil (take (length w) w) ∙ take_all w) (a.back [] (subst (λ x. Derives rows x []) (sym e) done)).0
 
-  reached_false : (l : Option T) (c : Bool) (t : List (Symbol T Leveled)) → c ≡ false → Reached l c t → IsStuck l t
-  reached_false l c t e h = subst (λ x. Reached l x t) e h
-
-  reached_true : (l : Option T) (c : Bool) (t : List (Symbol T Leveled)) → c ≡ true → Reached l c t → IsSettled t
-  reached_true l c t e h = subst (λ x. Reached l x t) e h
-
   pub no_deep_more : (w : List T) (k : ℕ) → NoDeepBelow w k → (DeepAt w k → ⊥) → NoDeepBelow w (k + 1)
   no_deep_more w k below here j lt deep = go (ltb j k) refl
     where
@@ -310,35 +304,32 @@ module _ {T R : Type 0} (g : Grammar T R) (sets : Sets T R) (owed : IsPredictive
   kept_start may w = record { between = begin may w; no_deep = λ j lt. absurd (omega arith) }
 
   -- the machine's answers
-  module _ (w : List T) (k : ℕ) (s t : List (Symbol T Leveled)) (l : Option T) (b : Bool) (kept : Kept w k s) (u : Unfolds l s t b) (is_ahead : l ≡ ahead_at w k) (le : k ≤ length w) where
-    now : Ahead w k t l b
+  module _ (w : List T) (k : ℕ) (s z : List (Symbol T Leveled)) (top : Top T R) (l : Option T) (b : Bool) (kept : Kept w k s) (u : Unfolds l s (topped top z) b) (is_ahead : l ≡ ahead_at w k) (le : k ≤ length w) where
+    now : Ahead w k (topped top z) l b
     now = unfolded u (looking kept.between l)
 
-    pub stuck_fault : (c : Bool) → c ≡ false → Reached l c t → SyntaxPlace w k × NoDeepBelow w k
-    stuck_fault c e h = (fault_at w k t l b now le is_ahead (stuck_refuses l t now.keeps (reached_false l c t e h)), kept.no_deep)
+    pub unwanted_fault : (x : T) → EndsAt l top → l ≡ Some x → top ≢ Wanted x → SyntaxPlace w k × NoDeepBelow w k
+    unwanted_fault x ends e ne = (fault_at w k (topped top z) l b now le is_ahead (unwanted_refuses l x top z now.keeps ends e ne), kept.no_deep)
 
-    pub other_fault : (x : T) (z : List (Symbol T Leveled)) → l ≡ Some x → z ≡ t → WantsOther x z → SyntaxPlace w k × NoDeepBelow w k
-    other_fault x z e same_stack h = (fault_at w k t l b now le is_ahead (subst (λ y. Refuses y t) (sym e) (other_refuses x t (subst (WantsOther x) same_stack h))), kept.no_deep)
+    pub left_fault : EndsAt l top → l ≡ None → top ≢ Nothing → SyntaxPlace w k × NoDeepBelow w k
+    left_fault ends e ne = (fault_at w k (topped top z) l b now le is_ahead (left_refuses l top z now.keeps ends e ne), kept.no_deep)
 
-    pub end_fault : (c : Bool) → l ≡ None → c ≡ true → Reached l c t → t ≢ [] → SyntaxPlace w k × NoDeepBelow w k
-    end_fault c e settled h ne = (fault_at w k t l b now le is_ahead (subst (λ y. Refuses y t) (sym e) (end_refuses t (reached_true l c t settled h) ne)), kept.no_deep)
+    module _ (d : T) (lt : k < length w) (e : l ≡ Some (get_or w k d)) (is_wanted : top ≡ Wanted (get_or w k d)) where
+      wanted : Ahead w k (Terminal (get_or w k d) ∷ z) (Some (get_or w k d)) b
+      wanted = subst (λ x. Ahead w k (topped x z) (Some (get_or w k d)) b) is_wanted (subst (λ y. Ahead w k (topped top z) y b) e now)
 
-    module _ (d : T) (lt : k < length w) (e : l ≡ Some (get_or w k d)) (z r : List (Symbol T Leveled)) (same_stack : z ≡ t) (top : z ≡ Terminal (get_or w k d) ∷ r) where
-      wanted : Ahead w k (Terminal (get_or w k d) ∷ r) (Some (get_or w k d)) b
-      wanted = subst (λ x. Ahead w k x (Some (get_or w k d)) b) (sym same_stack ∙ top) (subst (λ y. Ahead w k t y b) e now)
-
-      pub next_kept : b ≡ false → Kept w (k + 1) r
+      pub next_kept : b ≡ false → Kept w (k + 1) z
       next_kept off = record {
-        between = taken w k (get_or w k d) r b lt (cut_at w k d lt) wanted;
-        no_deep = no_deep_more w k kept.no_deep (clear_at w k (get_or w k d) r b lt (cut_at w k d lt) wanted off);
+        between = taken w k (get_or w k d) z b lt (cut_at w k d lt) wanted;
+        no_deep = no_deep_more w k kept.no_deep (clear_at w k (get_or w k d) z b lt (cut_at w k d lt) wanted off);
       }
 
       pub deep_fault : b ≡ true → DeepPlace w k
-      deep_fault on = record { within = lt; deep = deep_at w k (get_or w k d) r b lt (cut_at w k d lt) wanted on; least = kept.no_deep }
+      deep_fault on = record { within = lt; deep = deep_at w k (get_or w k d) z b lt (cut_at w k d lt) wanted on; least = kept.no_deep }
 
-    pub sentence_of : k ≡ length w → l ≡ None → t ≡ [] → gr.IsAccepted g begun w
-    sentence_of e n z = record {
-      sentence = accepted w t b z (subst (λ x. Ahead w x t None b) e (subst (λ y. Ahead w k t y b) n now));
+    pub sentence_of : k ≡ length w → l ≡ None → top ≡ Nothing → gr.IsAccepted g begun w
+    sentence_of e n none = record {
+      sentence = accepted w (topped top z) b (ap (λ x. topped x z) none) (subst (λ x. Ahead w x (topped top z) None b) e (subst (λ y. Ahead w k (topped top z) y b) n now));
       no_deep = λ j p. subst (NoDeepBelow w) e kept.no_deep j p.within p.deep;
     }
 

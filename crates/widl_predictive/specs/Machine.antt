@@ -1,7 +1,9 @@
 -- The machine's stack, and what its steps do.
-use Rattle.std.specs.Prelude.{◌≡◌, ◌≢◌, ℕ, ◌<◌, ◌||◌, Option, Some, None, List, [], ◌∷◌, ◌++◌, Bool, true, false}
+use Rattle.std.specs.Prelude.{◌≡◌, ℕ, ◌<◌, ◌||◌, Option, Some, None, List, [], ◌∷◌, ◌++◌, Bool, false}
 use Rattle.widl_predictive.specs.declared.machine.Frame.{Frame}
 use Rattle.widl_predictive.specs.declared.machine.Frame.TheVariants.{Wanted, Open}
+use Rattle.widl_predictive.specs.declared.machine.Top.{Top}
+use Rattle.widl_predictive.specs.declared.machine.Top.TheVariants as top
 use Rattle.widl_predictive.specs.declared.fault.Fault.{Fault}
 use Rattle.widl_predictive.specs.declared.fault.Fault.TheVariants.{Syntax, TooDeep, Memory}
 use Rattle.widl_predictive.specs.Derivation.{Symbol, Terminal, Nonterminal}
@@ -23,17 +25,11 @@ stack_on (f ∷ more) s = stack_on more (symbol_of f ∷ s)
 abbrev pub stack_of : {T R : Type 0} → List (Frame T R) → List (Symbol T (Leveled R))
 stack_of frames = stack_on frames []
 
--- no rule stands on top
-abbrev pub IsSettled : {T R : Type 0} → List (Symbol T (Leveled R)) → Type 0
-IsSettled [] = Unit {0}
-IsSettled (Terminal t ∷ s) = Unit {0}
-IsSettled (Nonterminal n ∷ s) = ⊥
-
--- another token is wanted, or none
-abbrev pub WantsOther : {T R : Type 0} → T → List (Symbol T (Leveled R)) → Type 0
-WantsOther x [] = Unit {0}
-WantsOther x (Terminal t ∷ s) = t ≢ x
-WantsOther x (Nonterminal n ∷ s) = ⊥
+-- the stack that what was taken from its top makes with the rest; where there was nothing to be taken it is empty
+abbrev pub topped : {T R : Type 0} → Top T R → List (Symbol T (Leveled R)) → List (Symbol T (Leveled R))
+topped (top.Wanted t) s = Terminal t ∷ s
+topped (top.Open r l) s = Nonterminal (r, l) ∷ s
+topped top.Nothing s = []
 
 module _ {T R : Type 0} (g : Grammar T R) (s : Sets T R) where
   -- one stack comes from another by rows that what is ahead picks; the flag tells whether a level that is too deep was among them
@@ -41,16 +37,11 @@ module _ {T R : Type 0} (g : Grammar T R) (s : Sets T R) where
     same : {z : List (Symbol T (Leveled R))} → Unfolds l z z false
     more : {n : Leveled R} {z t : List (Symbol T (Leveled R))} {b : Bool} (α : List (Symbol T (Leveled R))) → look.pick g s n l ≡ Some α → Unfolds l (α ++ z) t b → Unfolds l (Nonterminal n ∷ z) t (gr.is_deep g n || b)
 
-  -- a rule stands on top for which what is ahead picks no row
-  abbrev pub IsStuck : Option T → List (Symbol T (Leveled R)) → Type 0
-  IsStuck l [] = ⊥
-  IsStuck l (Terminal t ∷ z) = ⊥
-  IsStuck l (Nonterminal n ∷ z) = look.pick g s n l ≡ None
-
-  -- where the rows end: settled or stuck
-  abbrev pub Reached : Option T → Bool → List (Symbol T (Leveled R)) → Type 0
-  Reached l true z = IsSettled z
-  Reached l false z = IsStuck l z
+  -- where the rows end: a token is wanted, nothing is left, or what is ahead picks no row of the rule on top
+  abbrev pub EndsAt : Option T → Top T R → Type 0
+  EndsAt l (top.Wanted t) = Unit {0}
+  EndsAt l (top.Open r v) = look.choice g s r l ≡ None
+  EndsAt l top.Nothing = Unit {0}
 
 -- no level that is too deep begins below place k
 module _ {T R : Type 0} (g : Grammar T R) where

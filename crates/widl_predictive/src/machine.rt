@@ -2,10 +2,10 @@
 //! the token ahead picks, until a token is wanted there. The stack is on the heap, so the nesting of
 //! a text is bounded by memory alone.
 
-ghost use Rattle.std.specs.Prelude.{◌≡◌, ◌++◌, ◌∷◌, ◌⊎◌, true, false, List, ◌||◌, IfOk, IfErr, OnOk, IsOkUnless, IsTrue};
-ghost use Rattle.widl_predictive.specs.Derivation.{Symbol as StackSymbol, Terminal};
+ghost use Rattle.std.specs.Prelude.{◌≡◌, ◌≢◌, ◌++◌, ◌∷◌, ◌⊎◌, true, List, ◌||◌, IfOk, IfErr, MatchBool, OnOk, IsOkUnless};
+ghost use Rattle.widl_predictive.specs.Derivation.{Symbol as StackSymbol};
 ghost use Rattle.widl_predictive.specs.Grammar.{row_at, at_level, Leveled, is_deep, next_level, IsAccepted, IsFault};
-ghost use Rattle.widl_predictive.specs.Machine.{stack_of, symbol_of, IsSettled, WantsOther, Unfolds, Reached, IsFound};
+ghost use Rattle.widl_predictive.specs.Machine.{stack_of, symbol_of, topped, Unfolds, EndsAt, IsFound};
 ghost use Rattle.widl_predictive.specs.Runs.{left_of, Takes};
 
 use crate::{Fault, Rule, Symbol};
@@ -20,12 +20,23 @@ pub enum Frame<T, R> {
     Open(R, u8),
 }
 
-/// How [`unfold`] left the stack.
+/// What was on top of the stack, and is taken from it.
 #[derive(Clone, Copy, Debug)]
-pub struct Unfolded {
-    /// Whether a token is wanted on top of the stack, or nothing is left. Otherwise no row of the rule
-    /// on top may stand before what is ahead.
-    pub settled: bool,
+pub enum Top<T, R> {
+    /// A token.
+    Wanted(T),
+    /// What the rule derives at the level.
+    Open(R, u8),
+    /// Nothing: the stack is empty.
+    Nothing,
+}
+
+/// What [`unfold`] came to.
+#[derive(Clone, Copy, Debug)]
+pub struct Unfolded<T, R> {
+    /// The token that is wanted, or nothing. A rule where none of its rows may stand before what is
+    /// ahead.
+    pub top: Top<T, R>,
     /// Whether one of the rules that were replaced began a level that is too deep.
     pub deep: bool,
 }
@@ -50,7 +61,25 @@ fn frame_of<R: Rule>(symbol: Symbol<R::Terminal, R>, level: u8) -> Frame<R::Term
     }
 }
 
-/// Puts the row's symbols on the stack, the first on top.
+fn top_of<R: Rule>(frame: Frame<R::Terminal, R>) -> Top<R::Terminal, R>
+    ensures { (s : List (StackSymbol R.Terminal (Leveled R))) → topped result s ≡ symbol_of frame ∷ s }
+{
+    match frame {
+        Frame::Wanted(terminal) => Top::Wanted(terminal),
+        Frame::Open(rule, level) => Top::Open(rule, level),
+    }
+}
+
+fn take_top<R: Rule>(stack: &mut Vec<Frame<R::Terminal, R>>) -> Top<R::Terminal, R>
+    ensures { topped result (stack_of stack.new.items) ≡ stack_of stack.old.items }
+{
+    match stack.pop() {
+        Some(frame) => top_of::<R>(frame),
+        None => Top::Nothing,
+    }
+}
+
+/// Puts the symbols on the stack, the first on top.
 fn push_row<R: Rule>(
     stack: &mut Vec<Frame<R::Terminal, R>>,
     row: &[Symbol<R::Terminal, R>],
@@ -66,10 +95,28 @@ fn push_row<R: Rule>(
     Ok(())
 }
 
+/// Puts the row on the stack and takes what is then on top. A row's first symbol need not go over the
+/// stack for that.
+fn enter_row<R: Rule>(
+    stack: &mut Vec<Frame<R::Terminal, R>>,
+    row: &[Symbol<R::Terminal, R>],
+    level: u8,
+) -> Result<Top<R::Terminal, R>, AllocError>
+    ensures { IfOk result (λ top. topped top (stack_of stack.new.items) ≡ row_at R.grammar level row.now ++ stack_of stack.old.items) }
+{
+    match row.split_first() {
+        None => Ok(take_top::<R>(stack)),
+        Some((first, others)) => {
+            push_row::<R>(stack, others, level)?;
+            Ok(top_of::<R>(frame_of::<R>(*first, level)))
+        }
+    }
+}
+
 fn is_deep<R: Rule>(rule: R, level: u8) -> bool
     ensures { result ≡ is_deep R.grammar (rule, level) }
 {
-    rule.begins_level() && level == R::deep_level()
+    level == R::deep_level() && rule.begins_level()
 }
 
 fn either(a: bool, b: bool) -> bool
@@ -78,51 +125,38 @@ fn either(a: bool, b: bool) -> bool
     a || b
 }
 
-/// Replaces the rules on top of the stack by the rows that what is ahead picks.
+/// Replaces the rules on top of the stack by the rows that what is ahead picks, and takes the token
+/// that is then wanted.
 fn unfold<R: Rule>(
     stack: &mut Vec<Frame<R::Terminal, R>>,
     ahead: Option<R::Terminal>,
-) -> Result<Unfolded, AllocError>
-    ensures { IfOk result (λ r. (s : List (StackSymbol R.Terminal (Leveled R))) × Unfolds R.grammar R.sets ahead (stack_of stack.old.items) s r.deep × Reached R.grammar R.sets ahead r.settled s × (IsTrue r.settled → stack_of stack.new.items ≡ s)) }
+) -> Result<Unfolded<R::Terminal, R>, AllocError>
+    ensures { IfOk result (λ r. Unfolds R.grammar R.sets ahead (stack_of stack.old.items) (topped r.top (stack_of stack.new.items)) r.deep × EndsAt R.grammar R.sets ahead r.top) }
 {
     let mut deep = false;
-    while let Some(frame) = stack.pop() {
-        match frame {
-            Frame::Wanted(_) => {
-                stack.push(frame)?;
-                return Ok(Unfolded {
-                    settled: true,
-                    deep,
-                });
+    let mut top = take_top::<R>(stack);
+    while let Top::Open(rule, level) = top {
+        match rule.row(ahead) {
+            Some(row) => {
+                top = enter_row::<R>(stack, row, level)?;
+                deep = either(deep, is_deep(rule, level));
             }
-            Frame::Open(rule, level) => match rule.row(ahead) {
-                Some(row) => {
-                    push_row::<R>(stack, row, level)?;
-                    deep = either(deep, is_deep(rule, level));
-                }
-                None => return Ok(Unfolded {
-                    settled: false,
-                    deep,
-                }),
-            },
+            None => return Ok(Unfolded {
+                top: Top::Open(rule, level),
+                deep,
+            }),
         }
     }
-    Ok(Unfolded {
-        settled: true,
-        deep,
-    })
+    Ok(Unfolded { top, deep })
 }
 
-/// Takes the token from the top of the stack, if it is the one that is wanted there.
-fn take_wanted<R: Rule>(stack: &mut Vec<Frame<R::Terminal, R>>, terminal: R::Terminal) -> bool
-    requires { IsSettled (stack_of stack.old.items) }
-    ensures yes { IsTrue result → stack_of stack.old.items ≡ Terminal terminal ∷ stack_of stack.new.items }
-    ensures no { result ≡ false → WantsOther terminal (stack_of stack.old.items) }
+/// Whether the token is the one that is wanted.
+fn is_wanted<R: Rule>(top: Top<R::Terminal, R>, terminal: R::Terminal) -> bool
+    ensures { MatchBool result (top ≡ Top.Wanted terminal) (top ≢ Top.Wanted terminal) }
 {
-    match stack.pop() {
-        Some(Frame::Wanted(wanted)) => R::is_same(wanted, terminal),
-        Some(Frame::Open(_, _)) => unreachable!(),
-        None => false,
+    match top {
+        Top::Wanted(wanted) => R::is_same(wanted, terminal),
+        Top::Open(_, _) | Top::Nothing => false,
     }
 }
 
@@ -134,27 +168,19 @@ fn run_machine<R: Rule>(alloc: Global, start: R, tokens: &[R::Terminal]) -> Resu
     let mut stack = Vec::new(alloc);
     stack.push(Frame::Open(start, 1))?;
     for (place, terminal) in tokens.iter().enumerate() {
-        let top = unfold::<R>(&mut stack, Some(*terminal))?;
-        if !top.settled {
-            return Err(Fault::Syntax(place));
-        }
-        let wanted = take_wanted::<R>(&mut stack, *terminal);
-        if !wanted {
+        let unfolded = unfold::<R>(&mut stack, Some(*terminal))?;
+        if !is_wanted::<R>(unfolded.top, *terminal) {
             return Err(Fault::Syntax(place));
         }
         // Only now do the tokens up to this one begin a sentence.
-        if top.deep {
+        if unfolded.deep {
             return Err(Fault::TooDeep(place));
         }
     }
-    let top = unfold::<R>(&mut stack, None)?;
-    if !top.settled {
-        return Err(Fault::Syntax(tokens.len()));
-    }
-    if stack.is_empty() {
-        Ok(())
-    } else {
-        Err(Fault::Syntax(tokens.len()))
+    let unfolded = unfold::<R>(&mut stack, None)?;
+    match unfolded.top {
+        Top::Nothing => Ok(()),
+        Top::Wanted(_) | Top::Open(_, _) => Err(Fault::Syntax(tokens.len())),
     }
 }
 
@@ -185,6 +211,6 @@ pub fn next_token<R: Rule>(
 ) -> Result<bool, AllocError>
     ensures { IfOk result (Takes R.grammar R.sets ahead (left_of stack.old.items) (left_of stack.new.items)) }
 {
-    let _top = unfold::<R>(stack, ahead)?;
-    Ok(stack.pop().is_some())
+    let unfolded = unfold::<R>(stack, ahead)?;
+    Ok(matches!(unfolded.top, Top::Wanted(_)))
 }

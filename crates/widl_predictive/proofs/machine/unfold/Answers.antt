@@ -1,37 +1,29 @@
-use Rattle.std.proofs.Common.{sym, ◌∙◌, subst, ap, arith, append-nil, false}
+use Rattle.std.proofs.Common.{sym, ◌∙◌, subst, ap, false}
 use Rattle.std.specs.Prelude.{◌||◌}
 use Rattle.widl_predictive.specs.Grammar.{is_deep}
-use Rattle.widl_predictive.specs.Machine.{same, Unfolds, stack_of}
-use Rattle.widl_predictive.proofs.Steps.{or-none, or-assoc, opened, opened_smaller, settled_by, stuck_by, none_left, empty_by_length}
+use Rattle.widl_predictive.specs.declared.machine.Top.TheVariants.{Open}
+use Rattle.widl_predictive.specs.Machine.{same, topped, Unfolds, stack_of}
+use Rattle.widl_predictive.proofs.Steps.{ends_no_rule, or-none, or-assoc, opened, opened_smaller}
 use Rattle.widl_predictive.proofs.machine.unfold.Goals as goal
 
-pub returns-in-Wanted : goal.returns-in-Wanted
-returns-in-Wanted g c = (
-  stack_of c.loop-frame.stack.items,
-  subst (Unfolds g.R.Rule.grammar g.R.Rule.sets c.args.ahead (stack_of c.args.stack.now.items) (stack_of c.loop-frame.stack.items)) (or-none c.loop-frame.deep) (c.loop-frame.invariant _ false same),
-  settled_by c.loop-frame.stack.items c.pop.new.self.items c.in-Some.frame _ c.in-Some.ensures.items c.in-Wanted.is,
-  λ h. ap stack_of (c.in_ok-push-in-Wanted.ensures.items ∙ sym c.in-Some.ensures.items),
-)
+pub loop-top-init : goal.loop-top-init
+loop-top-init g c = λ s b u. subst (λ x. Unfolds g.R.Rule.grammar g.R.Rule.sets c.args.ahead x s b) c.take_top-top.ensures u
 
-pub loop-frame-smaller : goal.loop-frame-smaller
-loop-frame-smaller g c = opened_smaller g.R.Rule.grammar g.R.Rule.sets g.met.R.Rule.predictive c.loop-frame.stack.items c.pop.new.self.items c.push_row.new.stack.items c.in-Some.frame c.in-Open.rule c.in-Open.level c.in-Some-row.row.now c.args.ahead c.in-Some.ensures.items c.in-Open.is c.in-Some-row.ensures c.in_ok-push_row-in-Some-row.ensures
+pub loop-top-smaller : goal.loop-top-smaller
+loop-top-smaller g c = opened_smaller g.R.Rule.grammar g.R.Rule.sets g.met.R.Rule.predictive c.in-Open.rule c.in-Open.level c.in-Some.row.now c.args.ahead c.loop-top.top c.in_ok-top-in-Some.top (stack_of c.loop-top.stack.items) (stack_of c.enter_row.new.stack.items) c.in-Open.is c.in-Some.ensures c.in_ok-top-in-Some.ensures
 
-pub loop-frame-preserved : goal.loop-frame-preserved
-loop-frame-preserved g c = λ s b u. subst (Unfolds g.R.Rule.grammar g.R.Rule.sets c.args.ahead (stack_of c.args.stack.now.items) s) (sym (or-assoc c.loop-frame.deep (is_deep g.R.Rule.grammar (c.in-Open.rule, c.in-Open.level)) b) ∙ ap (λ x. x || b) (sym (c.either-deep.ensures ∙ ap (λ x. c.loop-frame.deep || x) c.is_deep.ensures)))
-    (c.loop-frame.invariant s (is_deep g.R.Rule.grammar (c.in-Open.rule, c.in-Open.level) || b) (opened g.R.Rule.grammar g.R.Rule.sets g.met.R.Rule.predictive c.loop-frame.stack.items c.pop.new.self.items c.push_row.new.stack.items c.in-Some.frame c.in-Open.rule c.in-Open.level c.in-Some-row.row.now c.args.ahead c.in-Some.ensures.items c.in-Open.is c.in-Some-row.ensures c.in_ok-push_row-in-Some-row.ensures s b u))
+pub loop-top-preserved : goal.loop-top-preserved
+loop-top-preserved g c = λ s b u. subst (Unfolds g.R.Rule.grammar g.R.Rule.sets c.args.ahead (stack_of c.args.stack.now.items) s) (sym (or-assoc c.loop-top.deep (is_deep g.R.Rule.grammar (c.in-Open.rule, c.in-Open.level)) b) ∙ ap (λ x. x || b) (sym (c.either-deep.ensures ∙ ap (λ x. c.loop-top.deep || x) c.is_deep.ensures)))
+    (c.loop-top.invariant s (is_deep g.R.Rule.grammar (c.in-Open.rule, c.in-Open.level) || b) (opened g.R.Rule.grammar g.R.Rule.sets g.met.R.Rule.predictive c.in-Open.rule c.in-Open.level c.in-Some.row.now c.args.ahead c.loop-top.top c.in_ok-top-in-Some.top (stack_of c.loop-top.stack.items) (stack_of c.enter_row.new.stack.items) c.in-Open.is c.in-Some.ensures c.in_ok-top-in-Some.ensures s b u))
 
 pub returns-in-None : goal.returns-in-None
 returns-in-None g c = (
-  stack_of c.loop-frame.stack.items,
-  subst (Unfolds g.R.Rule.grammar g.R.Rule.sets c.args.ahead (stack_of c.args.stack.now.items) (stack_of c.loop-frame.stack.items)) (or-none c.loop-frame.deep) (c.loop-frame.invariant _ false same),
-  stuck_by g.R.Rule.grammar g.R.Rule.sets c.loop-frame.stack.items c.pop.new.self.items c.in-Some.frame c.in-Open.rule c.in-Open.level c.args.ahead c.in-Some.ensures.items c.in-Open.is c.in-None.ensures,
-  λ h. absurd (cc),
+  subst (Unfolds g.R.Rule.grammar g.R.Rule.sets c.args.ahead (stack_of c.args.stack.now.items) (topped (Open c.in-Open.rule c.in-Open.level) (stack_of c.loop-top.stack.items))) (or-none c.loop-top.deep) (c.loop-top.invariant _ false (subst (λ x. Unfolds g.R.Rule.grammar g.R.Rule.sets c.args.ahead (topped x (stack_of c.loop-top.stack.items)) (topped (Open c.in-Open.rule c.in-Open.level) (stack_of c.loop-top.stack.items)) false) (sym c.in-Open.is) same)),
+  c.in-None.ensures,
 )
 
 pub returns : goal.returns
 returns g c = (
-  stack_of c.loop-frame.stack.items,
-  subst (Unfolds g.R.Rule.grammar g.R.Rule.sets c.args.ahead (stack_of c.args.stack.now.items) (stack_of c.loop-frame.stack.items)) (or-none c.loop-frame.deep) (c.loop-frame.invariant _ false same),
-  none_left c.loop-frame.stack.items (empty_by_length c.loop-frame.stack.items (omega (arith, c.loop-frame.stack.ok.0, c.in_default.ensures.cases.0))),
-  λ h. sym (ap stack_of (c.in_default.ensures.items ∙ append-nil c.pop.new.self.items)),
+  subst (Unfolds g.R.Rule.grammar g.R.Rule.sets c.args.ahead (stack_of c.args.stack.now.items) (topped c.loop-top.top (stack_of c.loop-top.stack.items))) (or-none c.loop-top.deep) (c.loop-top.invariant _ false same),
+  ends_no_rule g.R.Rule.grammar g.R.Rule.sets c.args.ahead c.loop-top.top c.in_default.not-Open,
 )
