@@ -88,9 +88,14 @@ fn push_row<R: Rule>(
     ensures { OnOk result (stack_of stack.new.items ≡ row_at R.grammar level row.now ++ stack_of stack.old.items) }
 {
     let mut left = row.len();
+    // A row of a single symbol leaves nothing to be put here.
+    if left == 0 {
+        return Ok(());
+    }
+    stack.reserve(left)?;
     while left > 0 {
         left -= 1;
-        stack.push(frame_of::<R>(row[left], level))?;
+        stack.push_reserved(frame_of::<R>(row[left], level));
     }
     Ok(())
 }
