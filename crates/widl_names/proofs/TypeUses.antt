@@ -10,7 +10,7 @@ use Rattle.widl_idl.specs.declared.tree.types.Container.TheVariants as container
 use Rattle.widl_idl.specs.Meanings.{kind_of, meaning, meant, meant_kind}
 use Rattle.widl_idl.specs.MergingRules.{is_kind}
 use Rattle.widl_idl.specs.PlainTrees.{PlainDefinition, PlainKind, PlainTypedef, TypedefDefinition}
-use Rattle.widl_idl.specs.PlainTypes.{PlainName, PlainType, PlainAnnotated, PlainMembers, PlainNamed, PlainContainer, PlainRecord, plain_type, plain_annotated, more_plain, annotated_of, form_term, union_of}
+use Rattle.widl_idl.specs.PlainTypes.{PlainForm, PlainName, PlainType, PlainAnnotated, PlainMembers, PlainNamed, PlainContainer, PlainRecord, plain_type, plain_annotated, more_plain, annotated_of, form_term, union_of}
 use Rattle.widl_idl.specs.declared.text_kind.TextKind.{TextKind}
 use Rattle.widl_idl.specs.Resolution.{Note, WrittenType, resolved, resolved_members, resolved_typedef, typedef_in}
 use Rattle.widl_idl.specs.Terms.{TypeTerm, NullableType, RecordType, more_types, packed}
@@ -18,7 +18,7 @@ use Rattle.widl_idl.specs.WrittenTypes.{named_type, nullable_if, type_of_meaning
 use Rattle.widl_names.specs.declared.annotations.Annotations.{Annotations}
 use Rattle.widl_names.specs.declared.resolver.Use.{Use}
 use Rattle.widl_names.specs.SaidNotes.{Says}
-use Rattle.widl_names.specs.TypeUses.{Leads, MeansWritten, container_meaning, form_meaning, is_followed, meaning_at, meaning_of_use, notes_in, own_meaning, question_count, questioned, type_in, typedef_type, without_parts}
+use Rattle.widl_names.specs.TypeUses.{Leads, MeansWritten, container_meaning, form_meaning, is_followed, meaning_at, meaning_of_form, meaning_of_use, notes_in, own_meaning, question_count, questioned, type_in, typedef_of_form, typedef_type, without_parts}
 use Rattle.widl_names.proofs.KindNumbers.{typedef_numbered}
 
 -- one `?` more
@@ -79,6 +79,15 @@ module _ (definitions : List PlainDefinition) where
       some_is : Some t.ty ≡ Some ty → t.ty ≡ ty
       some_is f = (cc)
   typedef_of kind ty e = absurd (cc)
+
+  -- the typedef that a form names stands under the number that the form's name means
+  pub typedef_by_meaning : (form : PlainForm) → typedef_of_form definitions form ≡ typedef_type (option_map (λ d. d.kind) (option_and_then (slice_get definitions) (meaning_of_form definitions form)))
+  typedef_by_meaning (PlainNamed name) = refl
+  typedef_by_meaning form = refl
+
+  -- the same, where the number is known
+  pub typedef_under : (form : PlainForm) (found : Option ℕ) → found ≡ meaning_of_form definitions form → typedef_of_form definitions form ≡ typedef_type (option_map (λ d. d.kind) (option_and_then (slice_get definitions) found))
+  typedef_under form found e = typedef_by_meaning form ∙ ap (λ m. typedef_type (option_map (λ d. d.kind) (option_and_then (slice_get definitions) m))) (sym e)
 
   at_no_level : (notes : List Note) (number : Option ℕ) (kind : Option Kind) → resolved (typedef_in (typedefs definitions) zero) notes (type_of_meaning definitions number kind) ≡ without_parts (type_of_meaning definitions number kind)
   at_no_level notes (Some n) (Some kinds.Typedef) = refl

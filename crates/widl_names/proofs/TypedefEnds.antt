@@ -1,10 +1,10 @@
 -- The ends of chains of typedefs.
-use Rattle.std.proofs.Common.{◌≡◌, ℕ, ◌+◌, ◌++◌, ◌⊎◌, inl, inr, ◌≢◌, zero, suc, List, Option, None, Some, option_map, slice_get, arith, refl, sym, ap, subst, ◌∙◌}
-use Rattle.std.specs.Prelude.{IfSome, option_and_then, replicate, slice_set}
+use Rattle.std.proofs.Common.{◌≡◌, ℕ, ◌+◌, ◌++◌, ◌⊎◌, inl, inr, ◌≢◌, zero, suc, List, Option, None, Some, slice_get, arith, refl, sym, ap, subst, ◌∙◌}
+use Rattle.std.specs.Prelude.{IfSome, replicate, slice_set}
 use Rattle.std.proofs.lemmas.List.{append_assoc}
 use Rattle.widl_graph.proofs.Gets.{set_cases}
 use Rattle.widl_text.specs.declared.place.Place.{Place}
-use Rattle.widl_idl.specs.Meanings.{meaning, meant}
+use Rattle.widl_idl.specs.Meanings.{meant}
 use Rattle.widl_idl.specs.PlainTrees.{PlainDefinition}
 use Rattle.widl_idl.specs.PlainTypes.{PlainForm, PlainAnnotated, PlainAttribute, PlainNamed, plain_type, plain_annotated, form_term}
 use Rattle.widl_idl.specs.Resolution.{Note, typedef_in}
@@ -40,10 +40,6 @@ record MeansAtEnd (definitions : List PlainDefinition) (form : PlainForm) (end :
   same : (levels : ℕ) (before : List Note) → form_meaning definitions (levels + end.passed + 1) before form ≡ questioned end.questions (form_meaning definitions levels (before ++ notes) (form_term end.form.now))
 
 module _ (definitions : List PlainDefinition) where
-  -- the typedef that a name means stands under the number that the name means
-  pub named_at : (text : List ℕ) (number : Option ℕ) → meaning definitions text ≡ number → typedef_type (meant definitions text) ≡ typedef_type (option_map (λ d. d.kind) (option_and_then (slice_get definitions) number))
-  named_at text number e = ap (λ m. typedef_type (option_map (λ d. d.kind) (option_and_then (slice_get definitions) m))) e
-
   -- the chain that is a type alone
   pub ends_alone : (t : PlainAnnotated) (end : ChainEnd) (attributes : List PlainAttribute) (at inner_at : Place) (question : Option Place) → t ≡ plain_annotated at attributes (plain_type inner_at (form_term end.form.now) question) → end.questions ≡ question_count question → end.passed ≡ 0 → Says end.annotations (notes_of attributes) → EndsAt definitions t end
   ends_alone t end attributes at inner_at question is count none said = record {

@@ -1,16 +1,18 @@
 -- Uses of types: what is left of a type where its typedefs are followed.
-use Rattle.std.specs.Prelude.{◌≡◌, ℕ, ◌<◌, zero, suc, Bool, false, List, Option, None, Some, option_map, slice_get}
+use Rattle.std.specs.Prelude.{◌≡◌, ℕ, ◌<◌, zero, suc, Bool, false, List, Option, None, Some, option_map, option_and_then, slice_get}
 use Rattle.widl_text.specs.declared.place.Place.{Place}
+use Rattle.widl_idl.specs.declared.kind.Kind.{Kind}
 use Rattle.widl_idl.specs.declared.kind.Kind.TheVariants as kinds
 use Rattle.widl_idl.specs.declared.tree.types.Container.{Container}
 use Rattle.widl_idl.specs.declared.tree.types.Container.TheVariants as container
-use Rattle.widl_idl.specs.Meanings.{meant, meant_kind}
+use Rattle.widl_idl.specs.Meanings.{kind_of, meaning, meant, meant_kind}
 use Rattle.widl_idl.specs.MergingRules.{is_kind}
 use Rattle.widl_idl.specs.PlainTrees.{PlainDefinition, PlainKind, TypedefDefinition}
 use Rattle.widl_idl.specs.PlainTypes.{PlainForm, PlainType, PlainAnnotated, PlainNamed, plain_annotated, form_term}
 use Rattle.widl_idl.specs.Resolution.{Note, WrittenType, WithoutParts, resolved, typedef_in}
 use Rattle.widl_idl.specs.Terms.{TypeTerm, AnyType, NullableType, SequenceType}
 use Rattle.widl_idl.specs.WrittenTypes.{notes_of, typedefs, written_form, written_type}
+use Rattle.widl_names.specs.declared.resolver.KnownUse.{KnownUse}
 use Rattle.widl_names.specs.declared.resolver.Use.{Use}
 use Rattle.widl_names.specs.SaidNotes.{Says}
 
@@ -57,6 +59,19 @@ type_in (plain_annotated at attributes inner) = inner
 -- a use of a type means what another one does
 pub record Leads (definitions : List PlainDefinition) (u v : Use) : Type 0 where
   pub same : (notes : List Note) → Says u.annotations notes → (more : List Note) × Says v.annotations more × (meaning_of_use definitions notes u ≡ meaning_of_use definitions more v)
+
+-- the number of the definition that a form names, if it is a name with a meaning
+abbrev pub meaning_of_form : List PlainDefinition → PlainForm → Option ℕ
+meaning_of_form definitions (PlainNamed name) = meaning definitions name.text
+meaning_of_form definitions form = None
+
+-- the number that is kept with a use is that of the definition that its form names
+abbrev pub IsKnown : List PlainDefinition → KnownUse → Type 0
+IsKnown definitions known = known.meaning ≡ meaning_of_form definitions (form_term known.usage.form.now)
+
+-- the kind of the definition of this number, if there is one
+abbrev pub numbered_kind : List PlainDefinition → Option ℕ → Option Kind
+numbered_kind definitions number = option_map kind_of (option_map (λ d. d.kind) (option_and_then (slice_get definitions) number))
 
 abbrev pub where_left : ℕ → Bool → Bool
 where_left zero test = false

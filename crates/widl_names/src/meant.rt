@@ -6,7 +6,8 @@ ghost use Rattle.widl_idl.specs.MergingRules.{is_kind, is_number};
 ghost use Rattle.widl_idl.specs.PlainTrees.{plain_definitions};
 ghost use Rattle.widl_names.specs.PartTables.{number_meant};
 
-use crate::meanings::Meanings;
+use crate::meanings::{Meanings, kind_at};
+use crate::names::kind_of;
 use widl_idl::Kind;
 
 /// Whether a name means a definition of this kind.
@@ -33,8 +34,10 @@ pub fn means_number(meanings: &Meanings, text: &str, number: usize) -> bool
 pub fn number_meant(meanings: &Meanings, text: &str, kind: Kind) -> Option<usize>
     ensures { result ≡ number_meant (plain_definitions meanings.now) kind text.now }
 {
-    if means_kind(meanings, text, kind) {
-        meanings.number(text)
+    let number = meanings.number(text)?;
+    let definition = kind_at(meanings.all(), number)?;
+    if kind == kind_of(definition) {
+        Some(number)
     } else {
         None
     }

@@ -6,27 +6,28 @@
 //! than the chain has is it followed by one at a time. The recursion goes down into the parts of types
 //! alone, at most 16 levels.
 
-ghost use Rattle.std.specs.Prelude.{◌≡◌, ◌<◌, ◌+◌, List, [], Some, IfOk, OnOk, map, option_map, slice_get};
-ghost use Rattle.widl_idl.specs.Meanings.{kind_of, meaning, meant_kind};
+ghost use Rattle.std.specs.Prelude.{◌≡◌, ◌<◌, ◌+◌, List, [], Some, IfOk, OnOk, map};
+ghost use Rattle.widl_idl.specs.Meanings.{meaning, meant_kind};
 ghost use Rattle.widl_idl.specs.declared.kind.Kind.{Kind as KindType};
 ghost use Rattle.widl_idl.specs.MergedList.{number_of_meaning};
 ghost use Rattle.widl_idl.specs.PlainTrees.{plain_definitions};
-ghost use Rattle.widl_idl.specs.PlainTypes.{PlainNamed, annotated_of, attribute_of, form_term, name_of, type_of, union_of};
+ghost use Rattle.widl_idl.specs.PlainTypes.{annotated_of, attribute_of, form_term, type_of, union_of};
 ghost use Rattle.widl_idl.specs.Resolution.{Note, resolved_members, typedef_in};
 ghost use Rattle.widl_idl.specs.Terms.{packed, type_term, type_terms};
-ghost use Rattle.widl_idl.specs.WrittenTypes.{meaning_alone, meaning_of_type, meaning_with, named_type, type_of_kind, type_of_meaning, typedefs, written_members};
+ghost use Rattle.widl_idl.specs.WrittenTypes.{meaning_alone, meaning_of_type, meaning_with, type_of_kind, type_of_meaning, typedefs, written_members};
 ghost use Rattle.widl_names.specs.SaidNotes.{Says};
 ghost use Rattle.widl_names.specs.TypedefEnds.{GoesTo, IsNext};
-ghost use Rattle.widl_names.specs.TypeUses.{Behind, IsLast, Leads, MeansWritten, container_meaning, form_meaning, meaning_at, meaning_of_use, own_meaning, questioned, typedef_at, without_parts};
+ghost use Rattle.widl_names.specs.TypeUses.{Behind, IsKnown, IsLast, Leads, MeansWritten, container_meaning, form_meaning, meaning_at, meaning_of_use, numbered_kind, own_meaning, questioned, typedef_at, without_parts};
 
 use crate::annotations::Annotations;
 use crate::kind_numbers::{KindNumbers, number_kinds};
-use crate::meanings::Meanings;
+use crate::meanings::{Meanings, kind_at};
+use crate::names::kind_of;
 use crate::typedef_ends::{ChainEnd, QUESTIONS, count_question, kept_end, typedef_ends};
-use crate::typedef_links::typedef_at;
+use crate::typedef_links::{meaning_of_form, typedef_at};
 use std::alloc::{AllocError, Global};
 use std::marker::Model;
-use widl_idl::tree::{AnnotatedType, Container, ExtendedAttribute, Name, TypeForm, WrittenType};
+use widl_idl::tree::{AnnotatedType, Container, ExtendedAttribute, TypeForm, WrittenType};
 use widl_idl::{IdlType, IdlTypes, Kind};
 
 // How deep types may nest, each with the `?`s behind it.
@@ -102,6 +103,14 @@ impl<'t> Use<'t> {
             questions: more_questions(self.questions, end.questions)?,
         })
     }
+}
+
+// A use of a type whose name is looked up.
+#[derive(Clone, Copy)]
+pub struct KnownUse<'t> {
+    pub usage: Use<'t>,
+    // The number of the definition that the type names, if it is a name with a meaning.
+    pub meaning: Option<usize>,
 }
 
 // So many `?`s, and so many more.
@@ -210,69 +219,39 @@ impl<'m, 'd, 'a> Resolver<'m, 'd, 'a> {
         }
     }
 
-    // The type that a name stands for, where a typedef is `any`.
-    fn named_type(&self, name: &Name) -> IdlType
-        ensures { type_term result ≡ without_parts (named_type (plain_definitions self.now) (name_of name.now)) }
+    // The type that a name with this meaning stands for, where a typedef is `any`.
+    fn meant_type(&self, meaning: Option<usize>) -> IdlType
+        ensures { type_term result ≡ without_parts (type_of_meaning (plain_definitions self.now) meaning (numbered_kind (plain_definitions self.now) meaning)) }
     {
-        let text = name.text.as_str();
-        match self.meanings.number(text) {
+        match meaning {
             None => IdlType::Any,
-            Some(number) => self.numbered_type(self.meanings.kind(text), number),
+            Some(number) => self.numbered_type(number),
         }
     }
 
-    // The type that a definition of the number is.
-    fn numbered_type(&self, kind: Option<Kind>, number: usize) -> IdlType
-        requires { option_map kind_of (option_map (λ d. d.kind) (slice_get (plain_definitions self.now) number)) ≡ kind }
-        ensures { type_term result ≡ without_parts (type_of_meaning (plain_definitions self.now) (Some number) kind) }
+    // The type that the definition of this number is, where a typedef is `any`.
+    fn numbered_type(&self, number: usize) -> IdlType
+        ensures { type_term result ≡ without_parts (type_of_meaning (plain_definitions self.now) (Some number) (numbered_kind (plain_definitions self.now) (Some number))) }
     {
-        match kind {
+        match kind_at(self.meanings.all(), number) {
             None => IdlType::Any,
-            Some(kind) => type_of_kind(kind, self.kinds.numbers[number]),
+            Some(definition) => type_of_kind(kind_of(definition), self.kinds.numbers[number]),
         }
     }
 
     // Where a use of a type leads, if that type is a typedef's name.
-    fn behind(&self, steps: &mut usize, from: &Use<'a>) -> Result<Option<Use<'a>>, AllocError>
-        ensures { IfOk result (λ next. Behind (plain_definitions self.now) from.now next) }
+    fn behind(&self, steps: &mut usize, from: &KnownUse<'a>) -> Result<Option<Use<'a>>, AllocError>
+        requires { IsKnown (plain_definitions self.now) from.now }
+        ensures { IfOk result (λ next. Behind (plain_definitions self.now) from.now.usage next) }
     {
-        match from.form {
-            TypeForm::Named(name) => self.behind_name(steps, from, name),
-            TypeForm::Any
-            | TypeForm::Undefined
-            | TypeForm::Boolean
-            | TypeForm::Object
-            | TypeForm::Symbol
-            | TypeForm::BigInt
-            | TypeForm::Integer(_)
-            | TypeForm::Float(_)
-            | TypeForm::Text(_)
-            | TypeForm::Buffer(_)
-            | TypeForm::Container(..)
-            | TypeForm::Record(..)
-            | TypeForm::Promise(_)
-            | TypeForm::Union(_) => Ok(None),
-        }
-    }
-
-    // Where a use of a name's type leads, if the name is a typedef's.
-    fn behind_name(
-        &self,
-        steps: &mut usize,
-        from: &Use<'a>,
-        name: &Name,
-    ) -> Result<Option<Use<'a>>, AllocError>
-        requires { form_term from.now.form.now ≡ PlainNamed (name_of name.now) }
-        ensures { IfOk result (λ next. Behind (plain_definitions self.now) from.now next) }
-    {
-        if from.typedefs == 0 {
+        if from.usage.typedefs == 0 {
             return Ok(None);
         }
-        match self.meanings.number(name.text.as_str()) {
+        match from.meaning {
             None => Ok(None),
-            Some(number) => match self.next_end(steps, from.typedefs, number)? {
+            Some(number) => match self.next_end(steps, from.usage.typedefs, number)? {
                 None => Ok(None),
-                Some(end) => Ok(Some(from.through(&end)?)),
+                Some(end) => Ok(Some(from.usage.through(&end)?)),
             },
         }
     }
@@ -316,17 +295,26 @@ impl<'m, 'd, 'a> Resolver<'m, 'd, 'a> {
     }
 
     // The last type of a chain of typedefs.
-    fn follow(&self, steps: &mut usize, start: &Use<'a>) -> Result<Use<'a>, AllocError>
-        ensures leads { IfOk result (λ last. Leads (plain_definitions self.now) start.now last) }
-        ensures last { IfOk result (λ last. IsLast (plain_definitions self.now) last) }
+    fn follow(&self, steps: &mut usize, start: &Use<'a>) -> Result<KnownUse<'a>, AllocError>
+        ensures leads { IfOk result (λ last. Leads (plain_definitions self.now) start.now last.usage) }
+        ensures last { IfOk result (λ last. IsLast (plain_definitions self.now) last.usage) }
+        ensures known { IfOk result (λ last. IsKnown (plain_definitions self.now) last) }
     {
-        let mut reached = *start;
-        spend(steps, form_size(reached.form))?;
+        let mut reached = self.look_up(steps, *start)?;
         while let Some(next) = self.behind(steps, &reached)? {
-            reached = next;
-            spend(steps, form_size(reached.form))?;
+            reached = self.look_up(steps, next)?;
         }
         Ok(reached)
+    }
+
+    // A use of a type with what its name means.
+    fn look_up(&self, steps: &mut usize, usage: Use<'a>) -> Result<KnownUse<'a>, AllocError>
+        ensures same { IfOk result (λ known. known.usage ≡ usage.entry) }
+        ensures known { IfOk result (λ known. IsKnown (plain_definitions self.now) known) }
+    {
+        spend(steps, form_size(usage.form))?;
+        let meaning = meaning_of_form(self.meanings, usage.form);
+        Ok(KnownUse { usage, meaning })
     }
 
     // What a use of a type means. `levels` is how deep its parts may nest; below, `left` is how many
@@ -346,7 +334,7 @@ impl<'m, 'd, 'a> Resolver<'m, 'd, 'a> {
         }
         let last = self.follow(steps, start)?;
         let inner = self.form_type(alloc, steps, levels - 1, &last)?;
-        with_questions(alloc, inner, last.questions)
+        with_questions(alloc, inner, last.usage.questions)
     }
 
     // The same of a use of a type that is no typedef's name, without its `?`s.
@@ -356,32 +344,33 @@ impl<'m, 'd, 'a> Resolver<'m, 'd, 'a> {
         alloc: Global,
         steps: &mut usize,
         levels: usize,
-        last: &Use<'a>,
+        last: &KnownUse<'a>,
     ) -> Result<IdlType, AllocError>
-        requires { IsLast (plain_definitions self.now) last.now }
-        ensures { IfOk result (λ t. (notes : List Note) → Says last.now.annotations notes → type_term t ≡ form_meaning (plain_definitions self.now) last.now.typedefs notes (form_term last.now.form.now)) }
+        requires last { IsLast (plain_definitions self.now) last.now.usage }
+        requires known { IsKnown (plain_definitions self.now) last.now }
+        ensures { IfOk result (λ t. (notes : List Note) → Says last.now.usage.annotations notes → type_term t ≡ form_meaning (plain_definitions self.now) last.now.usage.typedefs notes (form_term last.now.usage.form.now)) }
     {
-        match last.form {
+        let left = last.usage.typedefs;
+        match last.usage.form {
             TypeForm::Undefined => Ok(IdlType::Undefined),
             TypeForm::Boolean => Ok(IdlType::Boolean),
             TypeForm::Object => Ok(IdlType::Object),
-            TypeForm::Integer(kind) => Ok(last.annotations.integer(*kind)),
-            TypeForm::Text(kind) => Ok(last.annotations.text(*kind)),
-            TypeForm::Named(name) => Ok(self.named_type(name)),
+            TypeForm::Integer(kind) => Ok(last.usage.annotations.integer(*kind)),
+            TypeForm::Text(kind) => Ok(last.usage.annotations.text(*kind)),
+            TypeForm::Named(_) => Ok(self.meant_type(last.meaning)),
             TypeForm::Container(container, inner) => {
-                self.container_type(alloc, steps, levels, last.typedefs, *container, inner)
+                self.container_type(alloc, steps, levels, left, *container, inner)
             }
             TypeForm::Record(key, inner) => {
-                let value = self.boxed_type(alloc, steps, levels, last.typedefs, inner)?;
+                let value = self.boxed_type(alloc, steps, levels, left, inner)?;
                 Ok(IdlType::Rec(*key, value))
             }
             TypeForm::Promise(inner) => {
-                let value = self.promised_type(alloc, steps, levels, last.typedefs, inner)?;
+                let value = self.promised_type(alloc, steps, levels, left, inner)?;
                 Ok(IdlType::Promise(value))
             }
             TypeForm::Union(members) => {
-                let list = members.as_slice();
-                let types = self.member_types(alloc, steps, levels, last.typedefs, list)?;
+                let types = self.member_types(alloc, steps, levels, left, members.as_slice())?;
                 Ok(IdlType::Union(types))
             }
             _ => Ok(IdlType::Any),

@@ -5,7 +5,7 @@ ghost use Rattle.widl_graph.specs.Order.{IsOrder};
 ghost use Rattle.widl_idl.specs.PlainTrees.{plain_definitions};
 ghost use Rattle.widl_idl.specs.PlainTypes.{annotated_of, form_term};
 ghost use Rattle.widl_names.specs.TypedefLinks.{HasNodes};
-ghost use Rattle.widl_names.specs.TypeUses.{typedef_at, typedef_of_form};
+ghost use Rattle.widl_names.specs.TypeUses.{meaning_of_form, typedef_at, typedef_of_form};
 
 use crate::meanings::{Meanings, kind_at};
 use std::alloc::{AllocError, Global};
@@ -27,6 +27,13 @@ pub fn number_named(meanings: &Meanings<'_, '_>, form: &TypeForm) -> Option<usiz
     ensures below { IfSome result (λ number. number < length meanings.now) }
     ensures named { IfSome result (λ number. typedef_of_form (plain_definitions meanings.now) (form_term form.now) ≡ typedef_at (plain_definitions meanings.now) number) }
     ensures none { IfNone result (typedef_of_form (plain_definitions meanings.now) (form_term form.now) ≡ None) }
+{
+    meaning_of_form(meanings, form)
+}
+
+/// The same, under a clause that tells which number it is.
+pub fn meaning_of_form(meanings: &Meanings<'_, '_>, form: &TypeForm) -> Option<usize>
+    ensures { result ≡ meaning_of_form (plain_definitions meanings.now) (form_term form.now) }
 {
     match form {
         TypeForm::Named(name) => meanings.number(name.text.as_str()),

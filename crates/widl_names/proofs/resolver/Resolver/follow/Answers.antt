@@ -1,18 +1,24 @@
-use Rattle.std.proofs.Common.{subst}
+use Rattle.std.proofs.Common.{arith, sym, ap, subst}
 use Rattle.widl_idl.specs.PlainTrees.{plain_definitions}
-use Rattle.widl_names.specs.TypeUses.{Behind}
+use Rattle.widl_names.specs.TypeUses.{Behind, Leads}
 use Rattle.widl_names.proofs.TypeUses.{leads_here, leads_on}
 use Rattle.widl_names.proofs.resolver.Resolver.follow.Goals as goal
 
 pub loop-next-init : goal.loop-next-init
-loop-next-init c = leads_here (plain_definitions c.args.self.now) c.args.start.now
+loop-next-init c =
+    let definitions = plain_definitions c.args.self.now in
+    (subst (Leads definitions c.args.start.now) (sym c.in_ok-reached.ensures.same) (leads_here definitions c.args.start.now), c.in_ok-reached.ensures.known)
 
 pub loop-next-preserved : goal.loop-next-preserved
 loop-next-preserved c =
-    let found = subst (Behind (plain_definitions c.args.self.now) c.loop-next.reached) c.in-Some.is c.in_ok-next.ensures in
-    leads_on (plain_definitions c.args.self.now) c.args.start.now c.loop-next.reached c.in-Some.next c.loop-next.invariant found.0
+    let definitions = plain_definitions c.args.self.now in
+    let last = c.loop-next.reached.usage in
+    let found = subst (Behind definitions last) c.in-Some.is c.in_ok-next.ensures in
+    (subst (Leads definitions c.args.start.now) (sym c.in_ok-reached-2.ensures.same) (leads_on definitions c.args.start.now last c.in-Some.next c.loop-next.invariant.0 found.0), c.in_ok-reached-2.ensures.known)
 
 pub loop-next-smaller : goal.loop-next-smaller
 loop-next-smaller c =
-    let found = subst (Behind (plain_definitions c.args.self.now) c.loop-next.reached) c.in-Some.is c.in_ok-next.ensures in
-    found.1
+    let found = subst (Behind (plain_definitions c.args.self.now) c.loop-next.reached.usage) c.in-Some.is c.in_ok-next.ensures in
+    let fewer = found.1 in
+    let same = ap (λ u. u.typedefs) c.in_ok-reached-2.ensures.same in
+    omega (arith, fewer, same)
