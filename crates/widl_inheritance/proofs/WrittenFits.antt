@@ -1,5 +1,5 @@
 -- A default value that fits its type as both are written fits what the type means.
-use Rattle.std.proofs.Common.{◌≡◌, true, ◌&&◌, ◌||◌, List, Option, None, Some, refl, sym, ap, ◌∙◌}
+use Rattle.std.proofs.Common.{◌≡◌, true, ◌&&◌, ◌||◌, List, None, Some, refl, sym, ap, ◌∙◌}
 use Rattle.std.specs.List.{list_any}
 use Rattle.std.proofs.Math.Bool.{or-true}
 use Rattle.widl_text.specs.declared.place.Place.{Place}
