@@ -1,5 +1,6 @@
 -- The links between definitions as graphs: what each leads to is a definition.
-use Rattle.std.proofs.Common.{◌≡◌, inl, inr, ℕ, ◌+◌, ◌<◌, ◌≤◌, ◌++◌, Bool, true, false, cond, zero, suc, List, [], ◌∷◌, length, take, map, get_or, Option, None, Some, arith, refl, sym, ap, subst, ◌∙◌, length-append}
+use Rattle.std.proofs.Common.{◌≡◌, inl, inr, ℕ, ◌+◌, ◌<◌, ◌≤◌, ◌++◌, Bool, true, false, cond, zero, suc, List, [], ◌∷◌, length, take, map, get_or, Option, None, Some, option_map, arith, refl, sym, ap, subst, ◌∙◌, length-append}
+use Rattle.std.specs.Prelude.{option_to_list}
 use Rattle.std.specs.List.{Contains, flat_map}
 use Rattle.std.proofs.lemmas.List.{length-map, take_more, take_all, take-map, map-append}
 use Rattle.std.proofs.lemmas.Grind.{flat_map-append}
@@ -9,15 +10,38 @@ use Rattle.widl_graph.specs.Lists.{with_successor}
 use Rattle.widl_graph.specs.Reaching.{AreNodes, Step}
 use Rattle.widl_graph.proofs.Building.{with_successor-append}
 use Rattle.widl_idl.specs.declared.kind.Kind.{Kind}
+use Rattle.widl_idl.specs.declared.kind.Kind.TheVariants as kinds
 use Rattle.widl_idl.specs.declared.tree.types.AnnotatedType.{AnnotatedType}
 use Rattle.widl_idl.specs.Meanings.{meaning, meant, meant_kind, kind_of, same_kind}
-use Rattle.widl_idl.specs.MergingRules.{parent_links, parent_numbers, parent_of, number_of_kind}
+use Rattle.widl_idl.specs.MergingRules.{is_kind, parent_links, parent_numbers, parent_of, number_of_kind}
 use Rattle.widl_idl.specs.Nesting.{typedef_links, typedef_named, typedefs_in, number_if_typedef, annotated_names, union_names}
 use Rattle.widl_idl.specs.PlainTypes.{PlainName, annotated_of, union_of}
 use Rattle.widl_idl.specs.PlainTrees.{PlainDefinition, PlainKind, TypedefDefinition}
 
 some_is : {A : Type 0} {a b : A} → Some a ≡ Some b → a ≡ b
 some_is e = (cc)
+
+none_listed : (b : Bool) → option_to_list {X = ℕ} (cond b None None) ≡ []
+none_listed true = refl
+none_listed false = refl
+
+one_listed : (b : Bool) (n : ℕ) → option_to_list (cond b (Some n) None) ≡ cond b (n ∷ []) []
+one_listed true n = refl
+one_listed false n = refl
+
+-- the number that a name means, where that is of the kind
+pub number_listed : (kind : Kind) (other : Option Kind) (number : Option ℕ) → option_to_list (cond (is_kind kind other) number None) ≡ number_of_kind kind other number
+number_listed kind None number = refl
+number_listed kind (Some other) None = none_listed (same_kind kind other)
+number_listed kind (Some other) (Some n) = one_listed (same_kind kind other) n
+
+-- the same, where it is of a typedef
+pub typedef_listed : (number : Option ℕ) (kind : Option PlainKind) → option_to_list (cond (is_kind kinds.Typedef (option_map kind_of kind)) number None) ≡ number_if_typedef number kind
+typedef_listed (Some n) (Some (TypedefDefinition d)) = refl
+typedef_listed (Some n) (Some kind) = refl
+typedef_listed (Some n) None = refl
+typedef_listed None (Some kind) = none_listed (same_kind kinds.Typedef (kind_of kind))
+typedef_listed None None = refl
 
 -- each number in the list is below the count
 abbrev AllBelow : ℕ → List ℕ → Type 0

@@ -1,5 +1,6 @@
 -- The depths of types by a table of the depths of typedefs.
-use Rattle.std.proofs.Common.{◌≡◌, ℕ, ◌+◌, ◌<◌, Bool, true, false, cond, List, length, Option, None, Some, arith, refl, sym, ap, ◌∙◌}
+use Rattle.std.proofs.Common.{◌≡◌, ℕ, ◌+◌, ◌<◌, Bool, true, false, cond, List, length, Option, None, Some, option_map, slice_get, arith, refl, sym, ap, ◌∙◌}
+use Rattle.std.specs.Prelude.{option_and_then}
 use Rattle.widl_idl.specs.declared.spot.Spot.{Spot}
 use Rattle.widl_idl.specs.Least.{LeastWhere, spot_at}
 use Rattle.widl_idl.specs.Meanings.{meaning, meant}
@@ -27,11 +28,11 @@ pub table_capped : (definitions : List PlainDefinition) (depths : List (Option �
 unfolding table_depth
 table_capped definitions depths name all = meant_capped (kept_depth depths (meaning definitions name.text)) (meant definitions name.text) (kept_capped depths (meaning definitions name.text) all)
 
--- the depth of the type that a name means, by the definition and the table's depth that were found for it
-pub table_is : (definitions : List PlainDefinition) (depths : List (Option ℕ)) (name : PlainName) (text : List ℕ) (kind : Option PlainKind) (kept result : Option ℕ) → AreCapped depths → text ≡ name.text → kind ≡ meant definitions text → kept ≡ kept_depth depths (meaning definitions text) → result ≡ meant_depth (λ ty. kept) kind → result ≡ capped (table_depth definitions depths name)
+-- the depth of the type that a name means, by the number that it means
+pub table_is : (definitions : List PlainDefinition) (depths : List (Option ℕ)) (name : PlainName) (text : List ℕ) (number result : Option ℕ) → AreCapped depths → text ≡ name.text → number ≡ meaning definitions text → result ≡ meant_depth (λ ty. kept_depth depths number) (option_map (λ d. d.kind) (option_and_then (slice_get definitions) number)) → result ≡ capped (table_depth definitions depths name)
 unfolding table_depth
-table_is definitions depths name text kind kept result all spelled means kept_is is =
-    is ∙ ap (λ k. meant_depth (λ ty. k) kind) kept_is ∙ ap (meant_depth (λ ty. kept_depth depths (meaning definitions text))) means
+table_is definitions depths name text number result all spelled means is =
+    is ∙ ap (λ m. meant_depth (λ ty. kept_depth depths m) (option_map (λ d. d.kind) (option_and_then (slice_get definitions) m))) means
     ∙ ap (λ x. meant_depth (λ ty. kept_depth depths (meaning definitions x)) (meant definitions x)) spelled ∙ sym (table_capped definitions depths name all)
 
 deep_within : (d : Option ℕ) → is_deep (capped d) ≡ true → (depth : ℕ) × (d ≡ Some depth) × (16 < depth)

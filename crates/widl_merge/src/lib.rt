@@ -30,6 +30,7 @@ mod refusals;
 mod signatures;
 mod sources;
 mod sums;
+mod thing_rules;
 mod typedefs;
 
 pub use merged_set::{MergeFault, merge};

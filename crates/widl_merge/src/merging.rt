@@ -3,15 +3,18 @@
 ghost use Rattle.std.specs.Prelude.{◌≡◌, [], ◌∷◌, List, IfOk};
 ghost use Rattle.widl_idl.specs.LeastRefusal.{LeastBroken};
 ghost use Rattle.widl_idl.specs.MergingRules.{BreaksMerging, merging_number};
+ghost use Rattle.widl_idl.specs.Nesting.{typedef_links};
 ghost use Rattle.widl_idl.specs.PlainTrees.{plain_definitions};
 ghost use Rattle.widl_idl.specs.Things.{things_of};
 ghost use Rattle.widl_idl.specs.declared.merging_rule.MergingRule as rules;
 ghost use Rattle.widl_idl.specs.declared.merging_rule.MergingRule.TheVariants as rule;
 ghost use Rattle.widl_names.specs.Listings.{listed_definitions, things_listed};
+ghost use Rattle.widl_merge.specs.Links.{IsWalk};
 ghost use Rattle.widl_merge.specs.Refusals.{IsMergingRefusal};
+ghost use Rattle.widl_merge.specs.ThingRules.{AreLeast};
 
-use crate::name_rules::{first_reserved_name, first_second_definition, first_unknown_type};
-use crate::nesting::first_nesting_too_deep;
+use crate::name_rules::first_second_definition;
+use crate::nesting::definition_depths;
 use crate::operations::first_in_two_parts;
 use crate::parents::first_inheriting_from_itself;
 use crate::reference_rules::{
@@ -19,8 +22,10 @@ use crate::reference_rules::{
     first_partial_without_main,
 };
 use crate::sums::first_past_limit;
+use crate::thing_rules::{ThingSpots, first_in_things};
 use crate::typedefs::{first_typedef_reaching_itself, walk_typedefs};
 use std::alloc::{AllocError, Global};
+use widl_graph::Walk;
 use widl_idl::tree::Definition;
 use widl_idl::{MergingRule, Refusal, joined};
 use widl_names::{Meanings, Parts, Thing};
@@ -36,9 +41,12 @@ pub fn first_unmerged(
     ensures { IfOk result (λ refusal. IsMergingRefusal (listed_definitions definitions.now) refusal) }
 {
     let meanings = Meanings::of(alloc, definitions)?;
+    let walk = walk_typedefs(alloc, &meanings)?;
+    let depths = definition_depths(alloc, &meanings, &walk)?;
+    let spots = first_in_things(&meanings, &depths, things);
     let best = join_members(alloc, &meanings)?;
-    let best = join_links(alloc, &meanings, things, best)?;
-    Ok(join_names(&meanings, things, best))
+    let best = join_links(alloc, &meanings, &walk, spots, best)?;
+    Ok(join_names(&meanings, spots, best))
 }
 
 // The rules on the parts of definitions.
@@ -56,16 +64,16 @@ fn join_members(alloc: Global, meanings: &Meanings<'_, '_>) -> Result<Option<Ref
 fn join_links(
     alloc: Global,
     meanings: &Meanings<'_, '_>,
-    things: &[Thing<'_>],
+    walk: &Walk,
+    spots: ThingSpots,
     best: Option<Refusal>,
 ) -> Result<Option<Refusal>, AllocError>
-    requires { things_listed things.now ≡ things_of (plain_definitions meanings.now) }
+    requires walk { IsWalk (typedef_links (plain_definitions meanings.now)) walk.now }
+    requires spots { AreLeast (plain_definitions meanings.now) (things_of (plain_definitions meanings.now)) spots }
     ensures { IfOk result (λ least. (others : List rules.MergingRule) → LeastBroken merging_number (BreaksMerging (plain_definitions meanings.now)) others best → LeastBroken merging_number (BreaksMerging (plain_definitions meanings.now)) (rule.InheritsFromItself ∷ rule.TypedefReachesItself ∷ rule.NestsTooDeep ∷ others) least) }
 {
-    let walk = walk_typedefs(alloc, meanings)?;
-    let found = first_nesting_too_deep(alloc, meanings, &walk, things)?;
-    let best = joined(MergingRule::NestsTooDeep.number(), found, best);
-    let found = first_typedef_reaching_itself(meanings, &walk);
+    let best = joined(MergingRule::NestsTooDeep.number(), spots.deep, best);
+    let found = first_typedef_reaching_itself(meanings, walk);
     let best = joined(MergingRule::TypedefReachesItself.number(), found, best);
     let found = first_inheriting_from_itself(alloc, meanings)?;
     Ok(joined(MergingRule::InheritsFromItself.number(), found, best))
@@ -74,14 +82,13 @@ fn join_links(
 // The rules on names and what they mean.
 fn join_names(
     meanings: &Meanings<'_, '_>,
-    things: &[Thing<'_>],
+    spots: ThingSpots,
     best: Option<Refusal>,
 ) -> Option<Refusal>
-    requires { things_listed things.now ≡ things_of (plain_definitions meanings.now) }
+    requires { AreLeast (plain_definitions meanings.now) (things_of (plain_definitions meanings.now)) spots }
     ensures { (others : List rules.MergingRule) → LeastBroken merging_number (BreaksMerging (plain_definitions meanings.now)) others best → LeastBroken merging_number (BreaksMerging (plain_definitions meanings.now)) (rule.SecondDefinition ∷ rule.ReservedName ∷ rule.PartialWithoutMain ∷ rule.IncludesIntoNoInterface ∷ rule.IncludesNoMixin ∷ rule.ParentOfOtherKind ∷ rule.UnknownType ∷ others) result }
 {
-    let found = first_unknown_type(meanings, things);
-    let best = joined(MergingRule::UnknownType.number(), found, best);
+    let best = joined(MergingRule::UnknownType.number(), spots.unknown, best);
     let found = first_parent_of_other_kind(meanings);
     let best = joined(MergingRule::ParentOfOtherKind.number(), found, best);
     let found = first_includes_no_mixin(meanings);
@@ -90,8 +97,7 @@ fn join_names(
     let best = joined(MergingRule::IncludesIntoNoInterface.number(), found, best);
     let found = first_partial_without_main(meanings);
     let best = joined(MergingRule::PartialWithoutMain.number(), found, best);
-    let found = first_reserved_name(things);
-    let best = joined(MergingRule::ReservedName.number(), found, best);
+    let best = joined(MergingRule::ReservedName.number(), spots.reserved, best);
     let found = first_second_definition(meanings);
     joined(MergingRule::SecondDefinition.number(), found, best)
 }

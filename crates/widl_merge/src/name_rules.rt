@@ -2,12 +2,12 @@
 
 ghost use Rattle.std.specs.Prelude.{◌≡◌, ℕ, List, take};
 ghost use Rattle.widl_idl.specs.declared.merging_rule.MergingRule.TheVariants as rule;
-ghost use Rattle.widl_idl.specs.Least.{LeastWhere, Somewhere};
+ghost use Rattle.widl_idl.specs.Least.{LeastWhere};
 ghost use Rattle.widl_idl.specs.MergingRules.{BreaksMerging, IsReservedName, IsSecondDefinition, IsUnknownType, is_reserved, is_type_kind};
 ghost use Rattle.widl_idl.specs.Things.{TypeThing};
 ghost use Rattle.widl_idl.specs.PlainTrees.{definition_of, plain_definitions};
 ghost use Rattle.widl_idl.specs.PlainTypes.{type_of};
-ghost use Rattle.widl_names.specs.Listings.{thing_of, things_listed};
+ghost use Rattle.widl_names.specs.Listings.{thing_of};
 ghost use Rattle.widl_names.specs.Numbers.{is_below};
 
 use widl_idl::tree::{Definition, TypeForm, WrittenType};
@@ -55,19 +55,8 @@ fn is_below(limit: usize, number: Option<usize>) -> bool
     }
 }
 
-/// The least place of a name, in the list of what is written, that nothing may have.
-pub fn first_reserved_name(things: &[Thing<'_>]) -> Option<Spot>
-    ensures { LeastWhere (Somewhere IsReservedName (things_listed things.now)) result }
-{
-    let mut best = None;
-    for thing in things {
-        let found = reserved_name(*thing);
-        best = lesser_spot(best, found);
-    }
-    best
-}
-
-fn reserved_name(thing: Thing<'_>) -> Option<Spot>
+/// The place of a name that nothing may have.
+pub fn reserved_name(thing: Thing<'_>) -> Option<Spot>
     ensures { LeastWhere (IsReservedName (thing_of thing.entry)) result }
 {
     match thing {
@@ -91,19 +80,8 @@ fn is_reserved(text: &str) -> bool
     text == "constructor" || text == "toString" || text.starts_with('_')
 }
 
-/// The least place of a name in a type, in the list of what is written, that is the name of no type.
-pub fn first_unknown_type(meanings: &Meanings<'_, '_>, things: &[Thing<'_>]) -> Option<Spot>
-    ensures { LeastWhere (Somewhere (IsUnknownType (plain_definitions meanings.now)) (things_listed things.now)) result }
-{
-    let mut best = None;
-    for thing in things {
-        let found = unknown_type(meanings, *thing);
-        best = lesser_spot(best, found);
-    }
-    best
-}
-
-fn unknown_type(meanings: &Meanings<'_, '_>, thing: Thing<'_>) -> Option<Spot>
+/// The place of a name in a type that is the name of no type.
+pub fn unknown_type(meanings: &Meanings<'_, '_>, thing: Thing<'_>) -> Option<Spot>
     ensures { LeastWhere (IsUnknownType (plain_definitions meanings.now) (thing_of thing.entry)) result }
 {
     match thing {

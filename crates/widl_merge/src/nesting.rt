@@ -1,50 +1,33 @@
 //! The rule on types that nest too deep.
 
-ghost use Rattle.std.specs.Prelude.{◌≡◌, slice_index_or, IfOk, None, Some, if◌then◌else◌, slice_get, replicate};
-ghost use Rattle.widl_idl.specs.declared.merging_rule.MergingRule.TheVariants as rule;
-ghost use Rattle.widl_idl.specs.Least.{LeastWhere, Somewhere};
-ghost use Rattle.widl_idl.specs.MergingRules.{BreaksMerging, NestsDeep};
+ghost use Rattle.std.specs.Prelude.{◌≡◌, slice_index_or, IfOk, None, Some, if◌then◌else◌, option_map, slice_get, replicate};
+ghost use Rattle.widl_idl.specs.Least.{LeastWhere};
+ghost use Rattle.widl_idl.specs.MergingRules.{NestsDeep};
 ghost use Rattle.widl_idl.specs.Nesting.{deeper, one_deeper, form_depth, type_depth, annotated_depth, union_depth, meant_depth, typedef_links};
 ghost use Rattle.widl_idl.specs.PlainTrees.{definition_kind_of, plain_definitions};
 ghost use Rattle.widl_idl.specs.PlainTypes.{name_of, form_term, type_of, annotated_of, union_of};
-ghost use Rattle.widl_idl.specs.Things.{TypeThing, things_of};
-ghost use Rattle.widl_merge.specs.Depths.{capped, is_deep, is_flagged, AreCapped, TellsDepths, kept_depth, number_depth, table_depth};
+ghost use Rattle.widl_idl.specs.Things.{TypeThing};
+ghost use Rattle.widl_merge.specs.Depths.{capped, is_deep, is_flagged, AreCapped, TellsDepths, number_depth, table_depth};
 ghost use Rattle.widl_merge.specs.Links.{IsWalk};
-ghost use Rattle.widl_names.specs.Listings.{thing_of, things_listed};
+ghost use Rattle.widl_names.specs.Listings.{thing_of};
 
 use crate::cycles::is_set;
 use std::alloc::{AllocError, Global};
 use widl_graph::Walk;
+use widl_idl::Spot;
 use widl_idl::tree::{AnnotatedType, DefinitionKind, Name, TypeForm, WrittenType};
-use widl_idl::{Spot, lesser_spot};
 use widl_names::{Meanings, Thing, kind_at};
 
 // How deep types may nest. One more stands for all that nest deeper.
 const LIMIT: usize = 16;
 
-/// The least place of the first token of a type that nests deeper than 16 after its typedefs are
-/// replaced, in the list of what is written.
+/// The depths of the definitions as types, each by its number; none where a name in one is no type or
+/// a typedef reaches itself.
 ///
 /// # Errors
 ///
 /// `AllocError` where there is no memory.
-pub fn first_nesting_too_deep(
-    alloc: Global,
-    meanings: &Meanings<'_, '_>,
-    walk: &Walk,
-    things: &[Thing<'_>],
-) -> Result<Option<Spot>, AllocError>
-    requires walk { IsWalk (typedef_links (plain_definitions meanings.now)) walk.now }
-    requires things { things_listed things.now ≡ things_of (plain_definitions meanings.now) }
-    ensures { IfOk result (λ found. LeastWhere (BreaksMerging (plain_definitions meanings.now) rule.NestsTooDeep) found) }
-{
-    let depths = definition_depths(alloc, meanings, walk)?;
-    Ok(first_too_deep(meanings, depths.as_slice(), things))
-}
-
-/// The depths of the definitions as types, each by its number; none where a name in one is no type or
-/// a typedef reaches itself.
-fn definition_depths(
+pub fn definition_depths(
     alloc: Global,
     meanings: &Meanings<'_, '_>,
     walk: &Walk,
@@ -120,27 +103,13 @@ fn kind_depth(
     }
 }
 
-/// The least place of the first token of a type that nests too deep, by a table of the depths of
-/// typedefs.
-fn first_too_deep(
+/// The place of the first token of a type, if it nests deeper than 16 after its typedefs are replaced, by
+/// a table of the depths of definitions.
+pub fn too_deep(
     meanings: &Meanings<'_, '_>,
     depths: &[Option<usize>],
-    things: &[Thing<'_>],
+    thing: Thing<'_>,
 ) -> Option<Spot>
-    requires capped { AreCapped depths.now }
-    requires tells { TellsDepths (plain_definitions meanings.now) depths.now }
-    ensures { LeastWhere (Somewhere (NestsDeep (plain_definitions meanings.now)) (things_listed things.now)) result }
-{
-    let mut best = None;
-    for thing in things {
-        let found = too_deep(meanings, depths, *thing);
-        best = lesser_spot(best, found);
-    }
-    best
-}
-
-/// The place of the first token of a type, if it nests too deep.
-fn too_deep(meanings: &Meanings<'_, '_>, depths: &[Option<usize>], thing: Thing<'_>) -> Option<Spot>
     requires capped { AreCapped depths.now }
     requires tells { TellsDepths (plain_definitions meanings.now) depths.now }
     ensures { LeastWhere (NestsDeep (plain_definitions meanings.now) (thing_of thing.entry)) result }
@@ -248,11 +217,23 @@ fn table_depth(meanings: &Meanings<'_, '_>, depths: &[Option<usize>], name: &Nam
     requires { AreCapped depths.now }
     ensures { result ≡ capped (table_depth (plain_definitions meanings.now) depths.now (name_of name.now)) }
 {
-    let text = name.text.as_str();
-    let kept = kept_depth(depths, meanings.number(text));
-    match meanings.definition(text) {
+    match meanings.number(name.text.as_str()) {
         None => None,
-        Some(kind) => depth_as_type(kind, kept),
+        Some(number) => depth_in_table(meanings, depths, number),
+    }
+}
+
+/// The depth of the type that the definition of this number is, where the table has that of a typedef.
+fn depth_in_table(
+    meanings: &Meanings<'_, '_>,
+    depths: &[Option<usize>],
+    number: usize,
+) -> Option<usize>
+    ensures { result ≡ meant_depth (λ ty. slice_index_or depths.now number None) (option_map (λ d. d.kind) (slice_get (plain_definitions meanings.now) number)) }
+{
+    match kind_at(meanings.all(), number) {
+        None => None,
+        Some(kind) => depth_as_type(kind, depth_at(depths, number)),
     }
 }
 
@@ -273,15 +254,6 @@ fn depth_as_type(kind: &DefinitionKind, kept: Option<usize>) -> Option<usize>
 }
 
 /// The depth at a number of the table.
-fn kept_depth(depths: &[Option<usize>], number: Option<usize>) -> Option<usize>
-    ensures { result ≡ kept_depth depths.now number }
-{
-    match number {
-        None => None,
-        Some(number) => depth_at(depths, number),
-    }
-}
-
 fn depth_at(depths: &[Option<usize>], number: usize) -> Option<usize>
     ensures { result ≡ slice_index_or depths.now number None }
 {

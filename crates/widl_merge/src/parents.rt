@@ -13,7 +13,7 @@ use std::alloc::{AllocError, Global};
 use widl_graph::{Graph, Walk};
 use widl_idl::tree::DefinitionKind;
 use widl_idl::{Kind, Spot};
-use widl_names::{Meanings, kind_of};
+use widl_names::{Meanings, kind_of, number_meant};
 
 /// The least place of the name of an interface or a dictionary that inherits from itself.
 ///
@@ -71,12 +71,5 @@ fn parent_number(meanings: &Meanings<'_, '_>, definition: &DefinitionKind) -> Op
 fn number_of_kind(meanings: &Meanings<'_, '_>, kind: Kind, text: &str) -> Option<usize>
     ensures { option_to_list result ≡ number_of_kind kind (meant_kind (plain_definitions meanings.now) text.now) (meaning (plain_definitions meanings.now) text.now) }
 {
-    match meanings.kind(text) {
-        None => None,
-        Some(other) => if kind == other {
-            meanings.number(text)
-        } else {
-            None
-        },
-    }
+    number_meant(meanings, text, kind)
 }

@@ -13,9 +13,9 @@ ghost use Rattle.widl_merge.specs.Links.{IsWalk};
 use crate::cycles::{add_linked, first_coming_back};
 use std::alloc::{AllocError, Global};
 use widl_graph::{Graph, Walk};
-use widl_idl::Spot;
 use widl_idl::tree::{AnnotatedType, DefinitionKind, Name, TypeForm, WrittenType};
-use widl_names::Meanings;
+use widl_idl::{Kind, Spot};
+use widl_names::{Meanings, number_meant};
 
 /// The least place of the name of a typedef that reaches itself.
 pub fn first_typedef_reaching_itself(meanings: &Meanings<'_, '_>, walk: &Walk) -> Option<Spot>
@@ -144,8 +144,5 @@ fn add_union(
 fn typedef_named(meanings: &Meanings<'_, '_>, text: &str) -> Option<usize>
     ensures { option_to_list result ≡ number_if_typedef (meaning (plain_definitions meanings.now) text.now) (meant (plain_definitions meanings.now) text.now) }
 {
-    match meanings.definition(text) {
-        Some(DefinitionKind::Typedef(_)) => meanings.number(text),
-        _ => None,
-    }
+    number_meant(meanings, text, Kind::Typedef)
 }

@@ -7,6 +7,6 @@ use Rattle.widl_merge.proofs.merging.join_links.Goals as goal
 pub returns : goal.returns
 returns c = λ others least.
     let b = BreaksMerging (plain_definitions c.args.meanings.now) in
-    least_rule_by merging_number b rule.InheritsFromItself _ _ _ _ _ c.number-3.ensures c.in_ok-found-2.ensures c.joined.ensures
+    least_rule_by merging_number b rule.InheritsFromItself _ _ _ _ _ c.number-3.ensures c.in_ok-found.ensures c.joined.ensures
     (least_rule_by merging_number b rule.TypedefReachesItself _ _ _ _ _ c.number-2.ensures c.first_typedef_reaching_itself-found.ensures c.joined-best-2.ensures
-    (least_rule_by merging_number b rule.NestsTooDeep others _ _ _ _ c.number.ensures c.in_ok-found.ensures c.joined-best.ensures least))
+    (least_rule_by merging_number b rule.NestsTooDeep others _ _ _ _ c.number.ensures c.requires.spots.deep c.joined-best.ensures least))
