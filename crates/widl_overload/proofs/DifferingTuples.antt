@@ -1,6 +1,6 @@
 -- Tuples that differ before an index, and the smallest length at which a rule on overloads is broken.
-use Rattle.std.proofs.Common.{◌≡◌, inl, inr, ℕ, ◌+◌, ◌<◌, ◌++◌, Bool, true, false, cond, List, [], ◌∷◌, length, take, get_or, arith, refl, sym, subst, ◌∙◌}
-use Rattle.std.specs.Prelude.{None, Some, MatchBool, Contains, slice_get}
+use Rattle.std.proofs.Common.{◌≡◌, inl, inr, ℕ, ◌+◌, ◌<◌, ◌++◌, Bool, true, false, cond, List, [], ◌∷◌, length, take, get_or, arith, below_more, refl, sym, subst, ◌∙◌}
+use Rattle.std.specs.Prelude.{None, Option, Some, MatchBool, MatchOption, Contains, slice_get}
 use Rattle.std.specs.List.{All}
 use Rattle.std.proofs.lemmas.List.Elements.{All-contains, All-append, All-cons, All-nil}
 use Rattle.std.proofs.lemmas.Option.{slice_get_within, get_or_from_slice_get}
@@ -8,7 +8,7 @@ use Rattle.widl_idl.specs.declared.interface.Iface.{Iface}
 use Rattle.widl_overload.specs.declared.tuple.Tuple.{Tuple}
 use Rattle.widl_overload.specs.Index.{IsIndex, has_length, of_one_length, tells_apart, terms_of_length}
 use Rattle.widl_overload.specs.OverloadRules.{DifferEarly}
-use Rattle.widl_overload.specs.OverloadSpots.{AgreeBefore, DifferBefore, DiffersFromOne, TwoDiffer}
+use Rattle.widl_overload.specs.OverloadSpots.{AgreeBefore, DifferBefore, DiffersFromOne, IsSmallest, IsSmallestBelow, TwoDiffer}
 use Rattle.widl_overload.specs.Sets.{TupleTerm, tuple_term}
 use Rattle.widl_overload.proofs.OneLength.{term_listed, terms_more}
 
@@ -17,6 +17,17 @@ when_true b P Q e h = subst (λ c. MatchBool c P Q) e h
 
 pub when_false : (b : Bool) (P Q : Type 0) → b ≡ false → MatchBool b P Q → Q
 when_false b P Q e h = subst (λ c. MatchBool c P Q) e h
+
+-- one number more
+pub smallest_more : (P : ℕ → Type 0) (m : ℕ) (found now : Option ℕ) (broken : Bool) → IsSmallestBelow P m found → MatchBool broken (P m) (P m → ⊥) → MatchOption found (MatchBool broken (now ≡ Some m) (now ≡ None)) (λ n. now ≡ Some n) → IsSmallestBelow P (m + 1) now
+smallest_more P m None now true below holds is = subst (IsSmallestBelow P (m + 1)) (sym is) (record { holds = holds; first = below })
+smallest_more P m None now false below holds is = subst (IsSmallestBelow P (m + 1)) (sym is) (below_more _ _ below holds)
+smallest_more P m (Some n) now broken least holds is = subst (IsSmallestBelow P (m + 1)) (sym is) least
+
+-- the smallest up to the greatest number
+pub smallest_all : (P : ℕ → Type 0) (m most : ℕ) (found : Option ℕ) → most < m → IsSmallestBelow P m found → IsSmallest P most found
+smallest_all P m most None last below = λ k within. below k (omega arith)
+smallest_all P m most (Some n) last least = least
 
 no_first : (tuples : List TupleTerm) (t : TupleTerm) → None ≡ slice_get tuples 0 → Contains tuples t → ⊥
 no_first [] t e c = omega (arith, c.1)

@@ -41,6 +41,10 @@ pub record TwoDiffer (index : ℕ) (tuples : List TupleTerm) : Type 0 where
 abbrev pub IsSmallest : (ℕ → Type 0) → ℕ → Option ℕ → Type 0
 IsSmallest P most found = MatchOption found ((m : ℕ) → m ≤ most → P m → ⊥) (IsLeastNumber P)
 
+-- the least number of which P holds, or none where it holds of none below m
+abbrev pub IsSmallestBelow : (ℕ → Type 0) → ℕ → Option ℕ → Type 0
+IsSmallestBelow P m found = MatchOption found ((k : ℕ) → k < m → P k → ⊥) (IsLeastNumber P)
+
 -- P holds at this spot alone
 pub record IsOnlySpot (P : Spot → Type 0) (s : Spot) : Type 0 where
   pub holds : P s

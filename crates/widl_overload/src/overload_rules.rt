@@ -10,7 +10,7 @@ ghost use Rattle.widl_overload.specs.OverloadSpots.{AreSpotsAt, AreSpotsIn};
 ghost use Rattle.widl_overload.specs.Sets.{AreNumbered};
 
 use crate::overload_names::at_names;
-use crate::overload_sizes::{smallest_alike, smallest_early};
+use crate::overload_sizes::breaking_lengths;
 use crate::overload_spots::OverloadSpots;
 use crate::sets::{longest_list, set_of};
 use std::alloc::{AllocError, Global};
@@ -146,10 +146,9 @@ pub(crate) fn spots_of_overloads(
     }
     let set = set_of(alloc, sigs, 0)?;
     let most = longest_list(sigs);
-    let alike = smallest_alike(defs, &set, most);
-    let early = smallest_early(defs, &set, most);
+    let lengths = breaking_lengths(defs, &set, most);
     Ok(OverloadSpots {
-        alike: at_names(sigs, &set, alike),
-        early: at_names(sigs, &set, early),
+        alike: at_names(sigs, &set, lengths.alike),
+        early: at_names(sigs, &set, lengths.early),
     })
 }

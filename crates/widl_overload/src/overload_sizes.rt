@@ -1,9 +1,10 @@
 //! The smallest lengths at which an effective overload set breaks the rules on overloads.
 
-ghost use Rattle.std.specs.Prelude.{◌≡◌, ◌<◌, ◌↔◌, IsTrue, MatchBool, MatchOption, slice_get};
+ghost use Rattle.std.specs.Prelude.{◌≡◌, ◌<◌, ◌↔◌, IsTrue, List, MatchBool, MatchOption, None, Some, slice_get};
 ghost use Rattle.std.specs.List.{All};
 ghost use Rattle.std.specs.Option.{option_copied, option_map};
-ghost use Rattle.widl_overload.specs.Index.{terms_of_length};
+ghost use Rattle.widl_idl.specs.declared.interface.Iface as interfaces;
+ghost use Rattle.widl_overload.specs.Index.{IsDistinguishingIndex, terms_of_length};
 ghost use Rattle.widl_overload.specs.OverloadRules.{DifferAt, DifferEarly, LacksIndex};
 ghost use Rattle.widl_overload.specs.OverloadSpots.{AgreeAt, AgreeBefore, DifferBefore, DiffersFromOne, IsSmallest, TwoDiffer};
 ghost use Rattle.widl_overload.specs.Sets.{tuple_term, tuples_in};
@@ -12,49 +13,60 @@ use crate::index::{are_several, distinguishing_index, has_length};
 use crate::tuple::{OverloadSet, Tuple};
 use widl_idl::{Defs, same_type};
 
-/// The smallest length of which there are several tuples without a distinguishing argument index.
-/// None is asked beyond a greatest length.
-pub(crate) fn smallest_alike(defs: &Defs, set: &OverloadSet, most: usize) -> Option<u32>
-    requires { most < 4294967296 }
-    ensures { IsSmallest (LacksIndex defs.now.ifaces (tuples_in set.now)) most result }
-{
-    for m in 0..most + 1 {
-        if lacks_index(defs, set, m as u32) {
-            return Some(m as u32);
-        }
-    }
-    None
+/// The smallest lengths at which an effective overload set breaks the two rules on overloads.
+#[derive(Clone, Copy, Debug)]
+pub(crate) struct BreakingLengths {
+    /// Of which there are several tuples without a distinguishing argument index.
+    pub(crate) alike: Option<u32>,
+    /// Of which two tuples differ before that index.
+    pub(crate) early: Option<u32>,
 }
 
-/// Whether several tuples have a length, and there is no place by which they are told apart.
-fn lacks_index(defs: &Defs, set: &OverloadSet, m: u32) -> bool
-    ensures { MatchBool result (LacksIndex defs.now.ifaces (tuples_in set.now) m) (LacksIndex defs.now.ifaces (tuples_in set.now) m → ⊥) }
+/// The smallest lengths at which the rules are broken. None is asked beyond a greatest length. Both
+/// rules ask for the distinguishing argument index of a length, which is found once.
+pub(crate) fn breaking_lengths(defs: &Defs, set: &OverloadSet, most: usize) -> BreakingLengths
+    requires { most < 4294967296 }
+    ensures alike { IsSmallest (LacksIndex defs.now.ifaces (tuples_in set.now)) most result.alike }
+    ensures early { IsSmallest (DifferEarly defs.now.ifaces (tuples_in set.now)) most result.early }
 {
-    match distinguishing_index(defs, set, m) {
+    let mut alike = None;
+    let mut early = None;
+    for m in 0..most + 1 {
+        let index = distinguishing_index(defs, set, m as u32);
+        let lacks = lacks_index(set, m as u32, index);
+        alike = found_or(alike, m as u32, lacks);
+        let differ = differ_early(set, m as u32, index);
+        early = found_or(early, m as u32, differ);
+    }
+    BreakingLengths { alike, early }
+}
+
+/// The length that was found before, and else this one, if a rule is broken at it.
+fn found_or(found: Option<u32>, m: u32, broken: bool) -> Option<u32>
+    ensures { MatchOption found (MatchBool broken (result ≡ Some m) (result ≡ None)) (λ n. result ≡ Some n) }
+{
+    match found {
+        Some(n) => Some(n),
+        None => if broken { Some(m) } else { None },
+    }
+}
+
+/// Whether several tuples have a length, and there is no place by which they are told apart, where
+/// `index` is the distinguishing argument index of the length.
+fn lacks_index(set: &OverloadSet, m: u32, index: Option<u32>) -> bool
+    ensures { (ifaces : List interfaces.Iface) → IsDistinguishingIndex ifaces (tuples_in set.now) m index → MatchBool result (LacksIndex ifaces (tuples_in set.now) m) (LacksIndex ifaces (tuples_in set.now) m → ⊥) }
+{
+    match index {
         None => are_several(&set.tuples, m as usize),
         Some(_) => false,
     }
 }
 
-/// The smallest length of which two tuples differ before the distinguishing argument index. None is
-/// asked beyond a greatest length.
-pub(crate) fn smallest_early(defs: &Defs, set: &OverloadSet, most: usize) -> Option<u32>
-    requires { most < 4294967296 }
-    ensures { IsSmallest (DifferEarly defs.now.ifaces (tuples_in set.now)) most result }
+/// Whether two tuples of a length differ before `index`, its distinguishing argument index.
+fn differ_early(set: &OverloadSet, m: u32, index: Option<u32>) -> bool
+    ensures { (ifaces : List interfaces.Iface) → IsDistinguishingIndex ifaces (tuples_in set.now) m index → MatchBool result (DifferEarly ifaces (tuples_in set.now) m) (DifferEarly ifaces (tuples_in set.now) m → ⊥) }
 {
-    for m in 0..most + 1 {
-        if differ_early(defs, set, m as u32) {
-            return Some(m as u32);
-        }
-    }
-    None
-}
-
-/// Whether two tuples of a length differ before its distinguishing argument index.
-fn differ_early(defs: &Defs, set: &OverloadSet, m: u32) -> bool
-    ensures { MatchBool result (DifferEarly defs.now.ifaces (tuples_in set.now) m) (DifferEarly defs.now.ifaces (tuples_in set.now) m → ⊥) }
-{
-    match distinguishing_index(defs, set, m) {
+    match index {
         None => false,
         Some(index) => differ_before(&set.tuples, m as usize, index as usize),
     }

@@ -14,6 +14,6 @@ returns c =
     let tuples = tuples_in c.in_ok-set.set in
     let most = c.longest_list-most.result in
     record {
-      alike = callee_spot (LacksIndex ifaces) sigs tuples most c.smallest_alike-alike.result c.at_names.result c.in_ok-set.ensures (λ m. none_alike_beyond ifaces sigs most m c.longest_list-most.ensures.is) c.smallest_alike-alike.ensures c.at_names.ensures;
-      early = callee_spot (DifferEarly ifaces) sigs tuples most c.smallest_early-early.result c.at_names-2.result c.in_ok-set.ensures (λ m. none_early_beyond ifaces sigs most m c.longest_list-most.ensures.is) c.smallest_early-early.ensures c.at_names-2.ensures;
+      alike = callee_spot (LacksIndex ifaces) sigs tuples most c.breaking_lengths-lengths.result.alike c.at_names.result c.in_ok-set.ensures (λ m. none_alike_beyond ifaces sigs most m c.longest_list-most.ensures.is) c.breaking_lengths-lengths.ensures.alike c.at_names.ensures;
+      early = callee_spot (DifferEarly ifaces) sigs tuples most c.breaking_lengths-lengths.result.early c.at_names-2.result c.in_ok-set.ensures (λ m. none_early_beyond ifaces sigs most m c.longest_list-most.ensures.is) c.breaking_lengths-lengths.ensures.early c.at_names-2.ensures;
     }
