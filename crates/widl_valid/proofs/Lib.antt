@@ -10,7 +10,6 @@ pub mod Counted
 pub mod Returned
 pub mod SecondStringifiers
 pub mod OwnerSpots
-pub mod JoinedRules
 mod AlikeKinds
 mod AlikePairs
 mod AnyPair
@@ -25,3 +24,7 @@ pub mod TypedefNotes
 pub mod RangeEnds
 pub mod SameSets
 pub mod Valid
+pub mod TypeSpots
+pub mod DefinitionSpots
+pub mod MemberThings
+pub mod MemberTypes

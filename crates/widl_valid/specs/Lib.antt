@@ -9,6 +9,8 @@ pub mod Misplaced
 pub mod AlikeKinds
 pub mod AlikePairs
 pub mod Lineages
-pub mod MemberRuleList
+pub mod MemberTypes
 pub mod EarliestNotes
 pub mod RangeEnds
+pub mod TypeSpots
+pub mod DefinitionSpots

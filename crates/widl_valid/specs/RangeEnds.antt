@@ -1,5 +1,5 @@
 -- Which annotations stand on chains of typedefs, and where these end, as the program keeps it.
-use Rattle.std.specs.Prelude.{◌≡◌, ℕ, ◌+◌, ◌-◌, ◌<◌, List, [], ◌++◌, Option, None, Some, slice_get}
+use Rattle.std.specs.Prelude.{◌≡◌, ℕ, ◌+◌, ◌-◌, ◌<◌, List, [], ◌++◌, length, Option, None, Some, slice_get}
 use Rattle.widl_idl.specs.PlainTrees.{PlainDefinition}
 use Rattle.widl_idl.specs.PlainTypes.{PlainAnnotated, PlainForm, form_term}
 use Rattle.widl_idl.specs.Resolution.{Note}
@@ -23,6 +23,10 @@ IsEndOf definitions (Some t) end = EndsAt definitions t end
 -- what is kept under each number is the end of the chain of the typedef with that number
 pub record AreEnds (definitions : List PlainDefinition) (ends : List (Option RangeEnd)) : Type 0 where
   pub each : (number : ℕ) (end : RangeEnd) → slice_get ends number ≡ Some (Some end) → IsEndOf definitions (typedef_at definitions number) end
+
+-- the same, and how many typedefs there are
+abbrev pub AreChains : List PlainDefinition → List (Option RangeEnd) → ℕ → Type 0
+AreChains definitions ends levels = AreEnds definitions ends × (levels ≡ length (typedefs definitions))
 
 -- the end of a chain that may be passed to, or none where there is no typedef
 abbrev pub IsNext : List PlainDefinition → ℕ → Option PlainAnnotated → Option RangeEnd → Type 0

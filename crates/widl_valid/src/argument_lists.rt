@@ -1,30 +1,27 @@
-//! The lists of arguments that are written in a set of files.
+//! The lists of arguments that are written in a definition.
 
 ghost use Rattle.std.specs.Prelude.{◌≡◌, ◌++◌, ◌∷◌, [], option_map, option_to_list, IfOk, OnOk};
 ghost use Rattle.widl_idl.specs.PlainTrees.{arguments_of, definition_kind_of, member_kind_of, members_of};
-ghost use Rattle.widl_names.specs.Listings.{listed_definitions};
-ghost use Rattle.widl_overload.specs.ArgumentRules.{argument_lists_of, lists_in_definition, lists_in_member, lists_in_members};
+ghost use Rattle.widl_overload.specs.ArgumentRules.{lists_in_definition, lists_in_member, lists_in_members};
 ghost use Rattle.widl_valid.specs.WrittenLists.{listed_arguments};
 
 use std::alloc::{AllocError, Global};
-use widl_idl::tree::{Argument, Arguments, Definition, DefinitionKind, Member, MemberKind};
+use widl_idl::tree::{Argument, Arguments, DefinitionKind, Member, MemberKind};
 
-/// The lists of arguments of callback functions, operations, constructors and asynchronous iterables, in
-/// the order of the source.
+/// The lists of arguments of a callback function, or of the operations, constructors and asynchronous
+/// iterables of a definition, in the order of the source.
 ///
 /// # Errors
 ///
 /// `AllocError` where there is no memory.
 pub fn list_arguments<'a>(
     alloc: Global,
-    definitions: &[&'a Definition],
+    kind: &'a DefinitionKind,
 ) -> Result<Vec<&'a [Argument]>, AllocError>
-    ensures { IfOk result (λ lists. listed_arguments lists.items ≡ argument_lists_of (listed_definitions definitions.now)) }
+    ensures { IfOk result (λ lists. listed_arguments lists.items ≡ lists_in_definition (definition_kind_of kind.now)) }
 {
     let mut lists = Vec::new(alloc);
-    for definition in definitions {
-        add_definition(&mut lists, &definition.kind)?;
-    }
+    add_definition(&mut lists, kind)?;
     Ok(lists)
 }
 

@@ -15,7 +15,7 @@ ghost use Rattle.widl_idl.specs.WrittenTypes.{typedefs};
 ghost use Rattle.widl_names.specs.TypeUses.{typedef_at};
 ghost use Rattle.widl_overload.specs.TypeRules.{HasClampAndEnforceRange};
 ghost use Rattle.widl_valid.specs.EarliestNotes.{AreEarliest, notes_from};
-ghost use Rattle.widl_valid.specs.RangeEnds.{AreEnds, IsNext, Leads};
+ghost use Rattle.widl_valid.specs.RangeEnds.{AreChains, AreEnds, IsNext, Leads};
 ghost use Rattle.widl_valid.specs.UsesListed.{UseTerm, resolved_use};
 
 use crate::range_annotations::RangeAnnotations;
@@ -26,6 +26,31 @@ use widl_idl::tree::{DefinitionKind, TypeForm, WrittenType};
 use widl_idl::{Spot, lesser_spot};
 use widl_names::{Meanings, number_named, typedef_at};
 
+/// Where the chains of typedefs end. It is made once for all types.
+#[derive(Drop)]
+pub struct TypedefChains<'a> {
+    /// For each definition the end of its chain, if it is a typedef.
+    pub ends: Vec<Option<RangeEnd<'a>>>,
+    /// How many typedefs there are, so many as a type may lead to.
+    pub levels: usize,
+}
+
+impl<'a> TypedefChains<'a> {
+    /// The chains among all definitions.
+    ///
+    /// # Errors
+    ///
+    /// `AllocError` where there is no memory.
+    pub fn of(alloc: Global, meanings: &Meanings<'_, 'a>) -> Result<TypedefChains<'a>, AllocError>
+        ensures { IfOk result (λ chains. AreChains (plain_definitions meanings.now) chains.ends.items chains.levels) }
+    {
+        Ok(TypedefChains {
+            ends: range_ends(alloc, meanings)?,
+            levels: count_typedefs(meanings),
+        })
+    }
+}
+
 /// The least place at which a type has `[Clamp]` and `[EnforceRange]`, which is the name that stands
 /// later.
 ///
@@ -34,40 +59,38 @@ use widl_names::{Meanings, number_named, typedef_at};
 ///
 /// # Errors
 ///
-/// `AllocError` where there is no memory, also where there are no more steps.
+/// `AllocError` where there are no more steps.
 pub fn first_clamp_and_enforce<'a>(
-    alloc: Global,
     meanings: &Meanings<'_, 'a>,
+    chains: &TypedefChains<'a>,
     steps: &mut usize,
     uses: &[ResolvedUse<'a>],
 ) -> Result<Option<Spot>, AllocError>
+    requires { AreChains (plain_definitions meanings.now) chains.now.ends.items chains.now.levels }
     ensures { IfOk result (λ found. LeastWhere (Somewhere (λ (r : UseTerm). HasClampAndEnforceRange (plain_definitions meanings.now) r.written) (map resolved_use uses.now)) found) }
 {
-    let ends = range_ends(alloc, meanings)?;
-    let levels = count_typedefs(meanings);
     let mut best = None;
     for ty in uses {
-        let found = clamp_and_enforce(meanings, ends.as_slice(), steps, levels, ty)?;
+        let found = clamp_and_enforce(meanings, chains, steps, ty)?;
         best = lesser_spot(best, found);
     }
     Ok(best)
 }
 
-// The least place at which this type has both, where there are so many typedefs that it may lead to.
+// The least place at which this type has both.
 fn clamp_and_enforce<'a>(
     meanings: &Meanings<'_, 'a>,
-    ends: &[Option<RangeEnd<'a>>],
+    chains: &TypedefChains<'a>,
     steps: &mut usize,
-    levels: usize,
     ty: &ResolvedUse<'a>,
 ) -> Result<Option<Spot>, AllocError>
-    requires ends { AreEnds (plain_definitions meanings.now) ends.now }
-    requires levels { levels ≡ length (typedefs (plain_definitions meanings.now)) }
+    requires { AreChains (plain_definitions meanings.now) chains.now.ends.items chains.now.levels }
     ensures { IfOk result (λ found. LeastWhere (HasClampAndEnforceRange (plain_definitions meanings.now) (resolved_use ty.now).written) found) }
 {
     let outer = RangeAnnotations::of(ty.written.outer);
     let own = RangeAnnotations::of(ty.written.own);
-    let behind = annotations_behind(meanings, ends, steps, levels, ty.written.ty)?;
+    let ends = chains.ends.as_slice();
+    let behind = annotations_behind(meanings, ends, steps, chains.levels, ty.written.ty)?;
     Ok(outer.followed_by(own).followed_by(behind).later())
 }
 

@@ -7,7 +7,6 @@ ghost use Rattle.widl_idl.specs.MergedMembers.{operation_in, operations_in};
 ghost use Rattle.widl_idl.specs.PlainTrees.{argument_kind_of, arguments_of, definition_kind_of, definition_of, enumeration_value_of, member_kind_of, member_of, members_of};
 ghost use Rattle.widl_idl.specs.PlainTypes.{attribute_of};
 ghost use Rattle.widl_idl.specs.WrittenTypes.{annotation_of};
-ghost use Rattle.widl_names.specs.Listings.{listed_definitions};
 ghost use Rattle.widl_valid.specs.WrittenLists.{has_ellipsis};
 ghost use Rattle.widl_overload.specs.DefinitionRules.{AnnotatesNoType, HasMisformed, HasNameless, HasOtherThanOne, HasValueTwice, IsAnnotation, IsMisformed, IsNameless, RepeatsValue, attributes_of_no_type, has_early_ellipsis, is_variadic, members_written};
 
@@ -20,27 +19,15 @@ use widl_idl::tree::{
 };
 use widl_idl::{Spot, lesser_spot};
 
-/// The least place of a value of an enumeration that is an earlier value of it too.
+/// The least place of a value of a definition, if it is an enumeration, that is an earlier value of it too.
 ///
 /// # Errors
 ///
 /// `AllocError` where there is no memory.
 pub fn first_repeated_value(
     alloc: Global,
-    definitions: &[&Definition],
+    kind: &DefinitionKind,
 ) -> Result<Option<Spot>, AllocError>
-    ensures { IfOk result (λ found. LeastWhere (Somewhere (λ d. HasValueTwice d.kind) (listed_definitions definitions.now)) found) }
-{
-    let mut best = None;
-    for definition in definitions {
-        let found = repeated_value(alloc, &definition.kind)?;
-        best = lesser_spot(best, found);
-    }
-    Ok(best)
-}
-
-// The same in one definition.
-fn repeated_value(alloc: Global, kind: &DefinitionKind) -> Result<Option<Spot>, AllocError>
     ensures { IfOk result (λ found. LeastWhere (HasValueTwice (definition_kind_of kind.now)) found) }
 {
     match kind {
@@ -64,20 +51,9 @@ fn repeated_among(alloc: Global, values: &[EnumerationValue]) -> Result<Option<S
     Ok(best)
 }
 
-/// The least place of the name of an annotation of types that stands before what is no type.
-pub fn first_annotation_of_no_type(definitions: &[&Definition]) -> Option<Spot>
-    ensures { LeastWhere (Somewhere AnnotatesNoType (listed_definitions definitions.now)) result }
-{
-    let mut best = None;
-    for definition in definitions {
-        let found = annotation_in_definition(definition);
-        best = lesser_spot(best, found);
-    }
-    best
-}
-
-// The same of a definition and its members.
-fn annotation_in_definition(definition: &Definition) -> Option<Spot>
+/// The least place of the name of an annotation of types that stands before what is no type: a definition
+/// or one of its members.
+pub fn first_annotation_of_no_type(definition: &Definition) -> Option<Spot>
     ensures { LeastWhere (AnnotatesNoType (definition_of definition.now)) result }
 {
     let own = first_annotation(definition.attributes.as_slice());
@@ -85,7 +61,7 @@ fn annotation_in_definition(definition: &Definition) -> Option<Spot>
     lesser_spot(own, inner)
 }
 
-// The same of members.
+// The same before members.
 fn annotation_in_members(members: &[Member]) -> Option<Spot>
     ensures { LeastWhere (Somewhere (λ m. Somewhere IsAnnotation (attributes_of_no_type m.attributes m.kind)) (members_of members.now)) result }
 {
@@ -137,20 +113,8 @@ fn is_annotation(text: &str) -> bool
     text == "Clamp" || text == "EnforceRange" || text == "LegacyNullToEmptyString"
 }
 
-/// The least place of the name of a callback interface that hasn't exactly one operation.
-pub fn first_other_than_one_operation(definitions: &[&Definition]) -> Option<Spot>
-    ensures { LeastWhere (Somewhere (λ d. HasOtherThanOne d.kind) (listed_definitions definitions.now)) result }
-{
-    let mut best = None;
-    for definition in definitions {
-        let found = other_than_one_operation(&definition.kind);
-        best = lesser_spot(best, found);
-    }
-    best
-}
-
-// The same of one definition.
-fn other_than_one_operation(kind: &DefinitionKind) -> Option<Spot>
+/// The place of the name of a definition, if it is a callback interface that hasn't exactly one operation.
+pub fn other_than_one_operation(kind: &DefinitionKind) -> Option<Spot>
     ensures { LeastWhere (HasOtherThanOne (definition_kind_of kind.now)) result }
 {
     match kind {
@@ -186,16 +150,11 @@ fn is_operation(kind: &MemberKind) -> bool
     }
 }
 
-/// The least place of the `(` of an operation without a name.
-pub fn first_nameless_operation(definitions: &[&Definition]) -> Option<Spot>
-    ensures { LeastWhere (Somewhere (λ d. HasNameless d.kind) (listed_definitions definitions.now)) result }
+/// The least place of the `(` of an operation without a name in a definition.
+pub fn first_nameless_operation(kind: &DefinitionKind) -> Option<Spot>
+    ensures { LeastWhere (HasNameless (definition_kind_of kind.now)) result }
 {
-    let mut best = None;
-    for definition in definitions {
-        let found = nameless_in(members_written(&definition.kind));
-        best = lesser_spot(best, found);
-    }
-    best
+    nameless_in(members_written(kind))
 }
 
 // The same among members.
@@ -224,21 +183,9 @@ fn nameless_operation(kind: &MemberKind) -> Option<Spot>
     }
 }
 
-/// The least place of the `(` of an operation of a callback interface that has no name, or an ellipsis in
-/// a place other than the last.
-pub fn first_misformed_callback(definitions: &[&Definition]) -> Option<Spot>
-    ensures { LeastWhere (Somewhere (λ d. HasMisformed d.kind) (listed_definitions definitions.now)) result }
-{
-    let mut best = None;
-    for definition in definitions {
-        let found = misformed_callback(&definition.kind);
-        best = lesser_spot(best, found);
-    }
-    best
-}
-
-// The same in one definition.
-fn misformed_callback(kind: &DefinitionKind) -> Option<Spot>
+/// The least place of the `(` of an operation that has no name, or an ellipsis in a place other than the
+/// last, in a definition that is a callback interface.
+pub fn first_misformed_operation(kind: &DefinitionKind) -> Option<Spot>
     ensures { LeastWhere (HasMisformed (definition_kind_of kind.now)) result }
 {
     match kind {

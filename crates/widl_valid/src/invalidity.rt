@@ -5,16 +5,15 @@ ghost use Rattle.widl_idl.specs.PlainTrees.{plain_definitions};
 ghost use Rattle.widl_overload.specs.declared.validity_rule.ValidityRule.TheVariants as rule;
 ghost use Rattle.widl_valid.specs.Invalidity.{IsInvalidity, Joins, JoinsOver};
 
-use crate::clamp_rules::first_clamp_and_enforce;
+use crate::definition_spots::find_in_definitions;
 use crate::joined_inherited::{join_defaults, join_dictionaries, join_iterables, join_overloads};
 use crate::joined_rules::{join_arguments, join_definitions, join_owners, join_things, join_types};
+use crate::member_types::find_in_member_types;
 use crate::owners::find_in_owners;
-use crate::resolved_uses::resolve_uses;
-use crate::union_rules::first_alike_union;
+use crate::type_spots::find_in_types;
 use std::alloc::{AllocError, Global};
-use widl_idl::{Defs, Merged, Refusal, joined};
-use widl_names::{Meanings, Parts, Resolver, list_definitions, list_things, steps_of};
-use widl_overload::ValidityRule;
+use widl_idl::{Defs, Merged, Refusal};
+use widl_names::{Meanings, Parts, Resolver, list_definitions, steps_of};
 
 /// The least refusal of a set of files by the rules of validity, or none where all of them are kept.
 ///
@@ -39,8 +38,9 @@ pub fn find_invalid(alloc: Global, merged: &Merged) -> Result<Option<Refusal>, A
     let best = join_defaults(alloc, defs, &meanings, &resolver, &mut steps, best)?;
     let best = join_members(alloc, &meanings, &parts, &resolver, &mut steps, best)?;
     let best = join_uses(alloc, defs, &meanings, &resolver, &mut steps, best)?;
-    let best = join_arguments(alloc, all, best)?;
-    join_definitions(alloc, all, best)
+    let spots = find_in_definitions(alloc, all)?;
+    let best = join_arguments(spots, best);
+    Ok(join_definitions(spots, best))
 }
 
 // The rules on members.
@@ -58,9 +58,8 @@ fn join_members<'a>(
 {
     let spots = find_in_owners(alloc, meanings, parts, resolver, steps)?;
     let best = join_owners(spots, best);
-    let listed = list_things(alloc, meanings.all())?;
-    let things = listed.as_slice();
-    join_things(alloc, resolver, steps, things, spots.stringifier, best)
+    let types = find_in_member_types(alloc, resolver, steps, meanings.all())?;
+    Ok(join_things(types, spots.stringifier, best))
 }
 
 // The rules on types.
@@ -75,11 +74,6 @@ fn join_uses<'a>(
     requires { resolver.now ≡ meanings.now }
     ensures { IfOk result (λ least. JoinsOver (rule.OtherConstantType ∷ rule.CopiedAttribute ∷ rule.UndefinedInside ∷ rule.WronglyNullable ∷ rule.SeveralNullableMembers ∷ rule.NullableBesideDictionary ∷ rule.AnnotatedUnionMember ∷ rule.NullableDictionary ∷ rule.MisplacedAnnotation ∷ rule.ClampAndEnforceRange ∷ rule.AlikeUnionMembers ∷ []) defs.now (plain_definitions meanings.now) best least) }
 {
-    let resolved = resolve_uses(alloc, resolver, steps, meanings.all())?;
-    let uses = resolved.as_slice();
-    let found = first_alike_union(alloc, defs, uses)?;
-    let best = joined(ValidityRule::AlikeUnionMembers.number(), found, best);
-    let found = first_clamp_and_enforce(alloc, meanings, steps, uses)?;
-    let best = joined(ValidityRule::ClampAndEnforceRange.number(), found, best);
-    Ok(join_types(uses, best))
+    let spots = find_in_types(alloc, defs, meanings, resolver, steps)?;
+    Ok(join_types(spots, best))
 }

@@ -12,6 +12,7 @@ mod argument_rules;
 mod clamp_rules;
 mod constant_values;
 mod definition_rules;
+mod definition_spots;
 mod invalidity;
 mod joined_inherited;
 mod joined_rules;
@@ -36,6 +37,7 @@ mod role_rules;
 mod sought;
 mod stringifiers;
 mod type_rules;
+mod type_spots;
 mod type_uses;
 mod union_rules;
 

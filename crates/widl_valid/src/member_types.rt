@@ -1,143 +1,118 @@
-//! The rules on a constant's value and an attribute's type, over everything that is written.
+//! Where the rules on a constant's value and an attribute's type are broken first.
 
-ghost use Rattle.std.specs.Prelude.{◌≡◌, [], IfOk};
-ghost use Rattle.widl_idl.specs.Least.{LeastWhere, Somewhere};
-ghost use Rattle.widl_idl.specs.PlainTrees.{AttributeMember, attribute_member_of, member_kind_of, plain_definitions};
+ghost use Rattle.std.specs.Prelude.{◌≡◌, [], ◌∷◌, IfOk};
+ghost use Rattle.widl_idl.specs.Least.{LeastWhere};
+ghost use Rattle.widl_idl.specs.PlainTrees.{AttributeMember, attribute_member_of, definition_kind_of, member_kind_of, members_of, plain_definitions};
 ghost use Rattle.widl_idl.specs.PlainTypes.{annotated_of};
 ghost use Rattle.widl_idl.specs.Terms.{type_term};
-ghost use Rattle.widl_idl.specs.Things.{MemberThing};
+ghost use Rattle.widl_idl.specs.Things.{MemberThing, things_of};
 ghost use Rattle.widl_idl.specs.WrittenTypes.{meaning_of_annotated};
-ghost use Rattle.widl_names.specs.Listings.{thing_of, things_listed};
+ghost use Rattle.widl_names.specs.Listings.{listed_definitions};
 ghost use Rattle.widl_overload.specs.MemberRules.{is_promise};
 ghost use Rattle.widl_overload.specs.TypeRules.{HasOtherValue, IsOtherStringifier, IsWritablePromise};
-ghost use Rattle.widl_valid.specs.MemberRuleList.{BreaksMemberRule};
+ghost use Rattle.widl_valid.specs.MemberTypes.{AreMemberTypeSpots, lesser_spots, member_things, no_spots, own_members};
 
 use crate::annotation_rules::is_unit_string;
 use crate::constant_values::other_constant_value;
 use std::alloc::{AllocError, Global};
-use widl_idl::tree::{Attribute, AttributeKind, MemberKind};
+use widl_idl::tree::{Attribute, AttributeKind, Definition, DefinitionKind, Member, MemberKind};
 use widl_idl::{IdlType, Spot, lesser_spot};
-use widl_names::{Resolver, Thing};
+use widl_names::Resolver;
 
-// A rule that reads a member by itself.
+/// Where the rules are broken first that read a member with what its type means.
 #[derive(Clone, Copy)]
-pub enum MemberRule {
-    // The value of a constant is not of its type, or not in its range.
-    OtherValue,
-    // An attribute of promise type isn't read only.
-    WritablePromise,
-    // A stringifier attribute is neither a DOMString nor a USVString.
-    OtherStringifier,
+pub struct MemberTypeSpots {
+    /// The value of a constant is not of its type, or not in its range.
+    pub other_value: Option<Spot>,
+    /// An attribute of promise type isn't read only.
+    pub writable_promise: Option<Spot>,
+    /// A stringifier attribute is neither a DOMString nor a USVString.
+    pub other_stringifier: Option<Spot>,
 }
 
-/// The least place of a constant's value that is not of its type, or not in its range.
+/// The least spots at which these rules are broken, in all these definitions.
 ///
 /// # Errors
 ///
 /// Those of [`Resolver::resolve`], which also says what `steps` bounds.
-pub fn first_other_value<'a>(
+pub fn find_in_member_types<'a>(
     alloc: Global,
     resolver: &Resolver<'_, '_, 'a>,
     steps: &mut usize,
-    things: &[Thing<'a>],
-) -> Result<Option<Spot>, AllocError>
-    ensures { IfOk result (λ found. LeastWhere (Somewhere (HasOtherValue (plain_definitions resolver.now)) (things_listed things.now)) found) }
+    definitions: &[&'a Definition],
+) -> Result<MemberTypeSpots, AllocError>
+    ensures { IfOk result (AreMemberTypeSpots (plain_definitions resolver.now) (things_of (listed_definitions definitions.now))) }
 {
-    first_breaking(alloc, resolver, steps, things, MemberRule::OtherValue)
-}
-
-/// The least place of an attribute's name whose type is a promise and that isn't read only.
-///
-/// # Errors
-///
-/// Those of [`first_other_value`].
-pub fn first_writable_promise<'a>(
-    alloc: Global,
-    resolver: &Resolver<'_, '_, 'a>,
-    steps: &mut usize,
-    things: &[Thing<'a>],
-) -> Result<Option<Spot>, AllocError>
-    ensures { IfOk result (λ found. LeastWhere (Somewhere (IsWritablePromise (plain_definitions resolver.now)) (things_listed things.now)) found) }
-{
-    first_breaking(alloc, resolver, steps, things, MemberRule::WritablePromise)
-}
-
-/// The least place of the word `stringifier` before an attribute that is neither a DOMString nor a
-/// USVString.
-///
-/// # Errors
-///
-/// Those of [`first_other_value`].
-pub fn first_other_stringifier<'a>(
-    alloc: Global,
-    resolver: &Resolver<'_, '_, 'a>,
-    steps: &mut usize,
-    things: &[Thing<'a>],
-) -> Result<Option<Spot>, AllocError>
-    ensures { IfOk result (λ found. LeastWhere (Somewhere (IsOtherStringifier (plain_definitions resolver.now)) (things_listed things.now)) found) }
-{
-    first_breaking(alloc, resolver, steps, things, MemberRule::OtherStringifier)
-}
-
-// The least place at which one of these things breaks the rule.
-fn first_breaking<'a>(
-    alloc: Global,
-    resolver: &Resolver<'_, '_, 'a>,
-    steps: &mut usize,
-    things: &[Thing<'a>],
-    rule: MemberRule,
-) -> Result<Option<Spot>, AllocError>
-    ensures { IfOk result (λ found. LeastWhere (Somewhere (BreaksMemberRule rule (plain_definitions resolver.now)) (things_listed things.now)) found) }
-{
-    let mut best = None;
-    for thing in things {
-        let found = breaking(alloc, resolver, steps, *thing, rule)?;
-        best = lesser_spot(best, found);
+    let mut best = MemberTypeSpots::none();
+    for definition in definitions {
+        let members = own_members(&definition.kind);
+        let found = find_in_members(alloc, resolver, steps, members)?;
+        best = lesser_spots(best, found);
     }
     Ok(best)
 }
 
-// The least place at which a thing breaks the rule.
-fn breaking<'a>(
-    alloc: Global,
-    resolver: &Resolver<'_, '_, 'a>,
-    steps: &mut usize,
-    thing: Thing<'a>,
-    rule: MemberRule,
-) -> Result<Option<Spot>, AllocError>
-    ensures { IfOk result (λ found. LeastWhere (BreaksMemberRule rule (plain_definitions resolver.now) (thing_of thing.entry)) found) }
+// The members of an interface, a mixin or a namespace.
+fn own_members(kind: &DefinitionKind) -> &[Member]
+    ensures { members_of result.now ≡ own_members (definition_kind_of kind.now) }
 {
-    match thing {
-        Thing::Member(member) => breaking_member(alloc, resolver, steps, member, rule),
-        Thing::Type(_)
-        | Thing::Attribute(_)
-        | Thing::Literal(_)
-        | Thing::Name(_)
-        | Thing::CallbackMember(_) => Ok(None),
+    match kind {
+        DefinitionKind::Interface(interface) => interface.members.as_slice(),
+        DefinitionKind::Mixin(mixin) => mixin.members.as_slice(),
+        DefinitionKind::Namespace(namespace) => namespace.members.as_slice(),
+        _ => &[],
     }
 }
 
-// The place at which a member breaks the rule.
-fn breaking_member<'a>(
+// The least spots among members.
+fn find_in_members<'a>(
+    alloc: Global,
+    resolver: &Resolver<'_, '_, 'a>,
+    steps: &mut usize,
+    members: &'a [Member],
+) -> Result<MemberTypeSpots, AllocError>
+    ensures { IfOk result (AreMemberTypeSpots (plain_definitions resolver.now) (member_things (members_of members.now))) }
+{
+    let mut best = MemberTypeSpots::none();
+    for member in members {
+        let found = find_in_member(alloc, resolver, steps, &member.kind)?;
+        best = lesser_spots(best, found);
+    }
+    Ok(best)
+}
+
+// The least spots in one member.
+fn find_in_member<'a>(
     alloc: Global,
     resolver: &Resolver<'_, '_, 'a>,
     steps: &mut usize,
     member: &'a MemberKind,
-    rule: MemberRule,
+) -> Result<MemberTypeSpots, AllocError>
+    ensures { IfOk result (AreMemberTypeSpots (plain_definitions resolver.now) (MemberThing (member_kind_of member.now) ∷ [])) }
+{
+    let other_value = other_value(alloc, resolver, steps, member)?;
+    let writable_promise = writable_promise(alloc, resolver, steps, member)?;
+    let other_stringifier = other_stringifier(alloc, resolver, steps, member)?;
+    Ok(MemberTypeSpots {
+        other_value,
+        writable_promise,
+        other_stringifier,
+    })
+}
+
+// The place of a constant's value that is not of its type, or not in its range.
+fn other_value<'a>(
+    alloc: Global,
+    resolver: &Resolver<'_, '_, 'a>,
+    steps: &mut usize,
+    member: &'a MemberKind,
 ) -> Result<Option<Spot>, AllocError>
-    ensures { IfOk result (λ found. LeastWhere (BreaksMemberRule rule (plain_definitions resolver.now) (MemberThing (member_kind_of member.now))) found) }
+    ensures { IfOk result (λ found. LeastWhere (HasOtherValue (plain_definitions resolver.now) (MemberThing (member_kind_of member.now))) found) }
 {
     match member {
-        MemberKind::Constant(constant) => match rule {
-            MemberRule::OtherValue => other_constant_value(alloc, resolver, steps, constant),
-            MemberRule::WritablePromise | MemberRule::OtherStringifier => Ok(None),
-        },
-        MemberKind::Attribute(attribute) => match rule {
-            MemberRule::OtherValue => Ok(None),
-            MemberRule::WritablePromise => writable_promise(alloc, resolver, steps, attribute),
-            MemberRule::OtherStringifier => other_stringifier(alloc, resolver, steps, attribute),
-        },
-        MemberKind::Operation(_)
+        MemberKind::Constant(constant) => other_constant_value(alloc, resolver, steps, constant),
+        MemberKind::Attribute(_)
+        | MemberKind::Operation(_)
         | MemberKind::Constructor(_)
         | MemberKind::Stringifier(_)
         | MemberKind::Iterable(_)
@@ -149,6 +124,28 @@ fn breaking_member<'a>(
 
 // The place of an attribute's name whose type is a promise and that isn't read only.
 fn writable_promise<'a>(
+    alloc: Global,
+    resolver: &Resolver<'_, '_, 'a>,
+    steps: &mut usize,
+    member: &'a MemberKind,
+) -> Result<Option<Spot>, AllocError>
+    ensures { IfOk result (λ found. LeastWhere (IsWritablePromise (plain_definitions resolver.now) (MemberThing (member_kind_of member.now))) found) }
+{
+    match member {
+        MemberKind::Attribute(attribute) => promise_place(alloc, resolver, steps, attribute),
+        MemberKind::Constant(_)
+        | MemberKind::Operation(_)
+        | MemberKind::Constructor(_)
+        | MemberKind::Stringifier(_)
+        | MemberKind::Iterable(_)
+        | MemberKind::AsyncIterable(_)
+        | MemberKind::Maplike(_)
+        | MemberKind::Setlike(_) => Ok(None),
+    }
+}
+
+// The place of the name of an attribute, if its type is a promise and it isn't read only.
+fn promise_place<'a>(
     alloc: Global,
     resolver: &Resolver<'_, '_, 'a>,
     steps: &mut usize,
@@ -178,6 +175,28 @@ fn other_stringifier<'a>(
     alloc: Global,
     resolver: &Resolver<'_, '_, 'a>,
     steps: &mut usize,
+    member: &'a MemberKind,
+) -> Result<Option<Spot>, AllocError>
+    ensures { IfOk result (λ found. LeastWhere (IsOtherStringifier (plain_definitions resolver.now) (MemberThing (member_kind_of member.now))) found) }
+{
+    match member {
+        MemberKind::Attribute(attribute) => stringifier_place(alloc, resolver, steps, attribute),
+        MemberKind::Constant(_)
+        | MemberKind::Operation(_)
+        | MemberKind::Constructor(_)
+        | MemberKind::Stringifier(_)
+        | MemberKind::Iterable(_)
+        | MemberKind::AsyncIterable(_)
+        | MemberKind::Maplike(_)
+        | MemberKind::Setlike(_) => Ok(None),
+    }
+}
+
+// The place of the word `stringifier` before an attribute, if that is of another type.
+fn stringifier_place<'a>(
+    alloc: Global,
+    resolver: &Resolver<'_, '_, 'a>,
+    steps: &mut usize,
     attribute: &'a Attribute,
 ) -> Result<Option<Spot>, AllocError>
     ensures { IfOk result (λ found. LeastWhere (IsOtherStringifier (plain_definitions resolver.now) (MemberThing (AttributeMember (attribute_member_of attribute.now)))) found) }
@@ -203,4 +222,27 @@ fn own_type<'a>(
     ensures { IfOk result (λ t. type_term t ≡ meaning_of_annotated (plain_definitions resolver.now) [] (annotated_of attribute.now.ty)) }
 {
     resolver.resolve_with(alloc, steps, &[], &attribute.ty)
+}
+
+// Of each rule the lesser spot.
+fn lesser_spots(best: MemberTypeSpots, found: MemberTypeSpots) -> MemberTypeSpots
+    ensures { result ≡ lesser_spots best found }
+{
+    MemberTypeSpots {
+        other_value: lesser_spot(best.other_value, found.other_value),
+        writable_promise: lesser_spot(best.writable_promise, found.writable_promise),
+        other_stringifier: lesser_spot(best.other_stringifier, found.other_stringifier),
+    }
+}
+
+impl MemberTypeSpots {
+    fn none() -> MemberTypeSpots
+        ensures { result ≡ no_spots }
+    {
+        MemberTypeSpots {
+            other_value: None,
+            writable_promise: None,
+            other_stringifier: None,
+        }
+    }
 }

@@ -1,14 +1,14 @@
-//! What the types that are written in a set of files mean.
+//! What the types that are written in a definition mean.
 
 ghost use Rattle.std.specs.Prelude.{◌≡◌, List, map, IfOk};
-ghost use Rattle.widl_idl.specs.PlainTrees.{plain_definitions};
-ghost use Rattle.widl_overload.specs.TypeUses.{type_uses_of};
+ghost use Rattle.widl_idl.specs.PlainTrees.{definition_kind_of, plain_definitions};
+ghost use Rattle.widl_overload.specs.TypeUses.{uses_in_definition};
 ghost use Rattle.widl_valid.specs.UsesListed.{resolved_use, use_of, with_meaning};
 
 use crate::type_uses::{TypeUse, list_type_uses};
 use std::alloc::{AllocError, Global};
 use widl_idl::IdlType;
-use widl_idl::tree::Definition;
+use widl_idl::tree::DefinitionKind;
 use widl_names::{Annotations, Resolver};
 
 /// A type as it is written, with what it means there.
@@ -20,7 +20,7 @@ pub struct ResolvedUse<'a> {
     pub meaning: IdlType,
 }
 
-/// All types that are written in these definitions, with what they mean.
+/// All types that are written in a definition, with what they mean.
 ///
 /// # Errors
 ///
@@ -29,12 +29,11 @@ pub fn resolve_uses<'a>(
     alloc: Global,
     resolver: &Resolver<'_, '_, 'a>,
     steps: &mut usize,
-    definitions: &[&'a Definition],
+    kind: &'a DefinitionKind,
 ) -> Result<Vec<ResolvedUse<'a>>, AllocError>
-    requires { map (λ d. d.now) definitions.now ≡ resolver.now }
-    ensures { IfOk result (λ list. map resolved_use list.items ≡ map (with_meaning (plain_definitions resolver.now)) (type_uses_of (plain_definitions resolver.now))) }
+    ensures { IfOk result (λ list. map resolved_use list.items ≡ map (with_meaning (plain_definitions resolver.now)) (uses_in_definition (definition_kind_of kind.now))) }
 {
-    let uses = list_type_uses(alloc, definitions)?;
+    let uses = list_type_uses(alloc, kind)?;
     let mut resolved = Vec::new(alloc);
     for written in uses.iter() {
         resolved.push(resolve_use(alloc, resolver, steps, written)?)?;

@@ -1,17 +1,16 @@
-//! Lists the types that are written in a set of files, each with what it is the type of.
+//! Lists the types that are written in a definition, each with what it is the type of.
 
 ghost use Rattle.std.specs.Prelude.{◌≡◌, ◌++◌, List, [], ◌∷◌, map, flat_map, option_map, IfOk, OnOk};
 ghost use Rattle.widl_idl.specs.PlainTypes.{attribute_of, form_term, type_of, annotated_of, union_of};
 ghost use Rattle.widl_idl.specs.PlainTrees.{argument_of, arguments_of, member_kind_of, member_of, members_of, dictionary_member_of, definition_kind_of};
-ghost use Rattle.widl_names.specs.Listings.{listed_definitions};
-ghost use Rattle.widl_overload.specs.TypeUses.{uses_in_form, uses_of_plain, uses_of_annotated, uses_of_union, uses_of_optional, uses_of_argument, uses_of_arguments, uses_of_optional_arguments, uses_of_member_kind, uses_of_member, uses_of_dictionary_member, uses_in_definition, type_uses_of};
+ghost use Rattle.widl_overload.specs.TypeUses.{uses_in_form, uses_of_plain, uses_of_annotated, uses_of_union, uses_of_optional, uses_of_argument, uses_of_arguments, uses_of_optional_arguments, uses_of_member_kind, uses_of_member, uses_of_dictionary_member, uses_in_definition};
 ghost use Rattle.widl_overload.specs.declared.type_role.TypeRole.TheVariants as role;
 ghost use Rattle.widl_valid.specs.UsesListed.{Adds, use_of};
 
 use std::alloc::{AllocError, Global};
 use widl_idl::tree::{
-    AnnotatedType, Argument, Arguments, Definition, DefinitionKind, DictionaryMember,
-    ExtendedAttribute, Member, MemberKind, TypeForm, WrittenType,
+    AnnotatedType, Argument, Arguments, DefinitionKind, DictionaryMember, ExtendedAttribute,
+    Member, MemberKind, TypeForm, WrittenType,
 };
 use widl_overload::TypeRole;
 use widl_text::Place;
@@ -31,21 +30,19 @@ pub struct TypeUse<'a> {
     pub ty: &'a WrittenType,
 }
 
-/// All types that are written in these definitions.
+/// All types that are written in a definition.
 ///
 /// # Errors
 ///
 /// `AllocError` where there is no memory.
 pub fn list_type_uses<'a>(
     alloc: Global,
-    definitions: &[&'a Definition],
+    kind: &'a DefinitionKind,
 ) -> Result<Vec<TypeUse<'a>>, AllocError>
-    ensures { IfOk result (λ list. map use_of list.items ≡ type_uses_of (listed_definitions definitions.now)) }
+    ensures { IfOk result (λ list. map use_of list.items ≡ uses_in_definition (definition_kind_of kind.now)) }
 {
     let mut uses = Vec::new(alloc);
-    for definition in definitions {
-        list_inside(&mut uses, &definition.kind)?;
-    }
+    list_inside(&mut uses, kind)?;
     Ok(uses)
 }
 

@@ -22,14 +22,15 @@ use widl_idl::{Defs, IdlType, Spot, flattened, lesser_spot};
 pub fn first_alike_union(
     alloc: Global,
     defs: &Defs,
+    lineages: &Lineages,
     uses: &[ResolvedUse<'_>],
 ) -> Result<Option<Spot>, AllocError>
+    requires { TellRelated defs.now.ifaces lineages.now.spans.items }
     ensures { IfOk result (λ found. LeastWhere (Somewhere (λ (r : UseTerm). OfUnion (HaveAlikeMembers defs.now.ifaces) r.meaning r.written) (map resolved_use uses.now)) found) }
 {
-    let lineages = Lineages::of(alloc, defs)?;
     let mut best = None;
     for ty in uses {
-        let found = alike_union(alloc, defs, &lineages, ty)?;
+        let found = alike_union(alloc, defs, lineages, ty)?;
         best = lesser_spot(best, found);
     }
     Ok(best)

@@ -1,11 +1,8 @@
-use Rattle.std.proofs.Common.{arith}
-use Rattle.widl_idl.specs.PlainTrees.{definition_of}
-use Rattle.widl_overload.specs.DefinitionRules.{AnnotatesNoType}
-use Rattle.widl_valid.proofs.MappedLoops.{somewhere_end, somewhere_step}
+use Rattle.std.proofs.Common.{ap, map}
+use Rattle.widl_idl.specs.PlainTrees.{definition_of, members_of}
+use Rattle.widl_idl.specs.PlainTypes.{attribute_of}
+use Rattle.widl_valid.proofs.DefinitionPlaces.{definition_annotated}
 use Rattle.widl_valid.proofs.definition_rules.first_annotation_of_no_type.Goals as goal
 
-pub loop-definition-preserved : goal.loop-definition-preserved
-loop-definition-preserved c = somewhere_step (λ d. definition_of d.now) c.args.definitions.now AnnotatesNoType c.loop-definition.definition-index c.definition-item.result c.loop-definition.best c.annotation_in_definition-found.result c.lesser_spot-best.result (omega arith) c.definition-item.is c.lesser_spot-best.ensures c.annotation_in_definition-found.ensures c.loop-definition.invariant
-
 pub returns : goal.returns
-returns c = somewhere_end (λ d. definition_of d.now) c.args.definitions.now AnnotatesNoType c.loop-definition.definition-index c.loop-definition.best (omega arith) c.loop-definition.invariant
+returns c = definition_annotated (definition_of c.args.definition.now) (map attribute_of c.as_slice.result.now) (members_of c.members_written.result.now) c.first_annotation-own.result c.annotation_in_members-inner.result c.lesser_spot.result (ap (map attribute_of) c.as_slice.ensures) c.members_written.ensures c.first_annotation-own.ensures c.annotation_in_members-inner.ensures c.lesser_spot.ensures

@@ -1,12 +1,8 @@
-use Rattle.std.proofs.Common.{arith, subst}
+use Rattle.std.proofs.Common.{subst}
 use Rattle.widl_idl.specs.Least.{LeastWhere, Somewhere}
-use Rattle.widl_idl.specs.PlainTrees.{PlainMember, PlainDefinition, definition_of}
-use Rattle.widl_overload.specs.DefinitionRules.{HasNameless, IsNameless}
-use Rattle.widl_valid.proofs.MappedLoops.{somewhere_end, somewhere_step}
+use Rattle.widl_idl.specs.PlainTrees.{PlainMember}
+use Rattle.widl_overload.specs.DefinitionRules.{IsNameless}
 use Rattle.widl_valid.proofs.definition_rules.first_nameless_operation.Goals as goal
 
-pub loop-definition-preserved : goal.loop-definition-preserved
-loop-definition-preserved c = somewhere_step (λ d. definition_of d.now) c.args.definitions.now (λ (d : PlainDefinition). HasNameless d.kind) c.loop-definition.definition-index c.definition-item.result c.loop-definition.best c.nameless_in-found.result c.lesser_spot-best.result (omega arith) c.definition-item.is c.lesser_spot-best.ensures (subst (λ members. LeastWhere (Somewhere (λ (m : PlainMember). IsNameless m.kind) members) c.nameless_in-found.result) c.members_written.ensures c.nameless_in-found.ensures) c.loop-definition.invariant
-
 pub returns : goal.returns
-returns c = somewhere_end (λ d. definition_of d.now) c.args.definitions.now (λ (d : PlainDefinition). HasNameless d.kind) c.loop-definition.definition-index c.loop-definition.best (omega arith) c.loop-definition.invariant
+returns c = subst (λ members. LeastWhere (Somewhere (λ (m : PlainMember). IsNameless m.kind) members) c.nameless_in.result) c.members_written.ensures c.nameless_in.ensures

@@ -5,7 +5,6 @@ use Rattle.widl_names.specs.Listings.{listed_definitions}
 use Rattle.widl_names.proofs.NameMeanings.{all_plain}
 use Rattle.widl_idl.proofs.Steps.{no_rules}
 use Rattle.widl_overload.specs.Validity.{BreaksValidity, validity_number}
-use Rattle.widl_valid.proofs.JoinedRules.{all_joined}
 use Rattle.widl_valid.proofs.invalidity.find_invalid.Goals as goal
 
 pub returns : goal.returns
@@ -15,7 +14,8 @@ returns c =
     let there : definitions_of set.fragments ≡ listed_definitions c.as_slice-all.result.now = sym (ap listed_definitions c.as_slice-all.ensures.value ∙ c.in_ok-definitions.ensures ∙ ap definitions_of fragments) in
     let meant : definitions_of set.fragments ≡ plain_definitions c.in_ok-meanings.meanings = there ∙ all_plain c.as_slice-all.result.now c.in_ok-meanings.meanings (sym c.in_ok-meanings.ensures) in
     let defs = sym c.defs-defs.ensures.defs in
-    all_joined set (listed_definitions c.as_slice-all.result.now) there c.in_ok-best-7.best c.join_definitions.result c.join_definitions.ensures
-    (c.in_ok-best-7.ensures set there _ (c.in_ok-best-6.ensures set defs meant _ (c.in_ok-best-5.ensures set meant _
+    let all = listed_definitions c.as_slice-all.result.now in
+    c.join_definitions.ensures all c.in_ok-spots.ensures set there _
+    (c.join_arguments-best.ensures all c.in_ok-spots.ensures set there _ (c.in_ok-best-6.ensures set defs meant _ (c.in_ok-best-5.ensures set meant _
     (c.in_ok-best-4.ensures set defs meant _ (c.in_ok-best-3.ensures (definitions_of set.fragments) set defs refl _ (c.in_ok-best-2.ensures set meant _
     (c.in_ok-best.ensures (definitions_of set.fragments) set defs refl _ (no_rules validity_number (BreaksValidity set)))))))))

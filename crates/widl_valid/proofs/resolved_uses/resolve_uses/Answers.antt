@@ -2,8 +2,6 @@ use Rattle.std.proofs.Common.{map, arith, sym, ap, ◌∙◌}
 use Rattle.std.proofs.lemmas.List.{take_all}
 use Rattle.std.proofs.lemmas.Simd.{map-map}
 use Rattle.widl_idl.specs.PlainTrees.{plain_definitions}
-use Rattle.widl_overload.specs.TypeUses.{type_uses_of}
-use Rattle.widl_names.proofs.PlainLists.{listed_same}
 use Rattle.widl_valid.specs.UsesListed.{use_of, with_meaning}
 use Rattle.widl_valid.proofs.resolved_uses.resolve_uses.Goals as goal
 
@@ -13,4 +11,4 @@ returns c =
     c.loop-written.invariant
     ∙ ap (map (λ u. with_meaning definitions (use_of u))) (take_all c.loop-written.written-index c.deref-written-items.result.now (omega arith) ∙ c.deref-written-items.ensures.value)
     ∙ sym (map-map (with_meaning definitions) use_of c.in_ok-uses.uses.items)
-    ∙ ap (map (with_meaning definitions)) (c.in_ok-uses.ensures ∙ ap type_uses_of (listed_same c.args.definitions.now c.args.resolver.now c.requires))
+    ∙ ap (map (with_meaning definitions)) c.in_ok-uses.ensures

@@ -2,7 +2,7 @@ use Rattle.std.proofs.Common.{sym, subst}
 use Rattle.widl_idl.specs.Least.{LeastWhere, Somewhere}
 use Rattle.widl_idl.specs.PlainTrees.{PlainMember, definition_kind_of, members_of}
 use Rattle.widl_overload.specs.DefinitionRules.{HasMisformed, IsMisformed}
-use Rattle.widl_valid.proofs.definition_rules.misformed_callback.Goals as goal
+use Rattle.widl_valid.proofs.definition_rules.first_misformed_operation.Goals as goal
 
 pub returns-in-CallbackInterface : goal.returns-in-CallbackInterface
 returns-in-CallbackInterface c =

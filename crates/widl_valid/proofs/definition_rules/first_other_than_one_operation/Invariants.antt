@@ -1,8 +1,0 @@
-use Rattle.std.proofs.Common.{map, take}
-use Rattle.widl_idl.specs.Least.{LeastWhere, Somewhere}
-use Rattle.widl_idl.specs.PlainTrees.{PlainDefinition, definition_of}
-use Rattle.widl_overload.specs.DefinitionRules.{HasOtherThanOne}
-use Rattle.widl_valid.proofs.definition_rules.first_other_than_one_operation.Given as goal
-
-abbrev pub invariant-loop-definition : goal.invariant-loop-definition
-invariant-loop-definition l = LeastWhere (Somewhere (λ (d : PlainDefinition). HasOtherThanOne d.kind) (map (λ d. definition_of d.now) (take l.definition-index l.definitions))) l.best
