@@ -1,5 +1,5 @@
 -- A rule that speaks of members alone is broken among all that is written where a member breaks it.
-use Rattle.std.proofs.Common.{◌≡◌, ◌⊎◌, inl, inr, ◌++◌, Bool, true, false, List, [], ◌∷◌, map, flat_map, Option, None, Some, arith, refl}
+use Rattle.std.proofs.Common.{◌≡◌, inl, inr, ◌++◌, Bool, true, false, List, [], ◌∷◌, flat_map, Option, None, Some, refl}
 use Rattle.widl_idl.specs.declared.spot.Spot.{Spot}
 use Rattle.widl_idl.specs.Least.{LeastWhere, Somewhere}
 use Rattle.widl_idl.specs.Meanings.{declared_name}

@@ -1,12 +1,12 @@
 -- The least spots at which the rules on constants and attributes are broken, a member and a definition at a time.
-use Rattle.std.proofs.Common.{◌≡◌, ℕ, ◌+◌, ◌<◌, ◌≤◌, ◌++◌, Bool, true, false, List, [], ◌∷◌, length, take, map, get_or, flat_map, Option, None, Some, refl, sym, ap, subst, ◌∙◌, Bor}
+use Rattle.std.proofs.Common.{◌≡◌, ℕ, ◌+◌, ◌<◌, ◌≤◌, ◌++◌, false, List, [], ◌∷◌, length, take, get_or, sym, ap, subst, ◌∙◌, Bor}
 use Rattle.std.proofs.lemmas.Grind.{flat_map-append}
-use Rattle.std.proofs.lemmas.List.{append-nil, map-append, take_all, take_more}
+use Rattle.std.proofs.lemmas.List.{append-nil, map-append, take_all}
 use Rattle.widl_idl.specs.declared.spot.Spot.{Spot}
 use Rattle.widl_idl.specs.declared.tree.definitions.Definition.{Definition}
 use Rattle.widl_idl.specs.declared.tree.members.Member.{Member}
-use Rattle.widl_idl.specs.Least.{LeastWhere, Somewhere}
-use Rattle.widl_idl.specs.PlainTrees.{PlainDefinition, PlainMember, PlainMemberKind, ConstantMember, AttributeMember, definition_of, member_of, members_of}
+use Rattle.widl_idl.specs.Least.{LeastWhere}
+use Rattle.widl_idl.specs.PlainTrees.{PlainDefinition, PlainMember, definition_of, member_of, members_of}
 use Rattle.widl_idl.specs.Things.{Thing, TypeThing, AttributeThing, LiteralThing, NameThing, MemberThing, CallbackMemberThing, things_of, things_of_definition}
 use Rattle.widl_idl.proofs.Somewhere.{nowhere, somewhere_both, somewhere_one}
 use Rattle.widl_names.specs.Listings.{listed_definitions}

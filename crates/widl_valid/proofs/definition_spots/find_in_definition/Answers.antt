@@ -1,9 +1,7 @@
-use Rattle.std.proofs.Common.{◌≡◌, List, Option, ap, ◌∙◌}
-use Rattle.widl_idl.specs.declared.spot.Spot.{Spot}
-use Rattle.widl_idl.specs.Least.{AtOne, LeastWhere, Somewhere}
-use Rattle.widl_idl.specs.PlainTrees.{PlainArgument, PlainDefinition, definition_of}
+use Rattle.std.proofs.Common.{◌≡◌, ap, ◌∙◌}
+use Rattle.widl_idl.specs.PlainTrees.{PlainDefinition, definition_of}
 use Rattle.widl_idl.proofs.Somewhere.{somewhere_one}
-use Rattle.widl_overload.specs.ArgumentRules.{FollowsEllipsis, FollowsOptional, InOneList, IsArgument65, RepeatsArgument, lists_in_definition}
+use Rattle.widl_overload.specs.ArgumentRules.{FollowsEllipsis, FollowsOptional, IsArgument65, RepeatsArgument, lists_in_definition}
 use Rattle.widl_overload.specs.DefinitionRules.{AnnotatesNoType, HasMisformed, HasNameless, HasOtherThanOne, HasValueTwice}
 use Rattle.widl_valid.specs.WrittenLists.{listed_arguments}
 use Rattle.widl_valid.proofs.DefinitionSpots.{in_lists}

@@ -1,4 +1,4 @@
-use Rattle.std.proofs.Common.{List, Option, subst, sym}
+use Rattle.std.proofs.Common.{Option, subst, sym}
 use Rattle.widl_idl.specs.declared.spot.Spot.{Spot}
 use Rattle.widl_idl.specs.Least.{LeastWhere, Somewhere}
 use Rattle.widl_idl.specs.Meanings.{definitions_of}

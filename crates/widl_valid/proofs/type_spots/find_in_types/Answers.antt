@@ -1,4 +1,4 @@
-use Rattle.std.proofs.Common.{map, arith, ap, subst, ◌∙◌}
+use Rattle.std.proofs.Common.{map, arith, ap, ◌∙◌}
 use Rattle.widl_idl.specs.PlainTrees.{definition_of, plain_definitions}
 use Rattle.widl_names.proofs.PlainLists.{listed_same}
 use Rattle.widl_overload.specs.TypeUses.{uses_in_definition}
