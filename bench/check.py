@@ -46,6 +46,8 @@ def hostile():
     operations = "".join(f"undefined f{number}();" for number in range(1000))
     same = "".join(f"long a{place}," for place in range(63))
     overloads = "".join(f"undefined f({same}I{number} b);" for number in range(64))
+    optional = "".join(f",optional long a{place}" for place in range(63))
+    shortened = "".join(f"undefined f(I{number} b{optional});" for number in range(64))
     included = "".join(f"interface A{number}{{}};A{number} includes M;" for number in range(998))
     return {
         "3,000,000 definitions": pack(numbered("typedef long T{this};", 3_000_000)),
@@ -62,6 +64,7 @@ def hostile():
         "35,000 interfaces below one iterable": pack(["interface A0{iterable<long,long>;};"] + numbered("interface A{next}:A{this}{{}};", 35_000)),
         "a union of 30,000 interfaces": pack(["".join(numbered("interface A{this}{{}};", 30_000)) + "typedef (" + " or ".join(numbered("A{this}", 30_000)) + ") T;"]),
         "20 names of 64 overloads of 64 arguments": pack(["".join(numbered("interface I{this}{{}};", 64))] + numbered("namespace N{this}{{" + overloads + "}};", 20)),
+        "10 names of 64 overloads, 63 arguments of each optional": pack(["".join(numbered("interface I{this}{{}};", 64))] + numbered("namespace N{this}{{" + shortened + "}};", 10)),
     }
 
 

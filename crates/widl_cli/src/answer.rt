@@ -23,6 +23,7 @@ use crate::perform::perform_steps;
 use crate::texts::Texts;
 use crate::verdict::Verdict;
 use std::alloc::{AllocError, Global};
+use std::mem;
 use widl_first_form::{Plan, Steps, make_plan};
 use widl_folder::FetchError;
 use widl_idl::Refusal;
@@ -40,8 +41,17 @@ pub fn answer_check<K: Sink>(alloc: Global, texts: &Texts, out: &mut K) -> Statu
         Err(AllocError) => Status::Memory,
         Ok(Verdict::Fault(finding)) => answer_finding(alloc, finding, out),
         Ok(Verdict::Broken(refusal)) => answer_refusal(alloc, refusal, out),
-        Ok(Verdict::Accepted(_)) => answer_accepted(alloc, out),
+        Ok(Verdict::Accepted(accepted)) => {
+            leave_to_the_end(accepted);
+            answer_accepted(alloc, out)
+        }
     }
+}
+
+/// Leaves the memory of an accepted set to the end of the program, which is near. The system then takes it
+/// all back at once; giving back its many small pieces takes a tenth of the time of a check.
+fn leave_to_the_end(accepted: Accepted) {
+    mem::forget(accepted);
 }
 
 /// Writes the effective overload sets of some fragments, if they are a valid set.
