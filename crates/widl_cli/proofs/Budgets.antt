@@ -21,7 +21,7 @@ unfolding budget_of
 budget_found word units is =
     let small : units < 2 ^ 64 = (let most = is.most in omega (arith, most)) in
     let value : digits_value 10 word ≡ units = ap (digits_value 10) is.text ∙ (decimal_is_IsNumeral units small).1 in
-    rw value (sym (cond-true _ _ _ (and_from _ _ ((bytes_eq-Decides word (decimal units)).1 is.text) (and_from _ _ (lt-ltb _ _ is.least) (le-leb _ _ is.most)))))
+    rw value (sym (cond-true _ _ _ (and_from _ _ ((bytes_eq-Decides word (decimal units)).1 is.text) (and_from _ _ (lt-ltb _ _ is.earliest) (le-leb _ _ is.most)))))
 
 pub budget_missing : (word : List ℕ) → ((units : ℕ) → IsBudget word units → ⊥) → None ≡ budget_of word
 unfolding budget_of
@@ -31,7 +31,7 @@ budget_missing word none = sym (cond-false _ _ _ (false_from_ne_true _ refuse))
     refuse holds =
         let parts = and_parts _ _ holds in
         let bounds = and_parts _ _ parts.1 in
-        none (digits_value 10 word) (record { text = (bytes_eq-Decides _ _).0 parts.0; least = ltb-true _ _ bounds.0; most = leb-true _ _ bounds.1 })
+        none (digits_value 10 word) (record { text = (bytes_eq-Decides _ _).0 parts.0; earliest = ltb-true _ _ bounds.0; most = leb-true _ _ bounds.1 })
 
 -- what a number that was read from the word says of budgets
 pub budget_read : {E : Type 0} (word : List ℕ) (r : Result ℕ E) (number : ℕ) → ParsesUnsigned 64 10 word r → r ≡ Ok number → (IsBudget word number → ⊥) → (units : ℕ) → IsBudget word units → ⊥

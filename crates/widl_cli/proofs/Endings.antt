@@ -8,7 +8,7 @@ use Rattle.widl_folder.specs.Folders.{Counts}
 use Rattle.widl_folder.specs.declared.whole_file.FetchError.{FetchError}
 use Rattle.widl_folder.specs.declared.whole_file.FetchError.TheVariants.{Memory, Missing, Failed, TooLong}
 use Rattle.widl_first_form.specs.declared.planned.Plan.{Plan}
-use Rattle.widl_first_form.specs.declared.planned.Plan.TheVariants.{Unserved, NotScript, Run}
+use Rattle.widl_first_form.specs.declared.planned.Plan.TheVariants.{Unsupported, NotScript, Run}
 use Rattle.widl_first_form.specs.declared.step.Step.{Step}
 use Rattle.widl_first_form.specs.Plans.{plan_of}
 use Rattle.widl_idl.specs.MergedSets.{MergedSet}
@@ -43,7 +43,7 @@ plain_end units (step ∷ steps) =
     elim (nat_lt units step.units) as (λ v. IsPlain (cond v ends.Stopped (end_of (units - step.units) steps))) [ true ↦ tt | false ↦ plain_end (units - step.units) steps ]
 
 plain_plan : (budget : ℕ) (plan : Plan) → IsPlain (plan_output budget plan).status
-plain_plan budget Unserved = tt
+plain_plan budget Unsupported = tt
 plain_plan budget NotScript = tt
 plain_plan budget (Run steps) = plain_end budget steps
 

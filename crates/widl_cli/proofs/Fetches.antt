@@ -45,7 +45,7 @@ with_none (AllRead rest) = refl
 with_none (MissingFile name) = refl
 with_none (LongFile name) = refl
 
--- the files from a place on are the one at the place and those behind it
+-- the files from a place on are the one at the place and those after it
 pub next_file : (told : List (List ℕ × List ℕ)) (words : List (List ℕ)) (i : ℕ) → i < length words
     → read_in_order told (drop i words) ≡ file_then (named words i) (file_at told (named words i)) (read_in_order told (drop (i + 1) words))
 next_file told words i below = rw add-one (ap (read_in_order told) (drop-cons words i [] below))

@@ -72,7 +72,7 @@ encoding_found texts first count file found place within encoded is here =
       subst (λ n. IsLexFault n (named texts (first + n)) (NotUtf8 place)) (sym same) here,
     )
 
--- a file that isn't UTF-8, behind files that are
+-- a file that isn't UTF-8, after files that are
 pub broken_found : (texts : List (List ℕ)) (first count file : ℕ) (found finding : Option Finding) (bytes : List ℕ) → file < count → KeepsEncoding found → IsFoundIn texts first file found
     → bytes ≡ named texts (first + file) → IsFileFinding file bytes finding → BreaksEncoding finding → IsFoundIn texts first count finding
 broken_found texts first count file found None bytes within encoded is same here breaks = absurd breaks

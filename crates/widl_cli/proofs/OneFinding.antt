@@ -58,7 +58,7 @@ neither_below p q n m = by (cases_lt p q) (cases_lt q p)
     by : (p < q) ⊎ (q ≤ p) → (q < p) ⊎ (p ≤ q) → p ≡ q
     by (inl below) other = absurd (n below)
     by (inr above) (inl below) = absurd (m below)
-    by (inr above) (inr least) = omega (arith, above, least)
+    by (inr above) (inr earliest) = omega (arith, above, earliest)
 
 same_place : (a b : Place) → a.file ≡ b.file → a.at ≡ b.at → a ≡ b
 same_place a b file at = ap (λ n. record { file = n; at = a.at }) file ∙ ap (λ n. record { file = b.file; at = n }) at

@@ -3,10 +3,10 @@ use Rattle.std.proofs.Common.{◌≡◌, ℕ, ◌+◌, ◌-◌, ◌<◌, List, [
 use Rattle.std.specs.Prelude.{Option, Some, None, IsUtf8}
 use Rattle.widl_idl.specs.declared.defs.Defs.{Defs}
 use Rattle.widl_idl.specs.declared.refusal.Refusal.{Refusal}
-use Rattle.widl_idl.specs.declared.spot.Spot.{Spot}
+use Rattle.widl_idl.specs.declared.violation.Violation.{Violation}
 use Rattle.widl_idl.specs.declared.tree.fragments.Fragment.{Fragment}
 use Rattle.widl_idl.specs.DefinitionTerms.{defs_term}
-use Rattle.widl_idl.specs.LeastRefusal.{LeastBroken, spot_of}
+use Rattle.widl_idl.specs.LeastRefusal.{LeastBroken, violation_of}
 use Rattle.widl_idl.specs.LeastRefusal as least_refusal
 use Rattle.widl_idl.specs.Meanings.{definitions_of}
 use Rattle.widl_idl.specs.MergedList.{merged_from, merged_list}
@@ -19,12 +19,12 @@ use Rattle.widl_merge.proofs.OneRefusal.{one_refusal}
 use Rattle.widl_overload.specs.Validity.{BreaksValidity, validity_number, validity_rules}
 use Rattle.widl_valid.proofs.SameSets.{breaks_same}
 use Rattle.widl_syntax.specs.OneTree.{EachSpellingHasOneTree}
-use Rattle.widl_syntax.specs.Signs.{Spells}
-use Rattle.widl_syntax.specs.SpelledDefinitions.{fragment}
+use Rattle.widl_syntax.specs.Signs.{UnparsesTo}
+use Rattle.widl_syntax.specs.UnparsedDefinitions.{fragment}
 use Rattle.widl_cli.specs.Findings.{IsWellFormed, IsFoundIn}
 use Rattle.widl_cli.specs.Outputs.{Output, last, verdict_output}
 use Rattle.widl_cli.specs.Texts.{named}
-use Rattle.widl_cli.specs.Verdicts.{AcceptsSet, IsTreeOf, AreTreesFrom, FindsRefusal, IsRefusalBehind, IsTreeRefusal, IsVerdict, refusal_line}
+use Rattle.widl_cli.specs.Verdicts.{AcceptsSet, IsTreeOf, AreTreesFrom, FindsRefusal, IsRefusalAfter, IsTreeRefusal, IsVerdict, refusal_line}
 use Rattle.widl_cli.specs.declared.finding.Finding.{Finding}
 use Rattle.widl_cli.specs.declared.status.Status.TheVariants as ends
 use Rattle.widl_cli.specs.declared.verdict.Verdict.{Verdict}
@@ -35,7 +35,7 @@ use Rattle.widl_cli.proofs.OneFinding.{OneCuts, OneFaults, NoFaults, one_finding
 one_tree : OneCuts → EachSpellingHasOneTree → (file : ℕ) (bytes : List ℕ) (a b : Fragment) → IsUtf8 bytes → IsTreeOf file bytes a → IsTreeOf file bytes b → plain_definitions a.definitions ≡ plain_definitions b.definitions
 one_tree cuts trees file bytes a b utf8 is other =
     let same = one_tokens cuts file bytes is.tokens other.tokens utf8 is.tokens_are other.tokens_are in
-    trees a b other.tokens.lexemes (subst (λ (t : TokenList). Spells (fragment a) t.lexemes []) same is.spelled) other.spelled
+    trees a b other.tokens.lexemes (subst (λ (t : TokenList). UnparsesTo (fragment a) t.lexemes []) same is.spelled) other.spelled
 
 all_trees : OneCuts → EachSpellingHasOneTree → (texts : List (List ℕ)) (first file : ℕ) (xs ys : List Fragment) → length xs ≡ length ys → ((j : ℕ) → j < file + length xs → IsUtf8 (named texts (first + j))) → AreTreesFrom texts first file xs → AreTreesFrom texts first file ys → definitions_of xs ≡ definitions_of ys
 all_trees cuts trees texts first file [] [] size utf8 is other = refl
@@ -46,24 +46,24 @@ all_trees cuts trees texts first file (x ∷ xs) (y ∷ ys) size utf8 is other =
     let rest = all_trees cuts trees texts first (file + 1) xs ys (omega (arith, size)) (λ j below. utf8 j (omega (arith, below))) is.1 other.1 in
     ap (λ l. l ++ definitions_of xs) here ∙ ap (λ l. plain_definitions y.definitions ++ l) rest
 
--- the least refusal by rules that are broken at the same spots
-module _ {R : Type 0} (number : R → ℕ) (Breaks Others : R → Spot → Type 0) (rules : List R) where
-  broken_changed : (r : Refusal) → ((rule : R) (s : Spot) → Breaks rule s → Others rule s) → least_refusal.Broken number Breaks rules r → least_refusal.Broken number Others rules r
-  broken_changed r to broken = record { which = broken.which; listed = broken.listed; numbered = broken.numbered; breaks = to broken.which (spot_of r) broken.breaks }
+-- the first refusal by rules that are broken at the same violations
+module _ {R : Type 0} (number : R → ℕ) (Breaks Others : R → Violation → Type 0) (rules : List R) where
+  broken_changed : (r : Refusal) → ((rule : R) (s : Violation) → Breaks rule s → Others rule s) → least_refusal.Broken number Breaks rules r → least_refusal.Broken number Others rules r
+  broken_changed r to broken = record { which = broken.which; listed = broken.listed; numbered = broken.numbered; breaks = to broken.which (violation_of r) broken.breaks }
 
-  least_changed : (a : Option Refusal) → ((rule : R) (s : Spot) → Breaks rule s → Others rule s) → ((rule : R) (s : Spot) → Others rule s → Breaks rule s) → LeastBroken number Breaks rules a → LeastBroken number Others rules a
-  least_changed None to from least = λ r broken. least r (record { which = broken.which; listed = broken.listed; numbered = broken.numbered; breaks = from broken.which (spot_of r) broken.breaks })
-  least_changed (Some r) to from least = record {
-    broken = broken_changed r to least.broken;
-    first = λ s broken. least.first s (record { which = broken.which; listed = broken.listed; numbered = broken.numbered; breaks = from broken.which (spot_of s) broken.breaks });
+  least_changed : (a : Option Refusal) → ((rule : R) (s : Violation) → Breaks rule s → Others rule s) → ((rule : R) (s : Violation) → Others rule s → Breaks rule s) → LeastBroken number Breaks rules a → LeastBroken number Others rules a
+  least_changed None to from earliest = λ r broken. earliest r (record { which = broken.which; listed = broken.listed; numbered = broken.numbered; breaks = from broken.which (violation_of r) broken.breaks })
+  least_changed (Some r) to from earliest = record {
+    broken = broken_changed r to earliest.broken;
+    first = λ s broken. earliest.first s (record { which = broken.which; listed = broken.listed; numbered = broken.numbered; breaks = from broken.which (violation_of s) broken.breaks });
   }
 
 -- the merged lists of trees with the same definitions have the same terms
 same_terms : (xs ys : List Fragment) (a b : Defs) → definitions_of xs ≡ definitions_of ys → defs_term a ≡ merged_list xs → defs_term b ≡ merged_list ys → defs_term a ≡ defs_term b
 same_terms xs ys a b same is other = is ∙ ap merged_from same ∙ sym other
 
--- sets of trees with the same definitions have one least refusal by the rules of validity
-one_invalidity : (xs ys : List Fragment) → definitions_of xs ≡ definitions_of ys → (a b : Option Refusal) → IsRefusalBehind xs None a → IsRefusalBehind ys None b → a ≡ b
+-- sets of trees with the same definitions have one first refusal by the rules of validity
+one_invalidity : (xs ys : List Fragment) → definitions_of xs ≡ definitions_of ys → (a b : Option Refusal) → IsRefusalAfter xs None a → IsRefusalAfter ys None b → a ≡ b
 one_invalidity xs ys same a b is other =
     let first : MergedSet = record { defs = is.0; fragments = xs } in
     let second : MergedSet = record { defs = other.0; fragments = ys } in
@@ -72,15 +72,15 @@ one_invalidity xs ys same a b is other =
     (least_changed validity_number (BreaksValidity first) (BreaksValidity second) validity_rules a (breaks_same first second same merged) (breaks_same second first (sym same) (sym merged)) is.2)
     other.2
 
-one_behind : (xs ys : List Fragment) → definitions_of xs ≡ definitions_of ys → (p q a b : Option Refusal) → p ≡ q → IsRefusalBehind xs p a → IsRefusalBehind ys q b → a ≡ b
-one_behind xs ys same None None a b e is other = one_invalidity xs ys same a b is other
-one_behind xs ys same (Some r) (Some s) a b e is other = is ∙ e ∙ sym other
-one_behind xs ys same None (Some s) a b e is other = absurd (cc)
-one_behind xs ys same (Some r) None a b e is other = absurd (cc)
+one_after : (xs ys : List Fragment) → definitions_of xs ≡ definitions_of ys → (p q a b : Option Refusal) → p ≡ q → IsRefusalAfter xs p a → IsRefusalAfter ys q b → a ≡ b
+one_after xs ys same None None a b e is other = one_invalidity xs ys same a b is other
+one_after xs ys same (Some r) (Some s) a b e is other = is ∙ e ∙ sym other
+one_after xs ys same None (Some s) a b e is other = absurd (cc)
+one_after xs ys same (Some r) None a b e is other = absurd (cc)
 
 one_tree_refusal : (xs ys : List Fragment) → definitions_of xs ≡ definitions_of ys → (a b : Option Refusal) → IsTreeRefusal xs a → IsTreeRefusal ys b → a ≡ b
 one_tree_refusal xs ys same a b is other =
-    one_behind xs ys same is.early other.early a b (one_refusal (definitions_of ys) is.early other.early (subst (λ d. IsRefusal d is.early) same is.early_is) other.early_is) is.behind other.behind
+    one_after xs ys same is.early other.early a b (one_refusal (definitions_of ys) is.early other.early (subst (λ d. IsRefusal d is.early) same is.early_is) other.early_is) is.after other.after
 
 -- the trees of files
 pub record TreesOf (texts : List (List ℕ)) (first count : ℕ) (trees : List Fragment) : Type 0 where
@@ -100,7 +100,7 @@ trees_found texts first count a f = record { formed = f.formed; size = f.size; t
 trees_accepted : (texts : List (List ℕ)) (first count : ℕ) (set : MergedSet) → AcceptsSet texts first count set → TreesOf texts first count set.fragments
 trees_accepted texts first count set f = record { formed = f.formed; size = f.size; trees_are = f.trees_are }
 
--- the files have one least refusal
+-- the files have one first refusal
 one_found : OneCuts → EachSpellingHasOneTree → (texts : List (List ℕ)) (first count : ℕ) (a b : Option Refusal) → FindsRefusal texts first count a → FindsRefusal texts first count b → a ≡ b
 one_found cuts trees texts first count a b is other =
     one_tree_refusal is.trees other.trees (one_list cuts trees texts first count is.trees other.trees (trees_found texts first count a is) (trees_found texts first count b other)) a b is.refusal_is other.refusal_is

@@ -6,8 +6,8 @@ use Rattle.widl_idl.specs.declared.tree.fragments.Fragment.{Fragment}
 use Rattle.widl_idl.specs.declared.refusal.Refusal.{Refusal}
 use Rattle.widl_idl.specs.declared.merging_rule.MergingRule.{MergingRule}
 use Rattle.widl_idl.specs.declared.profile_rule.ProfileRule.{ProfileRule}
-use Rattle.widl_idl.specs.declared.spot.Spot.{Spot}
-use Rattle.widl_idl.specs.LeastRefusal.{spot_of}
+use Rattle.widl_idl.specs.declared.violation.Violation.{Violation}
+use Rattle.widl_idl.specs.LeastRefusal.{violation_of}
 use Rattle.widl_idl.specs.Meanings.{definitions_of}
 use Rattle.widl_idl.specs.MergedSets.{IsMerged, MergedSet}
 use Rattle.widl_idl.specs.MergingRules.{BreaksMerging}
@@ -95,17 +95,17 @@ trees_judged texts first count trees found (Broken refusal) is formed so kept = 
 trees_judged texts first count trees found (Accepted set) is formed so kept = set_accepted texts first count trees found set is formed so kept
 
 -- where the set of files is merged, no rule of the profile and of merging is broken
-pub none_early : (definitions : List PlainDefinition) → ((rule : ProfileRule) (s : Spot) → BreaksProfile definitions rule s → ⊥) → ((rule : MergingRule) (s : Spot) → BreaksMerging definitions rule s → ⊥) → IsRefusal definitions None
-none_early definitions profile merging = record { profile = None; profile_is = λ s broken. profile broken.which (spot_of s) broken.breaks; behind = λ s broken. merging broken.which (spot_of s) broken.breaks }
+pub none_early : (definitions : List PlainDefinition) → ((rule : ProfileRule) (s : Violation) → BreaksProfile definitions rule s → ⊥) → ((rule : MergingRule) (s : Violation) → BreaksMerging definitions rule s → ⊥) → IsRefusal definitions None
+none_early definitions profile merging = record { profile = None; profile_is = λ s broken. profile broken.which (violation_of s) broken.breaks; after = λ s broken. merging broken.which (violation_of s) broken.breaks }
 
 pub merged_judged : (set : MergedSet) (refusal : Option Refusal) → IsMerged set.defs set.fragments → IsInvalidity set refusal → IsTreeRefusal set.fragments refusal
-merged_judged set refusal is valid = record { early = None; early_is = none_early (definitions_of set.fragments) is.unbroken.profile is.unbroken.merging; behind = (set.defs, is.merged, valid) }
+merged_judged set refusal is valid = record { early = None; early_is = none_early (definitions_of set.fragments) is.unbroken.profile is.unbroken.merging; after = (set.defs, is.merged, valid) }
 
 -- a merged set that breaks no rule of validity is accepted
 pub valid_judged : (set merged : MergedSet) → set ≡ merged → IsMerged merged.defs merged.fragments → IsValid set → AcceptsTrees merged.fragments set
 valid_judged set merged same is valid =
     subst (λ (s : MergedSet). AcceptsTrees merged.fragments s) (sym same) (record {
       same = refl;
-      unbroken = merged_judged merged None is (λ s broken. (subst IsValid same valid) broken.which (spot_of s) broken.breaks);
+      unbroken = merged_judged merged None is (λ s broken. (subst IsValid same valid) broken.which (violation_of s) broken.breaks);
       merged = is.merged;
     })

@@ -36,7 +36,7 @@ last line status = record { bytes = ended line; status = status }
 
 -- what is written for a plan: the refusal of the fragment or of the script, or the trace
 abbrev pub plan_output : ℕ → plans.Plan → Output
-plan_output budget plan.Unserved = last (codes "refused later 0 0") ends.Refused
+plan_output budget plan.Unsupported = last (codes "refused later 0 0") ends.Refused
 plan_output budget plan.NotScript = last (codes "script S90 1 1") ends.ScriptRefused
 plan_output budget (plan.Run steps) = record { bytes = written budget steps; status = end_of budget steps }
 

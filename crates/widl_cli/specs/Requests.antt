@@ -9,7 +9,7 @@ use Rattle.widl_cli.specs.declared.request.Request.TheVariants.{Help, Version, C
 -- the word is the decimal text of a number from 1 to 2,000,000
 pub record IsBudget (word : List ℕ) (units : ℕ) : Type 0 where
   pub text : word ≡ decimal units
-  pub least : 0 < units
+  pub earliest : 0 < units
   pub most : units ≤ 2000000
 
 -- the same as a function: the value of the word's digits, where the word is its decimal text

@@ -11,8 +11,8 @@ use Rattle.widl_idl.specs.MergedSets.{MergedSet}
 use Rattle.widl_lex.specs.Tokens.{TokenList, AreTokensOf}
 use Rattle.widl_merge.specs.Refusals.{IsRefusal}
 use Rattle.widl_valid.specs.Invalidity.{IsInvalidity}
-use Rattle.widl_syntax.specs.Signs.{Spells}
-use Rattle.widl_syntax.specs.SpelledDefinitions.{fragment}
+use Rattle.widl_syntax.specs.Signs.{UnparsesTo}
+use Rattle.widl_syntax.specs.UnparsedDefinitions.{fragment}
 use Rattle.widl_cli.specs.Findings.{IsFoundIn}
 use Rattle.widl_cli.specs.Texts.{named}
 use Rattle.widl_cli.specs.declared.finding.Finding as findings
@@ -24,7 +24,7 @@ pub record IsTreeOf (file : ℕ) (bytes : List ℕ) (tree : Fragment) : Type 0 w
   pub file_is : tree.file ≡ file
   pub tokens : TokenList
   pub tokens_are : AreTokensOf file bytes tokens
-  pub spelled : Spells (fragment tree) tokens.lexemes []
+  pub spelled : UnparsesTo (fragment tree) tokens.lexemes []
 
 -- the trees are those of the files from number `file` on, of which file 0 is the text at `first`
 abbrev pub AreTreesFrom : List (List ℕ) → (first file : ℕ) → List Fragment → Type 0
@@ -32,21 +32,21 @@ AreTreesFrom texts first file [] = Unit {0}
 AreTreesFrom texts first file (tree ∷ more) = IsTreeOf file (named texts (first + file)) tree × AreTreesFrom texts first (file + 1) more
 
 -- the rules of validity are asked where no rule of the profile and of merging is broken: over the trees and their merged list
-abbrev pub IsRefusalBehind : List Fragment → (early refusal : Option Refusal) → Type 0
-IsRefusalBehind trees (Some first) refusal = refusal ≡ Some first
-IsRefusalBehind trees None refusal = (defs : Defs) × (defs_term defs ≡ merged_list trees) × IsInvalidity (record { defs = defs; fragments = trees }) refusal
+abbrev pub IsRefusalAfter : List Fragment → (early refusal : Option Refusal) → Type 0
+IsRefusalAfter trees (Some first) refusal = refusal ≡ Some first
+IsRefusalAfter trees None refusal = (defs : Defs) × (defs_term defs ≡ merged_list trees) × IsInvalidity (record { defs = defs; fragments = trees }) refusal
 
--- the least refusal by the rules over trees: of the profile, or else of merging, or else of validity, or none
+-- the first refusal by the rules over trees: of the profile, or else of merging, or else of validity, or none
 pub record IsTreeRefusal (trees : List Fragment) (refusal : Option Refusal) : Type 0 where
   pub early : Option Refusal
   pub early_is : IsRefusal (definitions_of trees) early
-  pub behind : IsRefusalBehind trees early refusal
+  pub after : IsRefusalAfter trees early refusal
 
 -- the file of each tree has the tree's place as its number
 abbrev pub AreNumbered : List Fragment → Type 0
 AreNumbered trees = (i : ℕ) (f : Fragment) → slice_get trees i ≡ Some f → f.file ≡ i
 
--- the files keep their encoding and their grammar, and this is the least refusal by the rules over their trees
+-- the files keep their encoding and their grammar, and this is the first refusal by the rules over their trees
 pub record FindsRefusal (texts : List (List ℕ)) (first count : ℕ) (refusal : Option Refusal) : Type 0 where
   pub formed : IsFoundIn texts first count None
   pub trees : List Fragment
@@ -67,7 +67,7 @@ IsVerdict texts first count (Fault finding) = IsFoundIn texts first count (Some 
 IsVerdict texts first count (Broken refusal) = FindsRefusal texts first count (Some refusal)
 IsVerdict texts first count (Accepted set) = AcceptsSet texts first count set
 
--- ---- the line of a refusal by a rule: `refused RULE FILE OFFSET`, and ` other FILE OFFSET` behind it where it speaks of another place; the rules of the profile are numbered from X1 on
+-- ---- the line of a refusal by a rule: `refused RULE FILE OFFSET`, and ` other FILE OFFSET` after it where it speaks of another place; the rules of the profile are numbered from X1 on
 
 abbrev pub rule_prefix : ℕ → List ℕ
 rule_prefix number = if nat_lt 100 number then codes "X" else []
@@ -75,7 +75,7 @@ rule_prefix number = if nat_lt 100 number then codes "X" else []
 abbrev pub rule_number : ℕ → ℕ
 rule_number number = if nat_lt 100 number then number - 100 else number
 
--- a line, with the other place behind it if there is one
+-- a line, with the other place after it if there is one
 abbrev pub with_other : List ℕ → Option Place → List ℕ
 with_other line None = line
 with_other line (Some place) = line ++ codes " other " ++ decimal place.file ++ codes " " ++ decimal place.at
@@ -85,7 +85,7 @@ refusal_line r = with_other (codes "refused " ++ rule_prefix r.rule ++ decimal (
 
 -- ---- what one file adds
 
--- where nothing is found in a file, its tree is put behind those of the files before
+-- where nothing is found in a file, its tree is put after those of the files before
 abbrev pub AddsTree : ℕ → List ℕ → Option findings.Finding → List Fragment → List Fragment → Type 0
 AddsTree file bytes None old new = (tree : Fragment) × (new ≡ old ++ tree ∷ []) × IsTreeOf file bytes tree
 AddsTree file bytes (Some finding) old new = Unit {0}
@@ -101,7 +101,7 @@ pub record AcceptsTrees (trees : List Fragment) (set : MergedSet) : Type 0 where
   pub unbroken : IsTreeRefusal set.fragments None
   pub merged : defs_term set.defs ≡ merged_list set.fragments
 
--- the verdict on trees: the least refusal by the rules over them, or none
+-- the verdict on trees: the first refusal by the rules over them, or none
 abbrev pub IsTreeVerdict : List Fragment → Verdict → Type 0
 IsTreeVerdict trees (Fault finding) = ⊥
 IsTreeVerdict trees (Broken refusal) = IsTreeRefusal trees (Some refusal)

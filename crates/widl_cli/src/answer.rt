@@ -99,7 +99,7 @@ fn answer_finding<K: Sink>(alloc: Global, finding: Finding, out: &mut K) -> Stat
     }
 }
 
-/// Names the least refusal of the files by a rule.
+/// Names the first refusal of the files by a rule.
 fn answer_refusal<K: Sink>(alloc: Global, refusal: Refusal, out: &mut K) -> Status
     ensures { Answers (last (refusal_line refusal) ends.Refused) (K.held out.old) (K.held out.new) (K.faults out.old) (K.faults out.new) result }
 {
@@ -147,7 +147,7 @@ fn answer_texts<K: Sink>(
 {
     match make_plan(alloc, fragment, script) {
         Err(AllocError) => Status::Memory,
-        Ok(Plan::Unserved) => last_line(alloc, b"refused later 0 0", b"", Status::Refused, out),
+        Ok(Plan::Unsupported) => last_line(alloc, b"refused later 0 0", b"", Status::Refused, out),
         Ok(Plan::NotScript) => {
             last_line(alloc, b"script S90 1 1", b"", Status::ScriptRefused, out)
         }

@@ -50,7 +50,7 @@ fn place_of(finding: Finding) -> Place
 }
 
 /// The line `refused RULE FILE OFFSET` of a broken rule, without its line feed, and ` other FILE OFFSET`
-/// behind it where the rule speaks of another place. The rules of the profile are `X1`, `X2` and so on.
+/// after it where the rule speaks of another place. The rules of the profile are `X1`, `X2` and so on.
 ///
 /// # Errors
 ///
@@ -72,7 +72,7 @@ pub fn line_of_refusal(alloc: Global, refusal: Refusal) -> Result<Vec<u8>, Alloc
     with_other(bytes, refusal.other)
 }
 
-/// A line with the other place behind it, if there is one.
+/// A line with the other place after it, if there is one.
 fn with_other(line: Vec<u8>, other: Option<Place>) -> Result<Vec<u8>, AllocError>
     ensures { IfOk result (λ whole. whole.items ≡ with_other line.items other) }
 {

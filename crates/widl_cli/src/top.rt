@@ -42,7 +42,7 @@ pub fn widl<F: Folder, K: Sink>(alloc: Global, words: &Words, folder: &mut F, ou
     ensures long_always { names_of (request_of words.now) words.now ≢ [] → F.given folder.new ≡ 1048577
         → (result ≡ Status.WriteFault) ⊎ ((result ≡ Status.TooLong) ⊎ (result ≡ Status.Memory)) }
 
-    // What the sink holds after a failure: nothing more after want of memory; else a prefix of the
+    // What the sink holds after a failure: nothing more after out of memory; else a prefix of the
     // defined output, or of the line that names the file that was started last.
     ensures short { result ≡ Status.Memory → K.held out.new ≡ K.held out.old }
     ensures torn { (told : List (List ℕ × List ℕ)) → F.files folder.old ≡ Some told → (Rose (F.faults folder.old) (F.faults folder.new) → ⊥)

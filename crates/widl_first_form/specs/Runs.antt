@@ -11,7 +11,7 @@ use Rattle.widl_first_form.specs.declared.namespace.Namespace.{Namespace}
 use Rattle.widl_first_form.specs.declared.script.Call.{Call}
 use Rattle.widl_first_form.specs.declared.step.Step.{Step}
 
--- numbers in decimal, the first behind this separator and the others behind a comma and a space
+-- numbers in decimal, the first after this separator and the others after a comma and a space
 abbrev pub listed : List ℕ → List ℤ → List ℕ
 listed separator [] = []
 listed separator (value ∷ values) = separator ++ signed_decimal value ++ listed (codes ", ") values

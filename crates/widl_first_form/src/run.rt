@@ -132,7 +132,7 @@ fn extend_with_numbers(bytes: &mut Vec<u8>, values: &[i128]) -> Result<(), Alloc
     Ok(())
 }
 
-/// Adds a number in decimal behind a separator.
+/// Adds a number in decimal after a separator.
 fn extend_with_number(bytes: &mut Vec<u8>, separator: &[u8], value: &i128) -> Result<(), AllocError>
     ensures { OnOk result (bytes.new.items ≡ bytes.old.items ++ (separator.now ++ signed_decimal value.now)) }
 {

@@ -44,7 +44,7 @@ pub fn fetch<F: Folder>(alloc: Global, folder: &mut F, name: &str) -> Result<Vec
     ensures absent { IsErrOf result FetchError.Missing → IfSome (F.files folder.old) (λ told. IsNone (file_at told name.now)) }
     ensures long { IsErrOf result FetchError.TooLong → IfSome (F.files folder.old) (λ told. IsTooLong (file_at told name.now) × IsSome (file_at told name.now)) }
 
-    // How many bytes were given: one too many exactly where the file is too long, want of memory apart.
+    // How many bytes were given: one too many exactly where the file is too long, out of memory apart.
     ensures short { IfOk result (λ v. length v.items ≤ 1048576) }
     ensures given_ok { IfOk result (λ v. F.given folder.new ≡ length v.items) }
     ensures given_long { IsErrOf result FetchError.TooLong → F.given folder.new ≡ 1048577 }

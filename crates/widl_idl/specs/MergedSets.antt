@@ -3,7 +3,7 @@ use Rattle.std.specs.Prelude.{◌≡◌, ℕ, ◌<◌, ◌≤◌, List, length, 
 use Rattle.widl_idl.specs.declared.defs.Defs.{Defs}
 use Rattle.widl_idl.specs.declared.merging_rule.MergingRule.{MergingRule}
 use Rattle.widl_idl.specs.declared.profile_rule.ProfileRule.{ProfileRule}
-use Rattle.widl_idl.specs.declared.spot.Spot.{Spot}
+use Rattle.widl_idl.specs.declared.violation.Violation.{Violation}
 use Rattle.widl_idl.specs.declared.tree.fragments.Fragment.{Fragment}
 use Rattle.widl_idl.specs.Counts.{IsNumberedList}
 use Rattle.widl_idl.specs.DefinitionTerms.{defs_term}
@@ -20,8 +20,8 @@ pub record AreFiles (fragments : List Fragment) : Type 0 where
 
 -- no rule of the profile is broken anywhere, and no rule of merging
 pub record IsUnbroken (fragments : List Fragment) : Type 0 where
-  pub profile : (rule : ProfileRule) (s : Spot) → BreaksProfile (definitions_of fragments) rule s → ⊥
-  pub merging : (rule : MergingRule) (s : Spot) → BreaksMerging (definitions_of fragments) rule s → ⊥
+  pub profile : (rule : ProfileRule) (s : Violation) → BreaksProfile (definitions_of fragments) rule s → ⊥
+  pub merging : (rule : MergingRule) (s : Violation) → BreaksMerging (definitions_of fragments) rule s → ⊥
 
 -- the list is the merged list of such a set, and 32 bits can number what is in it
 pub record IsMerged (defs : Defs) (fragments : List Fragment) : Type 0 where

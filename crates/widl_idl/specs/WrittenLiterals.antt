@@ -16,21 +16,21 @@ abbrev pub name_units : PlainName → List ℕ
 name_units name = units_of name.text
 
 -- what follows a leading 0: an `x` or `X` and hexadecimal digits, or octal digits
-abbrev pub behind_zero : List ℕ → ℕ
-behind_zero [] = 0
-behind_zero (c ∷ more) = if nat_eq c 0x78 || nat_eq c 0x58 then digits_value 16 more else digits_value 8 (c ∷ more)
+abbrev pub after_zero : List ℕ → ℕ
+after_zero [] = 0
+after_zero (c ∷ more) = if nat_eq c 0x78 || nat_eq c 0x58 then digits_value 16 more else digits_value 8 (c ∷ more)
 
 -- the value of an integer token without its sign
 abbrev pub magnitude : List ℕ → ℕ
 magnitude [] = 0
-magnitude (c ∷ more) = if nat_eq c 0x30 then behind_zero more else digits_value 10 (c ∷ more)
+magnitude (c ∷ more) = if nat_eq c 0x30 then after_zero more else digits_value 10 (c ∷ more)
 
 -- the value of an integer token, or the nearest number of 128 bits
 abbrev pub integer_of : List ℕ → ℤ
 integer_of [] = pos 0
 integer_of (c ∷ more) = if nat_eq c 0x2D then neg_ℤ (pos (min (magnitude more) (2 ^ 127))) else pos (min (magnitude (c ∷ more)) (2 ^ 127 - 1))
 
--- the value of a literal; a form that is left out stands as null
+-- the value of a literal; a form that the profile leaves unsupported stands as null
 abbrev pub value_meant : PlainValue → Literal
 value_meant NullValue = the.Null
 value_meant UndefinedValue = the.Undefined

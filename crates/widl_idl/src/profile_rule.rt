@@ -1,4 +1,4 @@
-//! The rules on forms of Web IDL that are left out.
+//! The rules on forms of Web IDL that the profile leaves unsupported.
 
 ghost use Rattle.std.specs.Prelude.{◌≡◌};
 ghost use Rattle.widl_idl.specs.Profile.{profile_number};
@@ -37,9 +37,9 @@ pub enum ProfileRule {
     FrozenArray,
 }
 
-/// A form that is left out: the rule that says so, and where its first word stands.
+/// A form that the profile leaves unsupported: the rule that says so, and where its first word stands.
 #[derive(Clone, Copy, Debug, PartialEq, Eq)]
-pub struct LeftOut {
+pub struct Unsupported {
     /// The rule.
     pub rule: ProfileRule,
     /// The place.

@@ -25,7 +25,7 @@ pub record Knows (list : DefsTerm) (tables : Tables) : Type 0 where
   pub dictionaries : KnowsRequired list tables
   pub values : KeepValues tables.values.items list.choices
 
--- the value of a literal; none for the forms that are left out
+-- the value of a literal; none for the forms that the profile leaves unsupported
 abbrev pub literal_if : PlainValue → Option Literal
 literal_if (DecimalValue text) = None
 literal_if InfinityValue = None

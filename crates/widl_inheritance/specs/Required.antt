@@ -22,7 +22,7 @@ abbrev pub required_by : List Bool → Option DictTerm → Bool
 required_by flags None = false
 required_by flags (Some d) = has_own d || parent_flagged flags d.parent
 
--- the order has each dictionary once, behind that from which it inherits
+-- the order has each dictionary once, after that from which it inherits
 pub record AreParentsFirst (dicts : List DictTerm) (order : List ℕ) : Type 0 where
   pub order_is : IsOrder (length dicts) order
   pub before : (x y : ℕ) → Step (dictionary_parents dicts) x y → StandsBefore order y x

@@ -7,7 +7,7 @@ use Rattle.widl_idl.specs.declared.tree.types.Container.{Container}
 use Rattle.widl_idl.specs.declared.tree.types.Container.TheVariants as container
 use Rattle.widl_idl.specs.PlainTypes.{PlainForm, PlainType, PlainBoolean, PlainText, PlainContainer, plain_type, PlainValue, NullValue, BooleanValue, TextValue, EmptySequenceValue}
 
--- the value is null behind a `?`
+-- the value is null after a `?`
 abbrev pub is_questioned_null : Option Place → PlainValue → Bool
 is_questioned_null (Some question) NullValue = true
 is_questioned_null question value = false

@@ -81,7 +81,7 @@ fn number_of_kind(meanings: &Meanings<'_, '_>, kind: Kind, text: &str) -> Option
     }
 }
 
-// The name behind the colon.
+// The name after the colon.
 fn parent_of<'a>(definition: &'a DefinitionKind) -> Option<&'a Name>
     ensures { option_map (λ name. name_of name.now) result ≡ parent_of (definition_kind_of definition.now) }
 {

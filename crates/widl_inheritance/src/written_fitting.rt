@@ -8,7 +8,7 @@ use widl_idl::TextKind;
 use widl_idl::tree::{Container, LiteralValue, TypeForm, WrittenType};
 use widl_text::Place;
 
-/// Whether a value fits a type whatever the names in the type mean: it is null behind a `?`, or a boolean,
+/// Whether a value fits a type whatever the names in the type mean: it is null after a `?`, or a boolean,
 /// a text or an empty sequence of such a type. Where this is false the value may fit nevertheless.
 pub fn fits_as_written(ty: &WrittenType, value: &LiteralValue) -> bool
     ensures { result ≡ fits_as_written (type_of ty.now) (value_of value.now) }
@@ -16,7 +16,7 @@ pub fn fits_as_written(ty: &WrittenType, value: &LiteralValue) -> bool
     is_questioned_null(ty.question, value) || is_value_of_form(&ty.form, value)
 }
 
-// Whether the value is null, and a `?` stands behind the type.
+// Whether the value is null, and a `?` stands after the type.
 fn is_questioned_null(question: Option<Place>, value: &LiteralValue) -> bool
     ensures { result ≡ is_questioned_null question (value_of value.now) }
 {

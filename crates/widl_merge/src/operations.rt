@@ -3,7 +3,7 @@
 ghost use Rattle.std.specs.Prelude.{◌≡◌, ℕ, Bool, false, List, ◌||◌, ◌&&◌, bytes_eq, option_map, slice_get, Some, IfOk, OnOk};
 ghost use Rattle.std.specs.List.{list_any};
 ghost use Rattle.widl_idl.specs.declared.merging_rule.MergingRule.TheVariants as rule;
-ghost use Rattle.widl_idl.specs.Least.{AtOne, LeastWhere, Somewhere};
+ghost use Rattle.widl_idl.specs.First.{AtOne, FirstWhere, Somewhere};
 ghost use Rattle.widl_idl.specs.MergingRules.{BreaksMerging, RepeatsOperation, both_or_none, is_operation_of, is_static};
 ghost use Rattle.widl_idl.specs.Meanings.{is_text_of, main_name};
 ghost use Rattle.widl_idl.specs.PlainTrees.{definition_kind_of, member_kind_of, members_of, operation_of, plain_definitions};
@@ -13,7 +13,7 @@ ghost use Rattle.widl_merge.specs.Repeats.{IsKnown, RepeatsInOwner, has_name, ha
 use indexmap::IndexSet;
 use std::alloc::{AllocError, Global};
 use widl_idl::tree::{DefinitionKind, Member, MemberKind, Operation, OperationKind};
-use widl_idl::{Kind, Spot, lesser_spot};
+use widl_idl::{Kind, Violation, earlier_violation};
 use widl_names::{Meanings, Parts, kind_of, main_name, means_number, members_in};
 
 // The names of operations.
@@ -25,7 +25,7 @@ struct OperationNames<'a> {
     fixed: IndexSet<&'a str>,
 }
 
-/// The least place of the name of an operation that an earlier part of the same definition has too.
+/// The first place of the name of an operation that an earlier part of the same definition has too.
 ///
 /// # Errors
 ///
@@ -34,15 +34,15 @@ pub fn first_in_two_parts(
     alloc: Global,
     meanings: &Meanings,
     parts: &Parts,
-) -> Result<Option<Spot>, AllocError>
+) -> Result<Option<Violation>, AllocError>
     requires { parts.now ≡ meanings.now }
-    ensures { IfOk result (λ found. LeastWhere (BreaksMerging (plain_definitions meanings.now) rule.OperationInTwoParts) found) }
+    ensures { IfOk result (λ found. FirstWhere (BreaksMerging (plain_definitions meanings.now) rule.OperationInTwoParts) found) }
 {
     let mut best = None;
     let definitions = meanings.all();
     for (number, definition) in definitions.iter().enumerate() {
         let found = first_of_owner(alloc, meanings, parts, number, &definition.kind)?;
-        best = lesser_spot(best, found);
+        best = earlier_violation(best, found);
     }
     Ok(best)
 }
@@ -54,10 +54,10 @@ fn first_of_owner(
     parts: &Parts,
     number: usize,
     kind: &DefinitionKind,
-) -> Result<Option<Spot>, AllocError>
+) -> Result<Option<Violation>, AllocError>
     requires same { parts.now ≡ meanings.now }
     requires there { option_map (λ d. d.kind) (slice_get (plain_definitions meanings.now) number) ≡ Some (definition_kind_of kind.now) }
-    ensures { IfOk result (λ found. LeastWhere (RepeatsInOwner (plain_definitions meanings.now) number (definition_kind_of kind.now)) found) }
+    ensures { IfOk result (λ found. FirstWhere (RepeatsInOwner (plain_definitions meanings.now) number (definition_kind_of kind.now)) found) }
 {
     if is_owner(meanings, number, kind) {
         let list = parts.list(alloc, number)?;
@@ -92,15 +92,15 @@ fn has_parts(kind: Kind) -> bool
     }
 }
 
-// The least place of the name of an operation that an earlier one of the parts has too.
-fn first_repeated(alloc: Global, parts: &[&DefinitionKind]) -> Result<Option<Spot>, AllocError>
-    ensures { IfOk result (λ found. LeastWhere (AtOne RepeatsOperation (listed_parts parts.now)) found) }
+// The first place of the name of an operation that an earlier one of the parts has too.
+fn first_repeated(alloc: Global, parts: &[&DefinitionKind]) -> Result<Option<Violation>, AllocError>
+    ensures { IfOk result (λ found. FirstWhere (AtOne RepeatsOperation (listed_parts parts.now)) found) }
 {
     let mut known = OperationNames::new(alloc);
     let mut best = None;
     for part in parts {
         let found = known.first_known(members_in(part));
-        best = lesser_spot(best, found);
+        best = earlier_violation(best, found);
         known.add_all(members_in(part))?;
     }
     Ok(best)
@@ -136,19 +136,19 @@ impl<'a> OperationNames<'a> {
         }
     }
 
-    // The least place of the name of an operation among these members that is known.
-    fn first_known(&self, members: &[Member]) -> Option<Spot>
-        ensures { LeastWhere (Somewhere (IsKnown (has_name self.now.regular self.now.fixed)) (members_of members.now)) result }
+    // The first place of the name of an operation among these members that is known.
+    fn first_known(&self, members: &[Member]) -> Option<Violation>
+        ensures { FirstWhere (Somewhere (IsKnown (has_name self.now.regular self.now.fixed)) (members_of members.now)) result }
     {
         let mut best = None;
         for member in members {
             let found = self.known_member(&member.kind);
-            best = lesser_spot(best, found);
+            best = earlier_violation(best, found);
         }
         best
     }
 
-    fn known_member(&self, kind: &MemberKind) -> Option<Spot>
+    fn known_member(&self, kind: &MemberKind) -> Option<Violation>
         ensures { result ≡ known_at (has_name self.now.regular self.now.fixed) (member_kind_of kind.now) }
     {
         match kind {
@@ -157,12 +157,12 @@ impl<'a> OperationNames<'a> {
         }
     }
 
-    fn known_operation(&self, operation: &Operation) -> Option<Spot>
+    fn known_operation(&self, operation: &Operation) -> Option<Violation>
         ensures { result ≡ known_name (has_name self.now.regular self.now.fixed) (is_static operation.now.kind) (operation_of operation.now).name }
     {
         let name = operation.name.as_ref()?;
         if self.contains(name.text.as_str(), is_static(operation.kind)) {
-            Some(Spot::at(name.at))
+            Some(Violation::at(name.at))
         } else {
             None
         }

@@ -4,7 +4,7 @@ ghost use Rattle.std.specs.Prelude.{◌≡◌, ◌+◌, ℕ, List, None, Some, o
 ghost use Rattle.std.specs.Option.{option_map_or};
 ghost use Rattle.widl_idl.specs.declared.kind.Kind.TheVariants as kinds;
 ghost use Rattle.widl_idl.specs.declared.merging_rule.MergingRule.TheVariants as rule;
-ghost use Rattle.widl_idl.specs.Least.{LeastWhere, spot_at};
+ghost use Rattle.widl_idl.specs.First.{FirstWhere, violation_at};
 ghost use Rattle.widl_idl.specs.Meanings.{meant_kind};
 ghost use Rattle.widl_idl.specs.MergingRules.{BreaksMerging, includes_portion, is_kind, member_total, part_portion, portion_of, takes_part};
 ghost use Rattle.widl_idl.specs.Parts.{adds_to, is_mixin, members_in, own_parts};
@@ -16,7 +16,7 @@ ghost use Rattle.widl_merge.specs.Portions.{AreFound, KeepsAdded, added_in, capp
 use indexmap::IndexMap;
 use std::alloc::{AllocError, Global};
 use widl_idl::tree::{Definition, DefinitionKind, Includes, Member, Mixin, Name};
-use widl_idl::{Kind, Spot, lesser_spot};
+use widl_idl::{Kind, Violation, earlier_violation};
 use widl_names::{Meanings, is_partial, kind_of, means_kind, means_number};
 use widl_text::Place;
 
@@ -38,8 +38,8 @@ pub struct Portion {
 /// # Errors
 ///
 /// `AllocError` where there is no memory.
-pub fn first_past_limit(alloc: Global, meanings: &Meanings) -> Result<Option<Spot>, AllocError>
-    ensures { IfOk result (λ found. LeastWhere (BreaksMerging (plain_definitions meanings.now) rule.TooManyMembers) found) }
+pub fn first_past_limit(alloc: Global, meanings: &Meanings) -> Result<Option<Violation>, AllocError>
+    ensures { IfOk result (λ found. FirstWhere (BreaksMerging (plain_definitions meanings.now) rule.TooManyMembers) found) }
 {
     let definitions = meanings.all();
     let added = added_members(alloc, definitions)?;
@@ -48,19 +48,19 @@ pub fn first_past_limit(alloc: Global, meanings: &Meanings) -> Result<Option<Spo
     for (number, definition) in definitions.iter().enumerate() {
         let portion = portion_of(meanings, &added, number, &definition.kind);
         let found = passed(sum, portion);
-        best = lesser_spot(best, found);
+        best = earlier_violation(best, found);
         sum = summed(sum, portion);
     }
     Ok(best)
 }
 
-// The spot of a portion with which the sum passes the limit.
-fn passed(sum: u32, portion: Option<Portion>) -> Option<Spot>
-    ensures { result ≡ option_and_then (λ p. if nat_lt sum 1000001 && nat_lt 1000000 (capped (sum + p.size)) then Some (spot_at p.at) else None) portion }
+// The violation of a portion with which the sum passes the limit.
+fn passed(sum: u32, portion: Option<Portion>) -> Option<Violation>
+    ensures { result ≡ option_and_then (λ p. if nat_lt sum 1000001 && nat_lt 1000000 (capped (sum + p.size)) then Some (violation_at p.at) else None) portion }
 {
     let portion = portion?;
     if sum <= LIMIT && plus(sum, portion.size) > LIMIT {
-        Some(Spot::at(portion.at))
+        Some(Violation::at(portion.at))
     } else {
         None
     }

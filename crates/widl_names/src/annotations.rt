@@ -1,7 +1,7 @@
 //! What the annotations before a type say of it.
 
 ghost use Rattle.std.specs.Prelude.{◌≡◌, ◌++◌, List, [], map, option_to_list, false, Some};
-ghost use Rattle.widl_idl.specs.Least.{is_before};
+ghost use Rattle.widl_idl.specs.First.{is_before};
 ghost use Rattle.widl_idl.specs.PlainTypes.{attribute_of};
 ghost use Rattle.widl_idl.specs.Resolution.{Note, annotated, earlier_mode, mode_or_wrap, takes_null_to_empty};
 ghost use Rattle.widl_idl.specs.Terms.{type_term, IntegerType, StringType};

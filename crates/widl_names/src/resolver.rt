@@ -17,7 +17,7 @@ ghost use Rattle.widl_idl.specs.Terms.{packed, type_term, type_terms};
 ghost use Rattle.widl_idl.specs.WrittenTypes.{meaning_alone, meaning_of_type, meaning_with, type_of_kind, type_of_meaning, typedefs, written_members};
 ghost use Rattle.widl_names.specs.SaidNotes.{Says};
 ghost use Rattle.widl_names.specs.TypedefEnds.{GoesTo, IsNext};
-ghost use Rattle.widl_names.specs.TypeUses.{Behind, IsKnown, IsLast, Leads, MeansWritten, container_meaning, form_meaning, meaning_at, meaning_of_use, numbered_kind, own_meaning, questioned, typedef_at, without_parts};
+ghost use Rattle.widl_names.specs.TypeUses.{After, IsKnown, IsLast, Leads, MeansWritten, container_meaning, form_meaning, meaning_at, meaning_of_use, numbered_kind, own_meaning, questioned, typedef_at, without_parts};
 
 use crate::annotations::Annotations;
 use crate::kind_numbers::{KindNumbers, number_kinds};
@@ -30,7 +30,7 @@ use std::marker::Model;
 use widl_idl::tree::{AnnotatedType, Container, ExtendedAttribute, TypeForm, WrittenType};
 use widl_idl::{IdlType, IdlTypes, Kind};
 
-// How deep types may nest, each with the `?`s behind it.
+// How deep types may nest, each with the `?`s after it.
 const LEVELS: usize = 16;
 
 // How many bytes of a name are looked up in one step.
@@ -72,12 +72,12 @@ pub struct Use<'t> {
     pub annotations: Annotations,
     // How many typedefs it may still lead to.
     pub typedefs: u32,
-    // How many `?`s stand behind it.
+    // How many `?`s stand after it.
     pub questions: usize,
 }
 
 impl<'t> Use<'t> {
-    // A type behind these annotations.
+    // A type after these annotations.
     fn of(ty: &'t WrittenType, annotations: Annotations, typedefs: u32) -> Use<'t>
         ensures annotations { result.annotations ≡ annotations }
         ensures same { MeansWritten result (type_of ty.now) }
@@ -146,7 +146,7 @@ impl<'m, 'd, 'a> Resolver<'m, 'd, 'a> {
         })
     }
 
-    /// What a type means behind these annotations (Web IDL, "Typedefs" and "Annotated types").
+    /// What a type means after these annotations (Web IDL, "Typedefs" and "Annotated types").
     ///
     /// Typedefs of typedefs may make types and take time that grow far faster than their source. So
     /// `steps` bounds both: it counts down with each type that is made or followed, each 64 bytes of a
@@ -240,9 +240,9 @@ impl<'m, 'd, 'a> Resolver<'m, 'd, 'a> {
     }
 
     // Where a use of a type leads, if that type is a typedef's name.
-    fn behind(&self, steps: &mut usize, from: &KnownUse<'a>) -> Result<Option<Use<'a>>, AllocError>
+    fn after(&self, steps: &mut usize, from: &KnownUse<'a>) -> Result<Option<Use<'a>>, AllocError>
         requires { IsKnown (plain_definitions self.now) from.now }
-        ensures { IfOk result (λ next. Behind (plain_definitions self.now) from.now.usage next) }
+        ensures { IfOk result (λ next. After (plain_definitions self.now) from.now.usage next) }
     {
         if from.usage.typedefs == 0 {
             return Ok(None);
@@ -301,7 +301,7 @@ impl<'m, 'd, 'a> Resolver<'m, 'd, 'a> {
         ensures known { IfOk result (λ last. IsKnown (plain_definitions self.now) last) }
     {
         let mut reached = self.look_up(steps, *start)?;
-        while let Some(next) = self.behind(steps, &reached)? {
+        while let Some(next) = self.after(steps, &reached)? {
             reached = self.look_up(steps, next)?;
         }
         Ok(reached)
@@ -401,7 +401,7 @@ impl<'m, 'd, 'a> Resolver<'m, 'd, 'a> {
         }
     }
 
-    // What a type means behind no annotations.
+    // What a type means after no annotations.
     #[cycle(resolve)]
     fn promised_type(
         &self,
@@ -418,7 +418,7 @@ impl<'m, 'd, 'a> Resolver<'m, 'd, 'a> {
         Ok(Box::new(alloc, value)?)
     }
 
-    // What a type means behind its own annotations alone.
+    // What a type means after its own annotations alone.
     #[cycle(resolve)]
     fn annotated_type(
         &self,
@@ -505,7 +505,7 @@ fn form_size(form: &TypeForm) -> usize {
     }
 }
 
-// A type with so many `?`s behind it.
+// A type with so many `?`s after it.
 fn with_questions(alloc: Global, inner: IdlType, questions: usize) -> Result<IdlType, AllocError>
     ensures { IfOk result (λ t. type_term t ≡ questioned questions (type_term inner)) }
 {

@@ -18,7 +18,7 @@ use std::alloc::{AllocError, Global};
 use widl_idl::tree::{AnnotatedType, TypeForm};
 use widl_text::Place;
 
-/// How many `?`s may stand behind one type and the typedefs that it leads to. A rule allows one.
+/// How many `?`s may stand after one type and the typedefs that it leads to. A rule allows one.
 pub const QUESTIONS: usize = 16;
 
 /// Where a chain of typedefs ends that begins with a type.
@@ -28,9 +28,9 @@ pub struct ChainEnd<'a> {
     pub form: &'a TypeForm,
     /// What the annotations of the chain's types say, in their order.
     pub annotations: Annotations,
-    /// How many typedefs are passed behind the first type.
+    /// How many typedefs are passed after the first type.
     pub passed: u32,
-    /// How many `?`s stand behind the chain's types.
+    /// How many `?`s stand after the chain's types.
     pub questions: usize,
 }
 
@@ -49,7 +49,7 @@ impl<'a> ChainEnd<'a> {
     }
 
     // The end of the chain that begins with a type which names the typedef whose chain ends here.
-    fn behind(&self, ty: &'a AnnotatedType) -> ChainEnd<'a>
+    fn after(&self, ty: &'a AnnotatedType) -> ChainEnd<'a>
         requires { CanGrow self.now }
         ensures { (definitions : List PlainDefinition) → IsEndOf definitions (typedef_of_form definitions (form_term ty.now.ty.form)) self.now → EndsAt definitions (annotated_of ty.now) result }
     {
@@ -117,7 +117,7 @@ fn chain_end<'a>(
     match end_named(meanings, ends, &ty.ty.form) {
         None => ChainEnd::of(ty),
         Some(next) => if next.can_grow() {
-            next.behind(ty)
+            next.after(ty)
         } else {
             ChainEnd::of(ty)
         },
@@ -158,7 +158,7 @@ fn keep_end<'a>(ends: &mut Vec<Option<ChainEnd<'a>>>, number: usize, end: Option
     }
 }
 
-/// How many `?`s stand behind a type: 1 or none.
+/// How many `?`s stand after a type: 1 or none.
 pub fn count_question(question: Option<Place>) -> usize
     ensures { result ≡ question_count question }
 {

@@ -4,7 +4,7 @@ ghost use Rattle.std.specs.Prelude.{◌≡◌, ◌^◌, ◌-◌, ◌≤◌, min,
 ghost use Rattle.std.specs.Char.{digit_value};
 ghost use Rattle.std.specs.Str.Parse.{digits_value};
 ghost use Rattle.widl_idl.specs.PlainTypes.{literal_of, value_of};
-ghost use Rattle.widl_idl.specs.WrittenLiterals.{behind_zero, default_of, integer_of, magnitude, value_meant};
+ghost use Rattle.widl_idl.specs.WrittenLiterals.{after_zero, default_of, integer_of, magnitude, value_meant};
 ghost use Rattle.widl_names.specs.WrittenIntegers.{saturated};
 
 use std::alloc::{AllocError, Global};
@@ -88,14 +88,14 @@ fn magnitude(token: &[u8]) -> u128
     ensures { result ≡ saturated (magnitude token.now) }
 {
     match token.split_first() {
-        Some((b'0', more)) => behind_zero(more),
+        Some((b'0', more)) => after_zero(more),
         _ => digits_value(10, token),
     }
 }
 
 // What follows a leading zero: an `x` and hexadecimal digits, or octal digits.
-fn behind_zero(more: &[u8]) -> u128
-    ensures { result ≡ saturated (behind_zero more.now) }
+fn after_zero(more: &[u8]) -> u128
+    ensures { result ≡ saturated (after_zero more.now) }
 {
     match more.split_first() {
         Some((b'x' | b'X', digits)) => digits_value(16, digits),

@@ -17,5 +17,5 @@ pub mod IterableRules
 pub mod OverloadRules
 pub mod OverloadLists
 pub mod OverloadNames
-pub mod OverloadSpots
+pub mod OverloadViolations
 pub mod Validity

@@ -1,5 +1,5 @@
-//! Overloads of Web IDL: which types can be told apart, the effective overload set of a callee, and
-//! the argument by which overloads are told apart. It stands on `widl_text` and `widl_idl`. The
+//! Overloads of Web IDL: which types are distinguishable, the effective overload set of a callee, and
+//! the argument by which overloads are distinguished. It stands on `widl_text` and `widl_idl`. The
 //! contract that the crates above use: [`effective_set`] lists each tuple of the standard's set once.
 #![tactic(auto)]
 
@@ -12,7 +12,7 @@ mod inheritance;
 mod overload_names;
 mod overload_rules;
 mod overload_sizes;
-mod overload_spots;
+mod overload_violations;
 mod sets;
 #[cfg(test)]
 mod tests;
@@ -26,8 +26,10 @@ pub use category::Category;
 pub use distinct::{distinguishable, distinguishable_from_itself, distinguishable_is_symmetric};
 pub use index::distinguishing_index;
 pub use inheritance::inherits;
-pub use overload_rules::{first_alike_overloads, first_early_difference, least_overload_spots};
-pub use overload_spots::OverloadSpots;
+pub use overload_rules::{
+    first_early_difference, first_indistinguishable_overloads, first_overload_violations,
+};
+pub use overload_violations::OverloadViolations;
 pub use sets::{effective_set, effective_set_is_as_constructed};
 pub use tuple::{OverloadSet, Tuple};
 pub use type_role::TypeRole;

@@ -12,9 +12,9 @@ pub enum ValidityRule {
     /// Two arguments of a list share a name.
     RepeatedArgumentName,
     /// An argument follows one with an ellipsis.
-    ArgumentBehindEllipsis,
+    ArgumentAfterEllipsis,
     /// A required argument follows an optional one.
-    RequiredBehindOptional,
+    RequiredAfterOptional,
     /// A default value doesn't fit its type.
     OtherDefault,
     /// The type of a constant is neither boolean nor an integer type.
@@ -31,8 +31,8 @@ pub enum ValidityRule {
     SeveralNullableMembers,
     /// A union includes a nullable type and has a dictionary.
     NullableBesideDictionary,
-    /// Two flattened member types of a union can't be told apart.
-    AlikeUnionMembers,
+    /// Two flattened member types of a union aren't distinguishable.
+    IndistinguishableUnionMembers,
     /// A member type of a union is annotated.
     AnnotatedUnionMember,
     /// An argument that takes a dictionary without required members has no default value.
@@ -53,9 +53,9 @@ pub enum ValidityRule {
     CallbackInterfaceOperations,
     /// A stringifier attribute is neither a DOMString nor a USVString, or a stringifier is the second.
     Stringifiers,
-    /// Overloads can't be told apart.
-    AlikeOverloads,
-    /// Overloads differ before the argument by which they are told apart.
+    /// Overloads aren't distinguishable.
+    IndistinguishableOverloads,
+    /// Overloads differ before the argument by which they are distinguished.
     EarlyDifference,
     /// An attribute of promise type isn't read only.
     WritablePromise,
@@ -89,8 +89,8 @@ impl ValidityRule {
         match self {
             ValidityRule::RepeatedEnumerationValue => 12,
             ValidityRule::RepeatedArgumentName => 13,
-            ValidityRule::ArgumentBehindEllipsis => 14,
-            ValidityRule::RequiredBehindOptional => 15,
+            ValidityRule::ArgumentAfterEllipsis => 14,
+            ValidityRule::RequiredAfterOptional => 15,
             ValidityRule::OtherDefault => 16,
             ValidityRule::OtherConstantType => 17,
             ValidityRule::OtherConstantValue => 18,
@@ -99,7 +99,7 @@ impl ValidityRule {
             ValidityRule::WronglyNullable => 21,
             ValidityRule::SeveralNullableMembers => 22,
             ValidityRule::NullableBesideDictionary => 23,
-            ValidityRule::AlikeUnionMembers => 24,
+            ValidityRule::IndistinguishableUnionMembers => 24,
             ValidityRule::AnnotatedUnionMember => 25,
             ValidityRule::NoEmptyDefault => 26,
             ValidityRule::NullableDictionary => 27,
@@ -110,7 +110,7 @@ impl ValidityRule {
             ValidityRule::HiddenIterationMethod => 32,
             ValidityRule::CallbackInterfaceOperations => 33,
             ValidityRule::Stringifiers => 34,
-            ValidityRule::AlikeOverloads => 35,
+            ValidityRule::IndistinguishableOverloads => 35,
             ValidityRule::EarlyDifference => 36,
             ValidityRule::WritablePromise => 37,
             ValidityRule::PromisesAndOthers => 38,

@@ -3,7 +3,7 @@ use Rattle.std.proofs.Common.{◌≡◌, ℕ, ◌+◌, ◌<◌, ◌≤◌, ◌�
 use Rattle.std.specs.Prelude.{Option, None, Some}
 use Rattle.std.proofs.lemmas.Bool.{cases_Bool, cases_eq, le-leb, leb-true}
 use Rattle.widl_idl.specs.declared.interface.Iface.{Iface}
-use Rattle.widl_overload.specs.Index.{IsDistinguishingIndex, of_one_length, tells_apart}
+use Rattle.widl_overload.specs.Index.{IsDistinguishingIndex, of_one_length, distinguishes}
 use Rattle.widl_overload.specs.Sets.{TupleTerm}
 use Rattle.widl_sets.specs.Ids.{first_from}
 use Rattle.widl_sets.specs.Lines.{index_of}
@@ -31,9 +31,9 @@ index_is ifaces tuples len None h = by (cases_Bool (nat_le 2 (length (of_one_len
   where
     by : (nat_le 2 (length (of_one_length len tuples)) ≡ true) ⊎ (nat_le 2 (length (of_one_length len tuples)) ≡ false) → None ≡ index_of ifaces tuples len
     by (inl several) =
-        sym (first_from_none (tells_apart ifaces tuples len) 0 len (λ q from below. h (leb-true 2 (length (of_one_length len tuples)) several) q (omega (arith, below))))
-        ∙ sym (ap (λ b. cond b (first_from (tells_apart ifaces tuples len) 0 len) None) several)
-    by (inr few) = sym (ap (λ b. cond b (first_from (tells_apart ifaces tuples len) 0 len) None) few)
+        sym (first_from_none (distinguishes ifaces tuples len) 0 len (λ q from below. h (leb-true 2 (length (of_one_length len tuples)) several) q (omega (arith, below))))
+        ∙ sym (ap (λ b. cond b (first_from (distinguishes ifaces tuples len) 0 len) None) several)
+    by (inr few) = sym (ap (λ b. cond b (first_from (distinguishes ifaces tuples len) 0 len) None) few)
 index_is ifaces tuples len (Some place) h =
-    sym (first_from_at (tells_apart ifaces tuples len) 0 len place (omega arith) (let within = h.within in omega (arith, within)) h.tells (λ q from below. h.lowest q below))
-    ∙ sym (ap (λ b. cond b (first_from (tells_apart ifaces tuples len) 0 len) None) (le-leb 2 (length (of_one_length len tuples)) h.several))
+    sym (first_from_at (distinguishes ifaces tuples len) 0 len place (omega arith) (let within = h.within in omega (arith, within)) h.tells (λ q from below. h.lowest q below))
+    ∙ sym (ap (λ b. cond b (first_from (distinguishes ifaces tuples len) 0 len) None) (le-leb 2 (length (of_one_length len tuples)) h.several))

@@ -93,7 +93,7 @@ module _ (parents : List (Option ℕ)) (ids : List ℕ) (old : ℕ → Bool) (n 
       let second : nat_eq q n ≡ false = ne_eqb q n (λ e. let its : parent_at parents n ≡ Some n = ap (parent_at parents) (sym e) ∙ is in let both : true ≡ false = sym (sym (ap (has_id_or_is_none ids) its) ∙ may.after) ∙ may.new in (cc)) in
       (first, second)
 
-  -- who is ready behind the new id, by the parent
+  -- who is ready after the new id, by the parent
   ready_by : (q : ℕ) (parent : Option ℕ) → parent_at parents q ≡ parent
       → (is_parent n parent || ((nat_lt q (length parents) && (not (has_id ids q) && has_id_or_is_none ids parent)) && not (nat_eq q n))) ≡ (nat_lt q (length parents) && (not (has_id ids q || nat_eq q n) && has_id_or_is_none (ids ++ n ∷ []) parent))
   ready_by q None is = without (nat_lt q (length parents)) (has_id ids q) (nat_eq q n)

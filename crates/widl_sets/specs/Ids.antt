@@ -41,6 +41,6 @@ abbrev pub first_ids : List (Option ℕ) → ℕ → List ℕ
 first_ids parents zero = []
 first_ids parents (suc count) = followed_by (first_ids parents count) (next_of parents (first_ids parents count))
 
--- the interfaces in the order of their ids; one on a circle of parents or behind it has none
+-- the interfaces in the order of their ids; one on a circle of parents or after it has none
 unfoldable pub id_order : List (Option ℕ) → List ℕ
 id_order parents = first_ids parents (length parents)

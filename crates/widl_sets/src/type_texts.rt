@@ -61,7 +61,7 @@ pub fn push_type(
     }
 }
 
-/// Adds the text of a type and the `>` behind it.
+/// Adds the text of a type and the `>` after it.
 #[cycle(texts)]
 fn push_closed(
     alloc: Global,

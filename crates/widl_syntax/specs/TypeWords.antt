@@ -9,7 +9,7 @@ use Rattle.widl_idl.specs.TypeTrees.{form_of}
 use Rattle.widl_grammar.specs.declared.terminal.Terminal.{Terminal}
 use Rattle.widl_grammar.specs.declared.terminal.Terminal.TheVariants as t
 use Rattle.widl_syntax.specs.Signs.{Sign, word, ◌⧺◌}
-use Rattle.widl_syntax.specs.SpelledTypes.{form_signs}
+use Rattle.widl_syntax.specs.UnparsedTypes.{form_signs}
 
 -- the words of an integer type without `unsigned`
 abbrev pub integer_rest : IntKind → List Sign

@@ -1,17 +1,17 @@
 //! How many overloads operations and constructors have.
 
 ghost use Rattle.std.specs.Prelude.{◌≡◌, ℕ, ◌+◌, ◌&&◌, Bool, List, bytes_eq, nat_eq, if◌then◌else◌, IfOk, OnOk};
-ghost use Rattle.widl_idl.specs.Least.{AtOne, LeastWhere};
+ghost use Rattle.widl_idl.specs.First.{AtOne, FirstWhere};
 ghost use Rattle.widl_idl.specs.MergingRules.{both_or_none, is_static};
 ghost use Rattle.widl_idl.specs.PlainTrees.{member_kind_of, operation_of};
 ghost use Rattle.widl_overload.specs.MemberRules.{HasOverload65};
-ghost use Rattle.widl_valid.specs.MemberTables.{count_in, has_overload, is_constructor, is_overload, listed_members, overload_count, spot_of_name, spot_past_limit};
+ghost use Rattle.widl_valid.specs.MemberTables.{count_in, has_overload, is_constructor, is_overload, listed_members, overload_count, violation_of_name, violation_past_limit};
 
 use crate::owner_members::{is_static, operation_text};
 use indexmap::IndexMap;
 use std::alloc::{AllocError, Global};
 use widl_idl::tree::{Member, MemberKind, Operation};
-use widl_idl::{Spot, lesser_spot};
+use widl_idl::{Violation, earlier_violation};
 
 // How many overloads a name or a constructor may have.
 const LIMIT: u32 = 64;
@@ -32,7 +32,7 @@ struct OverloadCounts<'a> {
     constructors: u32,
 }
 
-/// The least place of an operation's name or of the word `constructor` that follows 64 of its overloads.
+/// The first place of an operation's name or of the word `constructor` that follows 64 of its overloads.
 ///
 /// # Errors
 ///
@@ -40,14 +40,14 @@ struct OverloadCounts<'a> {
 pub fn first_overload_past_limit(
     alloc: Global,
     members: &[&Member],
-) -> Result<Option<Spot>, AllocError>
-    ensures { IfOk result (λ found. LeastWhere (AtOne HasOverload65 (listed_members members.now)) found) }
+) -> Result<Option<Violation>, AllocError>
+    ensures { IfOk result (λ found. FirstWhere (AtOne HasOverload65 (listed_members members.now)) found) }
 {
     let mut counts = OverloadCounts::new(alloc);
     let mut best = None;
     for member in members {
         let found = counts.past_limit(&member.kind);
-        best = lesser_spot(best, found);
+        best = earlier_violation(best, found);
         counts.add(&member.kind)?;
     }
     Ok(best)
@@ -65,13 +65,13 @@ impl<'a> OverloadCounts<'a> {
     }
 
     // The place of a member that follows 64 of its overloads.
-    fn past_limit(&self, kind: &MemberKind) -> Option<Spot>
-        ensures { result ≡ spot_past_limit (overload_count self.now.operations.regular self.now.operations.fixed) self.now.constructors (member_kind_of kind.now) }
+    fn past_limit(&self, kind: &MemberKind) -> Option<Violation>
+        ensures { result ≡ violation_past_limit (overload_count self.now.operations.regular self.now.operations.fixed) self.now.constructors (member_kind_of kind.now) }
     {
         match kind {
             MemberKind::Operation(operation) => self.operations.past_limit(operation),
             MemberKind::Constructor(constructor) => if self.constructors == LIMIT {
-                Some(Spot::at(constructor.at))
+                Some(Violation::at(constructor.at))
             } else {
                 None
             },
@@ -106,12 +106,12 @@ impl<'a> NameCounts<'a> {
     }
 
     // The place of the name of an operation that follows 64 of its overloads.
-    fn past_limit(&self, operation: &Operation) -> Option<Spot>
-        ensures { result ≡ spot_of_name (operation_of operation.now).name (λ text. nat_eq (overload_count self.now.regular self.now.fixed text (is_static operation.now.kind)) 64) }
+    fn past_limit(&self, operation: &Operation) -> Option<Violation>
+        ensures { result ≡ violation_of_name (operation_of operation.now).name (λ text. nat_eq (overload_count self.now.regular self.now.fixed text (is_static operation.now.kind)) 64) }
     {
         let name = operation.name.as_ref()?;
         if self.count(name.text.as_str(), is_static(operation.kind)) == LIMIT {
-            Some(Spot::at(name.at))
+            Some(Violation::at(name.at))
         } else {
             None
         }

@@ -1,7 +1,7 @@
 //! Where the annotations of a type stand that say what becomes of numbers out of its range.
 
 ghost use Rattle.std.specs.Prelude.{◌≡◌, ◌++◌, List, [], map};
-ghost use Rattle.widl_idl.specs.Least.{LeastWhere};
+ghost use Rattle.widl_idl.specs.First.{FirstWhere};
 ghost use Rattle.widl_idl.specs.PlainTypes.{attribute_of};
 ghost use Rattle.widl_idl.specs.Resolution.{Note};
 ghost use Rattle.widl_idl.specs.WrittenTypes.{annotation_of, notes_of};
@@ -9,16 +9,16 @@ ghost use Rattle.widl_overload.specs.TypeRules.{HasBoth, later};
 ghost use Rattle.widl_valid.specs.EarliestNotes.{AreEarliest, later_of, said_by};
 
 use widl_idl::tree::ExtendedAttribute;
-use widl_idl::{Spot, lesser_spot};
+use widl_idl::{Violation, earlier_violation};
 use widl_text::Place;
 
 // The names of the earliest `[Clamp]` and of the earliest `[EnforceRange]` in a list of annotations.
 #[derive(Clone, Copy)]
 pub struct RangeAnnotations {
     // Where `[Clamp]` stands.
-    pub clamp: Option<Spot>,
+    pub clamp: Option<Violation>,
     // Where `[EnforceRange]` stands.
-    pub enforce: Option<Spot>,
+    pub enforce: Option<Violation>,
 }
 
 impl RangeAnnotations {
@@ -48,17 +48,17 @@ impl RangeAnnotations {
         ensures { (notes more : List Note) → AreEarliest self notes → AreEarliest others more → AreEarliest result (notes ++ more) }
     {
         RangeAnnotations {
-            clamp: lesser_spot(self.clamp, others.clamp),
-            enforce: lesser_spot(self.enforce, others.enforce),
+            clamp: earlier_violation(self.clamp, others.clamp),
+            enforce: earlier_violation(self.enforce, others.enforce),
         }
     }
 
-    // The later name of the two, where there are both: the least place that is the later of a `[Clamp]` and an
+    // The later name of the two, where there are both: the first place that is the later of a `[Clamp]` and an
     // `[EnforceRange]`.
-    pub fn later(self) -> Option<Spot>
-        ensures { (notes : List Note) → AreEarliest self notes → LeastWhere (HasBoth notes) result }
+    pub fn later(self) -> Option<Violation>
+        ensures { (notes : List Note) → AreEarliest self notes → FirstWhere (HasBoth notes) result }
     {
-        later_spot(self.clamp, self.enforce)
+        later_violation(self.clamp, self.enforce)
     }
 
     // What one extended attribute says.
@@ -66,7 +66,7 @@ impl RangeAnnotations {
         ensures { result ≡ said_by (annotation_of (attribute_of attribute.now).name.text) (attribute_of attribute.now).name.at }
     {
         let name = attribute.name.text.as_str();
-        let at = Spot::at(attribute.name.at);
+        let at = Violation::at(attribute.name.at);
         if name == "Clamp" {
             RangeAnnotations {
                 clamp: Some(at),
@@ -86,12 +86,12 @@ impl RangeAnnotations {
     }
 }
 
-// The later spot of two, where there are both.
-fn later_spot(clamp: Option<Spot>, enforce: Option<Spot>) -> Option<Spot>
+// The later violation of two, where there are both.
+fn later_violation(clamp: Option<Violation>, enforce: Option<Violation>) -> Option<Violation>
     ensures { result ≡ later_of clamp enforce }
 {
     match (clamp, enforce) {
-        (Some(clamp), Some(enforce)) => Some(Spot::at(later(clamp.at, enforce.at))),
+        (Some(clamp), Some(enforce)) => Some(Violation::at(later(clamp.at, enforce.at))),
         _ => None,
     }
 }

@@ -23,7 +23,7 @@ pub struct RangeEnd<'a> {
     pub form: &'a TypeForm,
     // The annotations of the chain's types.
     pub said: RangeAnnotations,
-    // How many typedefs are passed behind the first type.
+    // How many typedefs are passed after the first type.
     pub passed: usize,
 }
 
@@ -41,7 +41,7 @@ impl<'a> RangeEnd<'a> {
     }
 
     // The end of the chain that begins with a type which names the typedef whose chain ends here.
-    fn behind(&self, ty: &'a AnnotatedType) -> RangeEnd<'a>
+    fn after(&self, ty: &'a AnnotatedType) -> RangeEnd<'a>
         requires { self.now.passed < 2 ^ 64 - 1 }
         ensures { (definitions : List PlainDefinition) → IsEndOf definitions (typedef_of_form definitions (form_term ty.now.ty.form)) self.now → EndsAt definitions (annotated_of ty.now) result }
     {
@@ -99,7 +99,7 @@ fn chain_end<'a>(
     match end_named(meanings, ends, &ty.ty.form) {
         None => RangeEnd::of(ty),
         Some(next) => if next.passed < usize::MAX {
-            next.behind(ty)
+            next.after(ty)
         } else {
             RangeEnd::of(ty)
         },

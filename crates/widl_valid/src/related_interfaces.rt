@@ -3,7 +3,7 @@
 ghost use Rattle.std.specs.Prelude.{◌≡◌, ◌<◌, IfOk, OnOk, length, slice_index, take, nat_lt};
 ghost use Rattle.std.specs.List.{All, list_any};
 ghost use Rattle.std.specs.List.Sorted.{IsNonDecreasingBy, IsPermutation};
-ghost use Rattle.widl_valid.specs.AlikePairs.{any_pair, are_related};
+ghost use Rattle.widl_valid.specs.IndistinguishablePairs.{any_pair, are_related};
 ghost use Rattle.widl_valid.specs.Lineages.{TellRelated, begins_within, touches};
 
 use crate::lineages::{Lineages, Span};

@@ -20,7 +20,7 @@ use widl_text::Place;
 pub struct TypeUse<'a> {
     /// What it is the type of.
     pub role: TypeRole,
-    /// The extended attributes of the thing that it is the type of, which belong to the type.
+    /// The extended attributes of the node that it is the type of, which belong to the type.
     pub outer: &'a [ExtendedAttribute],
     /// The extended attributes before the type itself.
     pub own: &'a [ExtendedAttribute],
@@ -74,7 +74,7 @@ fn list_plain<'a>(
     list_form(uses, &ty.form)
 }
 
-// Adds a type behind these extended attributes of the thing that it is the type of and its own, and
+// Adds a type after these extended attributes of the node that it is the type of and its own, and
 // those inside it.
 #[cycle(list)]
 fn list_annotated<'a>(
@@ -124,7 +124,7 @@ fn list_union<'a>(
     Ok(())
 }
 
-// Adds a type that no extended attributes of another thing belong to.
+// Adds a type that no extended attributes of another node belong to.
 fn list_inner<'a>(uses: &mut Vec<TypeUse<'a>>, ty: &'a AnnotatedType) -> Result<(), AllocError>
     ensures { OnOk result (Adds uses.old.items uses.new.items (uses_of_annotated role.Inner [] (annotated_of ty.now))) }
 {

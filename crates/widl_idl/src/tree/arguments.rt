@@ -11,7 +11,7 @@ pub struct Argument {
     pub attributes: ExtendedAttributes,
     /// Whether a call may leave it out, or repeat it.
     pub kind: ArgumentKind,
-    /// Its type. Extended attributes of its own stand only behind the word `optional`.
+    /// Its type. Extended attributes of its own stand only after the word `optional`.
     pub ty: AnnotatedType,
     /// Its name.
     pub name: Name,

@@ -23,7 +23,7 @@ pub struct DictionaryMember {
     pub attributes: ExtendedAttributes,
     /// Whether it is `required`.
     pub required: bool,
-    /// Its type. Extended attributes of its own stand only behind the word `required`.
+    /// Its type. Extended attributes of its own stand only after the word `required`.
     pub ty: AnnotatedType,
     /// Its name.
     pub name: Name,

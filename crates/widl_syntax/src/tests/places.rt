@@ -81,7 +81,7 @@ fn assert_counts(
     assert_eq!(rt; ty.attributes.len(), counts.1);
 }
 
-// Those at the start of an argument or of a dictionary's member are its own, those behind `optional` or
+// Those at the start of an argument or of a dictionary's member are its own, those after `optional` or
 // `required` are its type's, and each between two commas is one.
 #[test]
 fn each_extended_attribute_is_kept_by_its_owner(rt: HostRuntime) -> Result<(), SyntaxFault> {

@@ -6,4 +6,4 @@ use Rattle.widl_cli.proofs.checking.judge_trees.Goals as goal
 pub returns-in-Err-Refused : goal.returns-in-Err-Refused
 returns-in-Err-Refused c =
     subst (λ r. IsTreeRefusal c.args.trees (Some r)) (sym c.in-Err-Refused.refusal-is)
-    (record { early = Some c.in-Err-Refused.refusal; early_is = c.in-Err-Refused.ensures.refused c.in-Err-Refused.refusal (ap Err c.in-Err-Refused.field-0-is); behind = refl })
+    (record { early = Some c.in-Err-Refused.refusal; early_is = c.in-Err-Refused.ensures.refused c.in-Err-Refused.refusal (ap Err c.in-Err-Refused.field-0-is); after = refl })
