@@ -1,7 +1,7 @@
 -- Lemmas on the output of the words.
 use Rattle.std.proofs.Common.{◌≡◌, ℕ, List, subst, inl, inr}
 use Rattle.std.specs.Prelude.{◌⊎◌, ◌≢◌, Option}
-use Rattle.widl_trace.specs.Growth.{GrewByPrefix}
+use Rattle.widl_sink.specs.Growth.{GrewByPrefix}
 use Rattle.widl_cli.specs.Causes.{fault_of}
 use Rattle.widl_cli.specs.Outputs.{Output, Answers, Writes, WritesPart, IsRequestOutput, IsOutput}
 use Rattle.widl_cli.specs.Readings.{read_in_order}

@@ -1,9 +1,9 @@
 -- How a call ends, by what the folder and the sink counted.
 use Rattle.std.specs.Prelude.{◌≡◌, ◌≢◌, ℕ, ◌-◌, ◌<◌, ◌⊎◌, List, Option, Some}
 use Rattle.std.specs.Io.KnownBytes.{append_known}
-use Rattle.widl_trace.specs.Causes.{Rose}
-use Rattle.widl_trace.specs.Growth.{GrewByPrefix}
-use Rattle.widl_trace.specs.Lines.{ended}
+use Rattle.widl_sink.specs.Causes.{Rose}
+use Rattle.widl_sink.specs.Growth.{GrewByPrefix}
+use Rattle.widl_sink.specs.Lines.{ended}
 use Rattle.widl_cli.specs.Outputs.{Output, Writes, WritesPart, fault_line}
 use Rattle.widl_cli.specs.Texts.{named}
 use Rattle.widl_cli.specs.declared.status.Status.{Status}

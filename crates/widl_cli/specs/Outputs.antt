@@ -1,9 +1,9 @@
 -- What is written for the words of a command line over given files, and the status.
 use Rattle.std.specs.Prelude.{◌≡◌, ◌≢◌, ◌⊎◌, ℕ, ◌≤◌, ◌-◌, ◌==◌, ◌&&◌, Bool, true, false, if◌then◌else◌, length, List, [], ◌++◌, Option, Some, None, codes}
 use Rattle.std.specs.Io.KnownBytes.{append_known}
-use Rattle.widl_trace.specs.Causes.{Rose}
-use Rattle.widl_trace.specs.Growth.{GrewByPrefix}
-use Rattle.widl_trace.specs.Lines.{ended}
+use Rattle.widl_sink.specs.Causes.{Rose}
+use Rattle.widl_sink.specs.Growth.{GrewByPrefix}
+use Rattle.widl_sink.specs.Lines.{ended}
 use Rattle.widl_folder.specs.declared.whole_file.FetchError.{FetchError}
 use Rattle.widl_folder.specs.declared.whole_file.FetchError.TheVariants.{Memory, Missing, Failed, TooLong}
 use Rattle.widl_first_form.specs.Plans.{plan_of}

@@ -2,9 +2,9 @@
 
 ghost use Rattle.std.specs.Prelude.{◌≡◌, ◌≢◌, ◌≤◌, ◌++◌, IfOk, OnOk, OnErr, codes, length};
 ghost use Rattle.std.specs.Io.KnownBytes.{append_known};
-ghost use Rattle.widl_trace.specs.Causes.{HasCause};
-ghost use Rattle.widl_trace.specs.Growth.{GrewByPrefix};
-ghost use Rattle.widl_trace.specs.Lines.{ended};
+ghost use Rattle.widl_sink.specs.Causes.{HasCause};
+ghost use Rattle.widl_sink.specs.Growth.{GrewByPrefix};
+ghost use Rattle.widl_sink.specs.Lines.{ended};
 ghost use Rattle.widl_cli.specs.Outputs.{plan_output, run_output, sets_output, unread_output, last, Answers, Answered, IsCheckOutput, IsSetsOutput, IsRunOutput};
 ghost use Rattle.widl_cli.specs.Findings.{finding_line};
 ghost use Rattle.widl_cli.specs.Verdicts.{refusal_line};
@@ -29,7 +29,7 @@ use widl_folder::FetchError;
 use widl_idl::Refusal;
 use widl_overload::Accepted;
 use widl_sets::set_lines;
-use widl_trace::{Line, Sink, WriteFailed, Writer, write_all};
+use widl_sink::{Line, Sink, WriteFailed, Writer, write_all};
 
 /// Says of some fragments whether they are a valid set.
 pub fn answer_check<K: Sink>(alloc: Global, texts: &Texts, out: &mut K) -> Status

@@ -32,7 +32,7 @@ pub use top::widl;
 pub use widl_folder::{
     DiskFolder, Files, Folder, MemoryFolder, NamedFile, ReadFailed, Started, SureFolder,
 };
-use widl_trace::StdoutSink;
+use widl_sink::StdoutSink;
 pub use words::Words;
 
 fn main(rt: HostRuntime) -> ExitCode {

@@ -2,13 +2,13 @@
 
 ghost use Rattle.std.specs.Prelude.{◌≡◌, ◌++◌, codes, IfOk, OnOk, OnErr};
 ghost use Rattle.std.specs.Io.KnownBytes.{append_known};
-ghost use Rattle.widl_trace.specs.Causes.{HasCause};
-ghost use Rattle.widl_trace.specs.Growth.{Sends, GrewByPrefix};
+ghost use Rattle.widl_sink.specs.Causes.{HasCause};
+ghost use Rattle.widl_sink.specs.Growth.{Sends, GrewByPrefix};
 ghost use Rattle.widl_cli.specs.Runs.{bytes_of, written, end_of};
 
 use crate::Status;
 use widl_first_form::{Step, Steps};
-use widl_trace::{Line, Sink, WriteFailed, Writer};
+use widl_sink::{Line, Sink, WriteFailed, Writer};
 
 /// Does steps until the units of the budget run out, and says how it ended. Where fewer units are left
 /// than a step takes, nothing is taken and the line `stop` is written.

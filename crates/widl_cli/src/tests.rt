@@ -10,7 +10,7 @@ use std::alloc::{AllocError, Global};
 use std::fs;
 use std::process::Abort;
 use std::test::Fail;
-use widl_trace::{MemorySink, Numbers, SureSink};
+use widl_sink::{MemorySink, Numbers, SureSink};
 
 mod fragments;
 mod inheritance;

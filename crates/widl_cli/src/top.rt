@@ -2,8 +2,8 @@
 
 ghost use Rattle.std.specs.Prelude.{◌≡◌, ◌≢◌, [], ◌-◌, ◌<◌, ◌≤◌, ◌⊎◌, ℕ, List, Some, None, length, drop};
 ghost use Rattle.std.specs.Io.KnownBytes.{append_known};
-ghost use Rattle.widl_trace.specs.Causes.{Rose};
-ghost use Rattle.widl_trace.specs.Growth.{GrewByPrefix};
+ghost use Rattle.widl_sink.specs.Causes.{Rose};
+ghost use Rattle.widl_sink.specs.Growth.{GrewByPrefix};
 ghost use Rattle.widl_cli.specs.Outputs.{IsOutput, IsReadingOutput, IsCheckOutput, IsSetsOutput, IsRunOutput, Writes, WritesPart};
 ghost use Rattle.widl_cli.specs.Requests.{request_of, names_of};
 ghost use Rattle.widl_cli.specs.Readings.{read_in_order};
@@ -16,7 +16,7 @@ use crate::reader::read_request;
 use crate::request::Request;
 use crate::{Folder, Status, Words};
 use std::alloc::Global;
-use widl_trace::Sink;
+use widl_sink::Sink;
 
 /// Answers the words of a command line over a folder, writes the answer to a sink and tells how it
 /// ended.

@@ -3,7 +3,7 @@
 use Rattle.std.specs.Prelude.{ℕ, ◌+◌, List, [], ◌∷◌, ◌++◌, Option, Some, None, codes, map, slice_get, ℤ}
 use Rattle.std.specs.Fmt.{decimal, signed_decimal}
 use Rattle.std.specs.List.{zip}
-use Rattle.widl_trace.specs.Lines.{line_cost}
+use Rattle.widl_sink.specs.Lines.{line_cost}
 use Rattle.widl_scalar.specs.Scalars.{wrapped}
 use Rattle.widl_first_form.specs.declared.namespace.Argument.{Argument}
 use Rattle.widl_first_form.specs.declared.namespace.Operation.{Operation}

@@ -14,7 +14,7 @@ use itoa::Buffer;
 use std::alloc::{AllocError, Global};
 use widl_idl::{IntKind, Mode};
 use widl_scalar::to_int;
-use widl_trace::{Line, cost};
+use widl_sink::{Line, cost};
 use widl_value::Number;
 
 /// The steps of calls, and of the end of the run.

@@ -9,9 +9,6 @@ use crate::{Folder, Started};
 use std::alloc::{AllocError, Global};
 use thiserror::Error;
 
-/// The most bytes that one file may have.
-pub const MOST_BYTES: usize = 1_048_576;
-
 /// The most bytes that are read in one piece.
 const PIECE: usize = 4_096;
 
@@ -27,12 +24,12 @@ pub enum FetchError {
     /// The file could not be opened or read.
     #[error("the file could not be read")]
     Failed,
-    /// The file has more than [`MOST_BYTES`] bytes.
+    /// The file has more than [`MOST_FILE_BYTES`] bytes.
     #[error("the file is too long")]
     TooLong,
 }
 
-/// All bytes of a file of at most [`MOST_BYTES`] bytes.
+/// All bytes of a file of at most [`MOST_FILE_BYTES`] bytes.
 ///
 /// # Errors
 ///
@@ -81,8 +78,8 @@ fn read_all<F: Folder>(alloc: Global, folder: &mut F) -> Result<Vec<u8>, FetchEr
     ensures files { F.files folder.new ≡ F.files folder.old }
 {
     let mut bytes = Vec::new(alloc);
-    while bytes.len() <= MOST_BYTES {
-        let room = PIECE.min(MOST_BYTES + 1 - bytes.len());
+    while bytes.len() <= MOST_FILE_BYTES {
+        let room = PIECE.min(MOST_FILE_BYTES + 1 - bytes.len());
         if read_some(folder, room, &mut bytes)? == 0 {
             return Ok(bytes);
         }

@@ -2,6 +2,7 @@
 -- Source: Web IDL, "Names", "Partial definitions", "includes statement", "inherits" and "Typedefs".
 use Rattle.std.specs.Prelude.{◌≡◌, ◌≢◌, ℕ, ◌+◌, ◌<◌, ◌≤◌, Bool, true, false, ◌&&◌, ◌||◌, List, [], ◌∷◌, length, map, sum_by, Option, None, Some, if◌then◌else◌, slice_get, is_some, codes, bytes_eq, nat_eq, ◌++◌}
 use Rattle.std.specs.List.{list_any}
+use Rattle.widl_text.specs.Limits.{most_members, most_type_levels}
 use Rattle.widl_text.specs.declared.place.Place.{Place}
 use Rattle.widl_idl.specs.declared.kind.Kind.{Kind}
 use Rattle.widl_idl.specs.declared.kind.Kind.TheVariants as kinds
@@ -123,9 +124,9 @@ abbrev pub IsUnknownType : List PlainDefinition → Node → Violation → Type 
 IsUnknownType definitions (TypeNode (plain_type place (PlainNamed name) question)) s = (is_type_kind (meant_kind definitions name.text) ≡ false) × IsAt name.at s
 IsUnknownType definitions node s = ⊥
 
--- a type nests deeper than 16: at its first token
+-- a type nests deeper than the limit: at its first token
 abbrev pub NestsDeep : List PlainDefinition → Node → Violation → Type 0
-NestsDeep definitions (TypeNode (plain_type place form question)) s = ((depth : ℕ) × (depth_of definitions (plain_type place form question) ≡ Some depth) × (16 < depth)) × IsAt place s
+NestsDeep definitions (TypeNode (plain_type place form question)) s = ((depth : ℕ) × (depth_of definitions (plain_type place form question) ≡ Some depth) × (most_type_levels < depth)) × IsAt place s
 NestsDeep definitions node s = ⊥
 
 abbrev pub is_static : OperationKind → Bool
@@ -205,10 +206,10 @@ abbrev pub portions_from : List PlainDefinition → ℕ → List PlainDefinition
 portions_from definitions number [] = []
 portions_from definitions number (d ∷ more) = portion_of definitions number d.kind ++ portions_from definitions (number + 1) more
 
--- the sum passes 1,000,000 with this portion
+-- the sum passes the limit with this portion
 abbrev pub PassesLimit : List Portion → Portion → Violation → Type 0
 PassesLimit before portion s =
-    ((sum_by (λ (p : Portion). p.size) before ≤ 1000000) × (1000000 < sum_by (λ (p : Portion). p.size) before + portion.size)) × IsAt portion.at s
+    ((sum_by (λ (p : Portion). p.size) before ≤ most_members) × (most_members < sum_by (λ (p : Portion). p.size) before + portion.size)) × IsAt portion.at s
 
 -- the rule is broken at the violation
 abbrev pub BreaksMerging : List PlainDefinition → MergingRule → Violation → Type 0

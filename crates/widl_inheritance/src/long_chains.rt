@@ -11,9 +11,7 @@ ghost use Rattle.widl_overload.specs.DictionaryRules.{BeginsLongChain};
 use crate::holding::{Holdings, first_flagged, first_holding_itself};
 use std::alloc::{AllocError, Global};
 use widl_idl::{Dict, Violation};
-
-// The greatest number of dictionaries in a chain. One more stands for all longer chains.
-const LIMIT: usize = 256;
+use widl_text::limits::MOST_CHAINED_DICTIONARIES;
 
 /// The first place of the name of a dictionary with which a chain of more than 256 begins, where none
 /// holds itself: each next one stands in the type of a member of the one before (Web IDL,
@@ -55,7 +53,7 @@ fn long_flags(alloc: Global, lengths: &[usize]) -> Result<Vec<bool>, AllocError>
 {
     let mut flags = Vec::new(alloc);
     for longest in lengths {
-        flags.push(*longest > LIMIT)?;
+        flags.push(*longest > MOST_CHAINED_DICTIONARIES)?;
     }
     Ok(flags)
 }
@@ -119,8 +117,8 @@ fn node_length(count: usize, node: usize, after: usize) -> usize
     ensures { result ≡ node_length count node after }
 {
     if node < count {
-        after.min(LIMIT) + 1
+        after.min(MOST_CHAINED_DICTIONARIES) + 1
     } else {
-        after.min(LIMIT + 1)
+        after.min(MOST_CHAINED_DICTIONARIES + 1)
     }
 }

@@ -14,6 +14,7 @@ mod utf8;
 
 pub use fault::LexFault;
 pub use law::each_text_has_one_cut;
+pub use quoted::is_quoted;
 pub use token::{Token, TokenKind};
 pub use tokens::Tokens;
 

@@ -16,7 +16,8 @@ use crate::numbered_items::add_numbered;
 use crate::sources::Sources;
 use std::alloc::{AllocError, Global};
 use widl_idl::tree::{DefinitionKind, Dictionary, Interface, Namespace};
-use widl_idl::{Defs, Dicts, Ifaces, Items, Spaces};
+use widl_idl::{Defs, Dicts, Ifaces, Spaces};
+use widl_text::Items;
 use widl_names::Meanings;
 
 /// The merged list of definitions that break no rule of merging.

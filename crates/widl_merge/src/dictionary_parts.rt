@@ -10,7 +10,8 @@ ghost use Rattle.widl_merge.specs.DictionaryTables.{DictionariesGrouped, diction
 use std::alloc::{AllocError, Global};
 use std::marker::Model;
 use widl_idl::tree::{Definition, DefinitionKind, DictionaryMember};
-use widl_idl::{Items, Kind};
+use widl_idl::Kind;
+use widl_text::Items;
 use widl_names::{Meanings, group_at, kind_at, no_groups, number_meant, put_in_group};
 
 /// The members of dictionaries in merged order.

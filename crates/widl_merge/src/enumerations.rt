@@ -9,8 +9,8 @@ ghost use Rattle.widl_merge.specs.ListedValues.{texts_of};
 
 use std::alloc::{AllocError, Global};
 use widl_idl::tree::{Enumeration, EnumerationValue};
-use widl_idl::{Choice, Items, Texts};
-use widl_text::Units;
+use widl_idl::{Choice, Texts};
+use widl_text::{Items, Units};
 
 /// The enumeration that a definition declares.
 ///

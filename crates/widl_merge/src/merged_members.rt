@@ -18,9 +18,9 @@ use widl_idl::tree::{
     Attribute, AttributeKind, Constant, Constructor, ExtendedAttribute, Iterable, Member,
     MemberKind, Operation,
 };
-use widl_idl::{Attrs, Constants, Items, OpName, OpNames, Pair, Sig, Sigs, Slot, Slots, Stringify};
+use widl_idl::{Attrs, Constants, OpName, OpNames, Pair, Sig, Sigs, Slot, Slots, Stringify};
 use widl_names::Resolver;
-use widl_text::Units;
+use widl_text::{Items, Units};
 
 /// The members of an interface or a namespace, by kind, as the list of definitions has them.
 #[derive(Drop)]

@@ -17,9 +17,7 @@ use widl_graph::Walk;
 use widl_idl::Violation;
 use widl_idl::tree::{AnnotatedType, DefinitionKind, Name, TypeForm, WrittenType};
 use widl_names::{Meanings, Node, kind_at};
-
-// How deep types may nest. One more stands for all that nest deeper.
-const LIMIT: usize = 16;
+use widl_text::limits::MOST_TYPE_LEVELS;
 
 /// The depths of the definitions as types, each by its number; none where a name in one is no type or
 /// a typedef reaches itself.
@@ -146,7 +144,7 @@ fn is_deep(depth: Option<usize>) -> bool
 {
     match depth {
         None => false,
-        Some(depth) => depth > LIMIT,
+        Some(depth) => depth > MOST_TYPE_LEVELS,
     }
 }
 
@@ -279,6 +277,6 @@ fn one_deeper(depth: Option<usize>) -> Option<usize>
 {
     match depth {
         None => None,
-        Some(depth) => Some(depth.min(LIMIT) + 1),
+        Some(depth) => Some(depth.min(MOST_TYPE_LEVELS) + 1),
     }
 }

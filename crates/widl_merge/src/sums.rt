@@ -19,9 +19,7 @@ use widl_idl::tree::{Definition, DefinitionKind, Includes, Member, Mixin, Name};
 use widl_idl::{Kind, Violation, earlier_violation};
 use widl_names::{Meanings, is_partial, kind_of, means_kind, means_number};
 use widl_text::Place;
-
-// The greatest sum that is allowed. Sums and sizes stop at one past it.
-const LIMIT: u32 = 1_000_000;
+use widl_text::limits::MOST_MEMBERS;
 
 /// What a definition or an includes statement adds to the sum.
 #[derive(Clone, Copy)]
@@ -59,7 +57,7 @@ fn passed(sum: u32, portion: Option<Portion>) -> Option<Violation>
     ensures { result ≡ option_and_then (λ p. if nat_lt sum 1000001 && nat_lt 1000000 (capped (sum + p.size)) then Some (violation_at p.at) else None) portion }
 {
     let portion = portion?;
-    if sum <= LIMIT && plus(sum, portion.size) > LIMIT {
+    if sum <= MOST_MEMBERS && plus(sum, portion.size) > MOST_MEMBERS {
         Some(Violation::at(portion.at))
     } else {
         None
@@ -80,14 +78,14 @@ fn summed(sum: u32, portion: Option<Portion>) -> u32
 fn plus(sum: u32, size: u32) -> u32
     ensures { result ≡ capped (sum + size) }
 {
-    sum.saturating_add(size).min(LIMIT + 1)
+    sum.saturating_add(size).min(MOST_MEMBERS + 1)
 }
 
 // How many members there are.
 fn count(members: &[Member]) -> u32
     ensures { result ≡ capped (length (members_of members.now)) }
 {
-    members.len().min(LIMIT as usize + 1) as u32
+    members.len().min(MOST_MEMBERS as usize + 1) as u32
 }
 
 // What a definition adds to the sum.

@@ -7,7 +7,7 @@
 
 use crate::parts::{group_at, members_in};
 use std::alloc::{AllocError, Global};
-use widl_idl::Items;
+use widl_text::Items;
 use widl_idl::tree::{Definition, DefinitionKind};
 
 // The greatest number of members that are mixed into interfaces. It is eight times what the rule on the

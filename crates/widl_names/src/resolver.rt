@@ -29,9 +29,7 @@ use std::alloc::{AllocError, Global};
 use std::marker::Model;
 use widl_idl::tree::{AnnotatedType, Container, ExtendedAttribute, TypeForm, WrittenType};
 use widl_idl::{IdlType, IdlTypes, Kind};
-
-// How deep types may nest, each with the `?`s after it.
-const LEVELS: usize = 16;
+use widl_text::limits::MOST_TYPE_LEVELS;
 
 // How many bytes of a name are looked up in one step.
 const NAME_BYTES: usize = 64;
@@ -166,7 +164,7 @@ impl<'m, 'd, 'a> Resolver<'m, 'd, 'a> {
         ensures { IfOk result (λ t. (notes : List Note) → Says annotations notes → type_term t ≡ meaning_of_type (plain_definitions self.now) notes (type_of ty.now)) }
     {
         let start = Use::of(ty, annotations, self.kinds.counts.count(Kind::Typedef));
-        self.use_type(alloc, steps, LEVELS, &start)
+        self.use_type(alloc, steps, MOST_TYPE_LEVELS, &start)
     }
 
     /// What a type without annotations means, as that of a result or a constant.

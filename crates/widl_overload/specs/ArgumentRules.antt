@@ -3,6 +3,7 @@
 use Rattle.std.specs.Prelude.{◌≡◌, ℕ, Bool, true, false, List, [], ◌∷◌, length, flat_map, Option, bytes_eq}
 use Rattle.std.specs.Option.{option_to_list}
 use Rattle.std.specs.List.{list_any}
+use Rattle.widl_text.specs.Limits.{most_arguments}
 use Rattle.widl_idl.specs.declared.violation.Violation.{Violation}
 use Rattle.widl_idl.specs.First.{AtOne, Somewhere}
 use Rattle.widl_idl.specs.MergingRules.{IsAt}
@@ -55,9 +56,9 @@ is_optional kind = false
 abbrev pub FollowsOptional : List PlainArgument → PlainArgument → Violation → Type 0
 FollowsOptional before a s = ((is_required a.kind ≡ true) × (list_any (λ (b : PlainArgument). is_optional b.kind) before ≡ true)) × IsAt a.name.at s
 
--- 64 arguments stand before this one: at its name
-abbrev pub IsArgument65 : List PlainArgument → PlainArgument → Violation → Type 0
-IsArgument65 before a s = (length before ≡ 64) × IsAt a.name.at s
+-- as many arguments as a list may have stand before this one: at its name
+abbrev pub IsArgumentPastLimit : List PlainArgument → PlainArgument → Violation → Type 0
+IsArgumentPastLimit before a s = (length before ≡ most_arguments) × IsAt a.name.at s
 
 -- in one of the lists an argument breaks the rule
 abbrev pub InOneList : (List PlainArgument → PlainArgument → Violation → Type 0) → List PlainDefinition → Violation → Type 0

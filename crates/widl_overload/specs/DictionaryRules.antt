@@ -1,7 +1,8 @@
 -- The rules of validity on dictionaries with all that they inherit, each as one predicate over the dictionaries of the merged list.
 -- Source: Web IDL, "Dictionaries".
-use Rattle.std.specs.Prelude.{◌≡◌, ◌⊎◌, ℕ, Bool, true, List, slice_get, Some, bytes_eq}
+use Rattle.std.specs.Prelude.{◌≡◌, ◌⊎◌, ℕ, ◌+◌, Bool, true, List, slice_get, Some, bytes_eq}
 use Rattle.std.specs.List.{list_any}
+use Rattle.widl_text.specs.Limits.{most_chained_dictionaries}
 use Rattle.widl_idl.specs.declared.violation.Violation.{Violation}
 use Rattle.widl_idl.specs.DefinitionTerms.{DictTerm, MemberTerm}
 use Rattle.widl_idl.specs.First.{AtOne}
@@ -40,11 +41,11 @@ module _ (dicts : List DictTerm) where
     pub back : LeadsTo dicts number number
     pub at_name : IsAt dictionary.at s
 
-  -- no dictionary holds itself, and a chain of more than 256 dictionaries begins with this one: at its name
+  -- no dictionary holds itself, and a chain of more dictionaries than may be begins with this one: at its name
   pub record BeginsLongChain (s : Violation) : Type 0 where
     pub number : ℕ
     pub dictionary : DictTerm
     pub is : slice_get dicts number ≡ Some dictionary
     pub finite : (other : Violation) → HoldsItself other → ⊥
-    pub chain : BeginsChain dicts 257 number
+    pub chain : BeginsChain dicts (most_chained_dictionaries + 1) number
     pub at_name : IsAt dictionary.at s

@@ -2,6 +2,7 @@
 -- Source: Web IDL, "Members", "Constants", "Overloading" and "Stringifiers".
 use Rattle.std.specs.Prelude.{◌≡◌, ℕ, Bool, true, false, ◌||◌, ◌&&◌, not, List, [], ◌∷◌, length, filter, filter_map, Option, None, Some, bytes_eq, codes}
 use Rattle.std.specs.List.{list_any}
+use Rattle.widl_text.specs.Limits.{most_overloads}
 use Rattle.widl_text.specs.declared.place.Place.{Place}
 use Rattle.widl_idl.specs.declared.kind.Kind.{Kind}
 use Rattle.widl_idl.specs.declared.kind.Kind.TheVariants as kinds
@@ -83,14 +84,14 @@ constructor_place kind = None
 abbrev pub constructor_count : List PlainMember → ℕ
 constructor_count members = length (filter_map (λ (m : PlainMember). constructor_place m.kind) members)
 
--- 64 operations of its name, static or not as it is, or 64 constructors stand before the member: at its name or its word
-abbrev pub IsOverload65 : List PlainMember → PlainMemberKind → Violation → Type 0
-IsOverload65 before (OperationMember o) s = AtName o.name (λ name. length (filter (are_overloads o) (operations_in before)) ≡ 64) s
-IsOverload65 before (ConstructorMember c) s = (constructor_count before ≡ 64) × IsAt c.at s
-IsOverload65 before kind s = ⊥
+-- as many operations of its name, static or not as it is, or as many constructors, as may be stand before the member: at its name or its word
+abbrev pub IsOverloadPastLimit : List PlainMember → PlainMemberKind → Violation → Type 0
+IsOverloadPastLimit before (OperationMember o) s = AtName o.name (λ name. length (filter (are_overloads o) (operations_in before)) ≡ most_overloads) s
+IsOverloadPastLimit before (ConstructorMember c) s = (constructor_count before ≡ most_overloads) × IsAt c.at s
+IsOverloadPastLimit before kind s = ⊥
 
-abbrev pub HasOverload65 : List PlainMember → PlainMember → Violation → Type 0
-HasOverload65 before m s = IsOverload65 before m.kind s
+abbrev pub HasOverloadPastLimit : List PlainMember → PlainMember → Violation → Type 0
+HasOverloadPastLimit before m s = IsOverloadPastLimit before m.kind s
 
 abbrev pub is_promise : TypeTerm → Bool
 is_promise (PromiseType t) = true

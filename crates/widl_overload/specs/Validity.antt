@@ -11,13 +11,13 @@ use Rattle.widl_idl.specs.Terms.{TypeTerm}
 use Rattle.widl_idl.specs.Nodes.{nodes_of}
 use Rattle.widl_overload.specs.declared.validity_rule.ValidityRule.{ValidityRule}
 use Rattle.widl_overload.specs.declared.validity_rule.ValidityRule.TheVariants as rule
-use Rattle.widl_overload.specs.ArgumentRules.{FollowsEllipsis, FollowsOptional, InOneList, IsArgument65, RepeatsArgument}
+use Rattle.widl_overload.specs.ArgumentRules.{FollowsEllipsis, FollowsOptional, InOneList, IsArgumentPastLimit, RepeatsArgument}
 use Rattle.widl_overload.specs.DefaultRules.{HasNoEmptyDefault, HasOtherDefault}
 use Rattle.widl_overload.specs.DefinitionRules.{AnnotatesNoType, HasMisformed, HasNameless, HasOtherThanOne, HasValueTwice}
 use Rattle.widl_overload.specs.Dictionaries.{dictionary_terms}
 use Rattle.widl_overload.specs.DictionaryRules.{BeginsLongChain, HasNameTwice, HoldsItself}
 use Rattle.widl_overload.specs.IterableRules.{HasSecondIterable, HidesIterationMethod}
-use Rattle.widl_overload.specs.MemberRules.{HasKeptName, HasOverload65, InOneOwner, IsSecondStringifier, MixesPromises, RepeatsMember, has_members_of_its_own, is_interface_kind}
+use Rattle.widl_overload.specs.MemberRules.{HasKeptName, HasOverloadPastLimit, InOneOwner, IsSecondStringifier, MixesPromises, RepeatsMember, has_members_of_its_own, is_interface_kind}
 use Rattle.widl_overload.specs.OverloadRules.{HasIndistinguishableOverloads, HasEarlyDifference}
 use Rattle.widl_overload.specs.TypeRules.{HasClampAndEnforceRange, HasMisplacedAnnotation, HasOtherValue, HaveIndistinguishableMembers, HaveNullableAndDictionary, HaveSeveralNullable, IsAnnotatedMember, IsCopiedAttribute, IsNullableDictionary, IsOtherConstantType, IsOtherStringifier, IsUndefinedInside, IsWritablePromise, IsWronglyNullable, OfUnion}
 use Rattle.widl_overload.specs.TypeUses.{TypeUse, meaning_of_use, type_uses_of}
@@ -105,8 +105,8 @@ module _ (defs : Defs) (definitions : List PlainDefinition) where
   BreaksRule rule.DictionaryHoldsItself s = HoldsItself (dictionary_terms defs) s
   BreaksRule rule.RepeatedMember s = InOneOwner has_members_of_its_own RepeatsMember definitions s
   BreaksRule rule.KeptName s = InOneOwner is_interface_kind HasKeptName definitions s
-  BreaksRule rule.TooManyOverloads s = InOneOwner has_members_of_its_own HasOverload65 definitions s
-  BreaksRule rule.TooManyArguments s = InOneList IsArgument65 definitions s
+  BreaksRule rule.TooManyOverloads s = InOneOwner has_members_of_its_own HasOverloadPastLimit definitions s
+  BreaksRule rule.TooManyArguments s = InOneList IsArgumentPastLimit definitions s
   BreaksRule rule.MisformedCallbackOperation s = InOneDefinition (λ d. HasMisformed d.kind) s
   BreaksRule rule.LongDictionaryChain s = BeginsLongChain (dictionary_terms defs) s
 

@@ -10,10 +10,10 @@ use Rattle.widl_idl.specs.declared.namespace.Space.{Space}
 use Rattle.widl_idl.specs.declared.operation.OpName.{OpName}
 use Rattle.widl_idl.specs.DefinitionTerms.{DefsTerm, IfaceTerm, OpNameTerm, SpaceTerm, defs_term, iface_term, op_name_term, space_term}
 use Rattle.widl_overload.specs.Sets.{TupleTerm}
-use Rattle.widl_sets.specs.Ids.{id_order, parents_of}
+use Rattle.widl_spell.specs.Ids.{id_order, parents_of}
 use Rattle.widl_sets.specs.Lines.{after, is_last_of_length, line_of_index, lines_from, lines_of_set, tuple_line}
 use Rattle.widl_sets.specs.Listing.{all_lines, constructor_text, lines_at, lines_or_none, namespace_lines, operation_lines, static_text}
-use Rattle.widl_sets.specs.Names.{bare_name}
+use Rattle.widl_spell.specs.Names.{bare_name}
 use Rattle.widl_sets.proofs.PlainTuples.{effective_by, effective_is}
 use Rattle.widl_sets.proofs.SameIndex.{same_index}
 

@@ -8,9 +8,9 @@ use Rattle.widl_idl.specs.DefinitionTerms.{DefsTerm, defs_term}
 use Rattle.widl_idl.specs.Terms.{TypeTerm}
 use Rattle.widl_overload.specs.Index.{of_one_length, distinguishes}
 use Rattle.widl_overload.specs.Sets.{TupleTerm}
-use Rattle.widl_sets.specs.Ids.{first_from}
-use Rattle.widl_sets.specs.Names.{separated}
-use Rattle.widl_sets.specs.TypeTexts.{type_text}
+use Rattle.widl_spell.specs.Ids.{first_from}
+use Rattle.widl_spell.specs.Names.{separated}
+use Rattle.widl_spell.specs.TypeTexts.{type_text}
 
 abbrev pub optionality_text : Optionality → List ℕ
 optionality_text Required = codes "required"

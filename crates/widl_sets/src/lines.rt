@@ -6,14 +6,13 @@ ghost use Rattle.widl_idl.specs.DefinitionTerms.{defs_term};
 ghost use Rattle.widl_idl.specs.Terms.{type_term};
 ghost use Rattle.widl_overload.specs.Sets.{tuple_term, tuples_in};
 ghost use Rattle.widl_sets.specs.Lines.{IsTuple, argument_text, argument_texts, after, front, index_line, index_of, is_last_of_length, line_of_index, lines_of_set, optionality_text, tuple_line};
-ghost use Rattle.widl_sets.specs.Names.{separated};
+ghost use Rattle.widl_spell.specs.Names.{separated};
 
-use crate::names::sign_before;
-use crate::type_texts::push_type;
 use itoa::Buffer;
 use std::alloc::{AllocError, Global};
 use widl_idl::{Defs, IdlType, Optionality};
 use widl_overload::{OverloadSet, Tuple, distinguishing_index};
+use widl_spell::{push_type, sign_before};
 
 /// Adds the lines of a set: one for each tuple, and after the last tuple of each length one for the
 /// distinguishing argument index, if there is one.

@@ -1,2 +1,3 @@
 pub mod Index
+pub mod Limits
 pub mod Utf16

@@ -14,7 +14,7 @@ use Rattle.widl_idl.specs.MergingRules.{is_static}
 use Rattle.widl_idl.specs.PlainTypes.{PlainName}
 use Rattle.widl_idl.specs.PlainTrees.{PlainMember, PlainMemberKind, PlainOperation, ConstructorMember, OperationMember, member_of}
 use Rattle.widl_idl.proofs.Order.{one_place}
-use Rattle.widl_overload.specs.MemberRules.{HasOverload65, IsOverload65, constructor_count, constructor_place}
+use Rattle.widl_overload.specs.MemberRules.{HasOverloadPastLimit, IsOverloadPastLimit, constructor_count, constructor_place}
 use Rattle.widl_valid.specs.MemberTables.{count_in, has_overload, is_constructor, is_overload, listed_members, violation_past_limit}
 use Rattle.widl_valid.proofs.NamedViolations.{listed_next, members_end, members_step, named_first, no_members, nowhere}
 
@@ -61,22 +61,22 @@ constructors_push before m = ap length (filter_map-append (λ (x : PlainMember).
 pub record Counted (overloads : List ℕ → Bool → ℕ) (constructors : ℕ) (members : List PlainMember) (best : Option Violation) : Type 0 where
   pub operations : (text : List ℕ) (static : Bool) → overloads text static ≡ length (overloads_in members text static)
   pub made : constructors ≡ constructor_count members
-  pub earliest : FirstWhere (AtOne HasOverload65 members) best
+  pub earliest : FirstWhere (AtOne HasOverloadPastLimit members) best
 
 pub nothing_counted : (overloads : List ℕ → Bool → ℕ) (constructors : ℕ) → ((text : List ℕ) (static : Bool) → overloads text static ≡ 0) → constructors ≡ 0 → Counted overloads constructors [] None
-nothing_counted overloads constructors none zero = record { operations = none; made = zero; earliest = no_members HasOverload65 }
+nothing_counted overloads constructors none zero = record { operations = none; made = zero; earliest = no_members HasOverloadPastLimit }
 
 module _ (overloads : List ℕ → Bool → ℕ) (constructors : ℕ) (before : List PlainMember) (same : (text : List ℕ) (static : Bool) → overloads text static ≡ length (overloads_in before text static)) (made : constructors ≡ constructor_count before) where
   -- the overloads of a named operation
   of_name : (o : PlainOperation) (n : PlainName) → o.name ≡ Some n → overloads n.text (is_static o.kind) ≡ length (filter (are_overloads o) (operations_in before))
   of_name o n is = same n.text (is_static o.kind) ∙ ap (λ text. length (overloads_in before text (is_static o.kind))) (sym (ap operation_text is))
 
-  past_first : (kind : PlainMemberKind) (found : Option Violation) → found ≡ violation_past_limit overloads constructors kind → FirstWhere (IsOverload65 before kind) found
+  past_first : (kind : PlainMemberKind) (found : Option Violation) → found ≡ violation_past_limit overloads constructors kind → FirstWhere (IsOverloadPastLimit before kind) found
   past_first (OperationMember o) found e =
       named_first (λ name. length (filter (are_overloads o) (operations_in before)) ≡ 64) (λ text. nat_eq (overloads text (is_static o.kind)) 64) o.name found
       (λ n is h. let count = of_name o n is in grind arith) (λ n is h q. let count = of_name o n is in absurd (grind arith)) e
   past_first (ConstructorMember c) found e = one_place (constructor_count before ≡ 64) c.at (nat_eq constructors 64) found (λ h. grind (arith, made)) (λ h q. absurd (grind (arith, made))) e
-  past_first kind found e = nowhere (IsOverload65 before kind) found (λ s h. h) e
+  past_first kind found e = nowhere (IsOverloadPastLimit before kind) found (λ s h. h) e
 
 -- one member more
 pub counted_step : (overloads now_overloads : List ℕ → Bool → ℕ) (constructors now_constructors : ℕ) (members : List (Bor Member)) (i : ℕ) (m : Bor Member) (best found now : Option Violation) → i < length members → m ≡ get_or members i m
@@ -92,8 +92,8 @@ counted_step overloads now_overloads constructors now_constructors members i m b
           adds text static ∙ ap (λ n. cond (is_overload text static kind) (n + 1) n) (r.operations text static) ∙ sym (overloads_push text static (operations_in before) kind)
           ∙ ap (λ os. length (filter (has_overload text static) os)) (sym (operations_push before (member_of m.now))) ∙ ap (λ ms. length (overloads_in ms text static)) (sym (listed_next members i m below is));
       made = makes ∙ ap (λ n. cond (is_constructor kind) (n + 1) n) r.made ∙ sym (constructors_push before (member_of m.now)) ∙ ap constructor_count (sym (listed_next members i m below is));
-      earliest = members_step HasOverload65 members i m best found now below is e (past_first overloads constructors before r.operations r.made kind found f) r.earliest;
+      earliest = members_step HasOverloadPastLimit members i m best found now below is e (past_first overloads constructors before r.operations r.made kind found f) r.earliest;
     }
 
-pub counted_end : (overloads : List ℕ → Bool → ℕ) (constructors : ℕ) (members : List (Bor Member)) (i : ℕ) (best : Option Violation) → length members ≤ i → Counted overloads constructors (listed_members (take i members)) best → FirstWhere (AtOne HasOverload65 (listed_members members)) best
-counted_end overloads constructors members i best past r = members_end HasOverload65 members i best past r.earliest
+pub counted_end : (overloads : List ℕ → Bool → ℕ) (constructors : ℕ) (members : List (Bor Member)) (i : ℕ) (best : Option Violation) → length members ≤ i → Counted overloads constructors (listed_members (take i members)) best → FirstWhere (AtOne HasOverloadPastLimit (listed_members members)) best
+counted_end overloads constructors members i best past r = members_end HasOverloadPastLimit members i best past r.earliest

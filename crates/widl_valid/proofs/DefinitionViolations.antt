@@ -9,7 +9,7 @@ use Rattle.widl_idl.specs.PlainTrees.{PlainArgument, PlainDefinition, definition
 use Rattle.widl_idl.proofs.Somewhere.{nowhere, somewhere_both}
 use Rattle.widl_names.specs.Listings.{listed_definitions}
 use Rattle.widl_names.proofs.PlainLists.{listed_more}
-use Rattle.widl_overload.specs.ArgumentRules.{FollowsEllipsis, FollowsOptional, InOneList, IsArgument65, RepeatsArgument, lists_in_definition}
+use Rattle.widl_overload.specs.ArgumentRules.{FollowsEllipsis, FollowsOptional, InOneList, IsArgumentPastLimit, RepeatsArgument, lists_in_definition}
 use Rattle.widl_overload.specs.DefinitionRules.{AnnotatesNoType, HasMisformed, HasNameless, HasOtherThanOne, HasValueTwice}
 use Rattle.widl_valid.specs.declared.definition_violations.DefinitionViolations.{DefinitionViolations}
 use Rattle.widl_valid.specs.DefinitionViolations.{AreDefinitionViolations, earlier_violations, no_violations}
@@ -26,7 +26,7 @@ no_definitions violations e = subst (AreDefinitionViolations []) (sym e) (record
   repeated_argument = no_list RepeatsArgument;
   after_ellipsis = no_list FollowsEllipsis;
   required_after_optional = no_list FollowsOptional;
-  argument_65 = no_list IsArgument65;
+  argument_past_limit = no_list IsArgumentPastLimit;
   repeated_value = nowhere (λ (d : PlainDefinition). HasValueTwice d.kind);
   annotation_of_no_type = nowhere AnnotatesNoType;
   other_than_one_operation = nowhere (λ (d : PlainDefinition). HasOtherThanOne d.kind);
@@ -50,7 +50,7 @@ module _ (xs ys : List PlainDefinition) where
     repeated_argument = lists_both RepeatsArgument _ _ a.repeated_argument b.repeated_argument;
     after_ellipsis = lists_both FollowsEllipsis _ _ a.after_ellipsis b.after_ellipsis;
     required_after_optional = lists_both FollowsOptional _ _ a.required_after_optional b.required_after_optional;
-    argument_65 = lists_both IsArgument65 _ _ a.argument_65 b.argument_65;
+    argument_past_limit = lists_both IsArgumentPastLimit _ _ a.argument_past_limit b.argument_past_limit;
     repeated_value = somewhere_both (λ (d : PlainDefinition). HasValueTwice d.kind) xs ys _ _ a.repeated_value b.repeated_value;
     annotation_of_no_type = somewhere_both AnnotatesNoType xs ys _ _ a.annotation_of_no_type b.annotation_of_no_type;
     other_than_one_operation = somewhere_both (λ (d : PlainDefinition). HasOtherThanOne d.kind) xs ys _ _ a.other_than_one_operation b.other_than_one_operation;

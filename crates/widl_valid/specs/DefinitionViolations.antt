@@ -2,7 +2,7 @@
 use Rattle.std.specs.Prelude.{List, None}
 use Rattle.widl_idl.specs.First.{FirstWhere, Somewhere, earlier}
 use Rattle.widl_idl.specs.PlainTrees.{PlainDefinition}
-use Rattle.widl_overload.specs.ArgumentRules.{FollowsEllipsis, FollowsOptional, InOneList, IsArgument65, RepeatsArgument}
+use Rattle.widl_overload.specs.ArgumentRules.{FollowsEllipsis, FollowsOptional, InOneList, IsArgumentPastLimit, RepeatsArgument}
 use Rattle.widl_overload.specs.DefinitionRules.{AnnotatesNoType, HasMisformed, HasNameless, HasOtherThanOne, HasValueTwice}
 use Rattle.widl_valid.specs.declared.definition_violations.DefinitionViolations.{DefinitionViolations}
 
@@ -11,7 +11,7 @@ pub record AreDefinitionViolations (definitions : List PlainDefinition) (violati
   pub repeated_argument : FirstWhere (InOneList RepeatsArgument definitions) violations.repeated_argument
   pub after_ellipsis : FirstWhere (InOneList FollowsEllipsis definitions) violations.after_ellipsis
   pub required_after_optional : FirstWhere (InOneList FollowsOptional definitions) violations.required_after_optional
-  pub argument_65 : FirstWhere (InOneList IsArgument65 definitions) violations.argument_65
+  pub argument_past_limit : FirstWhere (InOneList IsArgumentPastLimit definitions) violations.argument_past_limit
   pub repeated_value : FirstWhere (Somewhere (λ (d : PlainDefinition). HasValueTwice d.kind) definitions) violations.repeated_value
   pub annotation_of_no_type : FirstWhere (Somewhere AnnotatesNoType definitions) violations.annotation_of_no_type
   pub other_than_one_operation : FirstWhere (Somewhere (λ (d : PlainDefinition). HasOtherThanOne d.kind) definitions) violations.other_than_one_operation
@@ -23,7 +23,7 @@ no_violations = record {
   repeated_argument = None;
   after_ellipsis = None;
   required_after_optional = None;
-  argument_65 = None;
+  argument_past_limit = None;
   repeated_value = None;
   annotation_of_no_type = None;
   other_than_one_operation = None;
@@ -37,7 +37,7 @@ earlier_violations best found = record {
   repeated_argument = earlier best.repeated_argument found.repeated_argument;
   after_ellipsis = earlier best.after_ellipsis found.after_ellipsis;
   required_after_optional = earlier best.required_after_optional found.required_after_optional;
-  argument_65 = earlier best.argument_65 found.argument_65;
+  argument_past_limit = earlier best.argument_past_limit found.argument_past_limit;
   repeated_value = earlier best.repeated_value found.repeated_value;
   annotation_of_no_type = earlier best.annotation_of_no_type found.annotation_of_no_type;
   other_than_one_operation = earlier best.other_than_one_operation found.other_than_one_operation;

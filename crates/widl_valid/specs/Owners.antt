@@ -8,14 +8,14 @@ use Rattle.widl_idl.specs.MergingRules.{is_number}
 use Rattle.widl_idl.specs.Parts.{merged_members}
 use Rattle.widl_idl.specs.PlainTypes.{PlainName}
 use Rattle.widl_idl.specs.PlainTrees.{PlainDefinition, PlainKind, PlainMember}
-use Rattle.widl_overload.specs.MemberRules.{HasKeptName, HasOverload65, InOneOwner, IsSecondStringifier, MixesPromises, RepeatsMember, has_members_of_its_own, is_interface_kind}
+use Rattle.widl_overload.specs.MemberRules.{HasKeptName, HasOverloadPastLimit, InOneOwner, IsSecondStringifier, MixesPromises, RepeatsMember, has_members_of_its_own, is_interface_kind}
 use Rattle.widl_valid.specs.declared.owners.MemberViolations.{MemberViolations}
 
 -- the violations are the first at which each of the five rules is broken, where `For` tells which owners are asked
 pub record AreViolations (For : (Kind → Bool) → (List PlainMember → PlainMember → Violation → Type 0) → Violation → Type 0) (definitions : List PlainDefinition) (violations : MemberViolations) : Type 0 where
   pub repeated : FirstWhere (For has_members_of_its_own RepeatsMember) violations.repeated
   pub kept_name : FirstWhere (For is_interface_kind HasKeptName) violations.kept_name
-  pub overload : FirstWhere (For has_members_of_its_own HasOverload65) violations.overload
+  pub overload : FirstWhere (For has_members_of_its_own HasOverloadPastLimit) violations.overload
   pub promise : FirstWhere (For has_members_of_its_own (MixesPromises definitions)) violations.promise
   pub stringifier : FirstWhere (For is_interface_kind IsSecondStringifier) violations.stringifier
 

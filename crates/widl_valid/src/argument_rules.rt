@@ -4,7 +4,7 @@ ghost use Rattle.std.specs.Prelude.{◌≡◌, ◌&&◌, Bool, None, Some, if◌
 ghost use Rattle.std.specs.List.{list_any};
 ghost use Rattle.widl_idl.specs.First.{AtOne, FirstWhere, Somewhere, violation_at};
 ghost use Rattle.widl_idl.specs.PlainTrees.{PlainArgument, argument_kind_of, argument_of, arguments_of};
-ghost use Rattle.widl_overload.specs.ArgumentRules.{AtEllipsis, FollowsEllipsis, FollowsOptional, IsArgument65, RepeatsArgument, is_optional, is_required};
+ghost use Rattle.widl_overload.specs.ArgumentRules.{AtEllipsis, FollowsEllipsis, FollowsOptional, IsArgumentPastLimit, RepeatsArgument, is_optional, is_required};
 ghost use Rattle.widl_valid.specs.WrittenLists.{listed_arguments};
 
 use crate::known_texts::note_text;
@@ -12,9 +12,7 @@ use indexmap::IndexSet;
 use std::alloc::{AllocError, Global};
 use widl_idl::tree::{Argument, ArgumentKind};
 use widl_idl::{Violation, earlier_violation};
-
-// The greatest number of arguments that a list may have.
-const LIMIT: usize = 64;
+use widl_text::limits::MOST_ARGUMENTS;
 
 // Up to how many arguments it is faster to compare their names with each other than to keep them.
 const FEW: usize = 8;
@@ -193,22 +191,22 @@ fn is_optional(kind: &ArgumentKind) -> bool
 }
 
 /// The first place of the name of an argument that 64 others of its list stand before.
-pub fn first_argument_65(lists: &[&[Argument]]) -> Option<Violation>
-    ensures { FirstWhere (Somewhere (AtOne IsArgument65) (listed_arguments lists.now)) result }
+pub fn first_argument_past_limit(lists: &[&[Argument]]) -> Option<Violation>
+    ensures { FirstWhere (Somewhere (AtOne IsArgumentPastLimit) (listed_arguments lists.now)) result }
 {
     let mut best = None;
     for list in lists {
-        let found = argument_65(list);
+        let found = argument_past_limit(list);
         best = earlier_violation(best, found);
     }
     best
 }
 
 // The same in one list.
-fn argument_65(arguments: &[Argument]) -> Option<Violation>
-    ensures { FirstWhere (AtOne IsArgument65 (arguments_of arguments.now)) result }
+fn argument_past_limit(arguments: &[Argument]) -> Option<Violation>
+    ensures { FirstWhere (AtOne IsArgumentPastLimit (arguments_of arguments.now)) result }
 {
-    match arguments.get(LIMIT) {
+    match arguments.get(MOST_ARGUMENTS) {
         None => None,
         Some(argument) => Some(Violation::at(argument.name.at)),
     }

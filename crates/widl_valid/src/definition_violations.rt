@@ -9,7 +9,7 @@ ghost use Rattle.widl_valid.specs.DefinitionViolations.{AreDefinitionViolations,
 
 use crate::argument_lists::list_arguments;
 use crate::argument_rules::{
-    first_after_ellipsis, first_argument_65, first_repeated_argument, first_required_after_optional,
+    first_after_ellipsis, first_argument_past_limit, first_repeated_argument, first_required_after_optional,
 };
 use crate::definition_rules::{
     first_annotation_of_no_type, first_misformed_operation, first_nameless_operation,
@@ -29,7 +29,7 @@ pub struct DefinitionViolations {
     /// A required argument follows an optional one.
     pub required_after_optional: Option<Violation>,
     /// A list has more than 64 arguments.
-    pub argument_65: Option<Violation>,
+    pub argument_past_limit: Option<Violation>,
     /// An enumeration has a value twice.
     pub repeated_value: Option<Violation>,
     /// An annotation of types stands before what is no type.
@@ -77,7 +77,7 @@ fn find_in_definition(
         repeated_argument,
         after_ellipsis: first_after_ellipsis(lists),
         required_after_optional: first_required_after_optional(lists),
-        argument_65: first_argument_65(lists),
+        argument_past_limit: first_argument_past_limit(lists),
         repeated_value,
         annotation_of_no_type: first_annotation_of_no_type(definition),
         other_than_one_operation: other_than_one_operation(kind),
@@ -100,7 +100,7 @@ fn earlier_violations(
             best.required_after_optional,
             found.required_after_optional,
         ),
-        argument_65: earlier_violation(best.argument_65, found.argument_65),
+        argument_past_limit: earlier_violation(best.argument_past_limit, found.argument_past_limit),
         repeated_value: earlier_violation(best.repeated_value, found.repeated_value),
         annotation_of_no_type: earlier_violation(
             best.annotation_of_no_type,
@@ -123,7 +123,7 @@ impl DefinitionViolations {
             repeated_argument: None,
             after_ellipsis: None,
             required_after_optional: None,
-            argument_65: None,
+            argument_past_limit: None,
             repeated_value: None,
             annotation_of_no_type: None,
             other_than_one_operation: None,

@@ -27,7 +27,7 @@ pub fn join_arguments(violations: DefinitionViolations, best: Option<Refusal>) -
 {
     let best = joined(
         ValidityRule::TooManyArguments.number(),
-        violations.argument_65,
+        violations.argument_past_limit,
         best,
     );
     let best = joined(

@@ -4,7 +4,7 @@ ghost use Rattle.std.specs.Prelude.{◌≡◌, ℕ, ◌+◌, ◌&&◌, Bool, Lis
 ghost use Rattle.widl_idl.specs.First.{AtOne, FirstWhere};
 ghost use Rattle.widl_idl.specs.MergingRules.{both_or_none, is_static};
 ghost use Rattle.widl_idl.specs.PlainTrees.{member_kind_of, operation_of};
-ghost use Rattle.widl_overload.specs.MemberRules.{HasOverload65};
+ghost use Rattle.widl_overload.specs.MemberRules.{HasOverloadPastLimit};
 ghost use Rattle.widl_valid.specs.MemberTables.{count_in, has_overload, is_constructor, is_overload, listed_members, overload_count, violation_of_name, violation_past_limit};
 
 use crate::owner_members::{is_static, operation_text};
@@ -12,9 +12,7 @@ use indexmap::IndexMap;
 use std::alloc::{AllocError, Global};
 use widl_idl::tree::{Member, MemberKind, Operation};
 use widl_idl::{Violation, earlier_violation};
-
-// How many overloads a name or a constructor may have.
-const LIMIT: u32 = 64;
+use widl_text::limits::MOST_OVERLOADS;
 
 // How many operations have a name.
 #[derive(Drop)]
@@ -41,7 +39,7 @@ pub fn first_overload_past_limit(
     alloc: Global,
     members: &[&Member],
 ) -> Result<Option<Violation>, AllocError>
-    ensures { IfOk result (λ found. FirstWhere (AtOne HasOverload65 (listed_members members.now)) found) }
+    ensures { IfOk result (λ found. FirstWhere (AtOne HasOverloadPastLimit (listed_members members.now)) found) }
 {
     let mut counts = OverloadCounts::new(alloc);
     let mut best = None;
@@ -70,7 +68,7 @@ impl<'a> OverloadCounts<'a> {
     {
         match kind {
             MemberKind::Operation(operation) => self.operations.past_limit(operation),
-            MemberKind::Constructor(constructor) => if self.constructors == LIMIT {
+            MemberKind::Constructor(constructor) => if self.constructors == MOST_OVERLOADS {
                 Some(Violation::at(constructor.at))
             } else {
                 None
@@ -110,7 +108,7 @@ impl<'a> NameCounts<'a> {
         ensures { result ≡ violation_of_name (operation_of operation.now).name (λ text. nat_eq (overload_count self.now.regular self.now.fixed text (is_static operation.now.kind)) 64) }
     {
         let name = operation.name.as_ref()?;
-        if self.count(name.text.as_str(), is_static(operation.kind)) == LIMIT {
+        if self.count(name.text.as_str(), is_static(operation.kind)) == MOST_OVERLOADS {
             Some(Violation::at(name.at))
         } else {
             None

@@ -1,8 +1,7 @@
 //! Arguments of operations, constructors and callbacks.
 
 use super::{AnnotatedType, ExtendedAttributes, Literal, Name};
-use crate::Items;
-use widl_text::Place;
+use widl_text::{Items, Place};
 
 /// An argument ([Web IDL, Operations](https://webidl.spec.whatwg.org/#idl-operations)).
 #[derive(Drop)]

@@ -1,7 +1,7 @@
 //! Dictionaries.
 
 use super::{AnnotatedType, ExtendedAttributes, Literal, Name};
-use crate::Items;
+use widl_text::Items;
 
 /// A dictionary ([Web IDL, Dictionaries](https://webidl.spec.whatwg.org/#idl-dictionaries)).
 #[derive(Drop)]
