@@ -8,6 +8,7 @@ ghost use Rattle.widl_folder.specs.Folders.{Counts, IsWhole, IsTooLong, Takes, n
 use crate::{Folder, Started};
 use std::alloc::{AllocError, Global};
 use thiserror::Error;
+use widl_text::limits::MOST_FILE_BYTES;
 
 /// The most bytes that are read in one piece.
 const PIECE: usize = 4_096;
