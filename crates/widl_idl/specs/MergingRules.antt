@@ -44,7 +44,7 @@ abbrev pub AtName : Option PlainName → (PlainName → Type 0) → Violation �
 AtName None P s = ⊥
 AtName (Some name) P s = P name × IsAt name.at s
 
--- a name has two main definitions: at the second name
+-- rule 1: a name has two main definitions: at the second name
 abbrev pub IsSecondDefinition : List PlainDefinition → PlainDefinition → Violation → Type 0
 IsSecondDefinition before d s = AtName (main_name d.kind) (λ name. is_some (meaning before name.text) ≡ true) s
 
@@ -57,11 +57,12 @@ begins_with_underscore (c ∷ more) = nat_eq c 0x5F
 abbrev pub is_reserved : List ℕ → Bool
 is_reserved text = bytes_eq text (codes "constructor") || bytes_eq text (codes "toString") || begins_with_underscore text
 
+-- rule 2: a node with such a name: at the name
 abbrev pub IsReservedName : Node → Violation → Type 0
 IsReservedName (NameNode name) s = (is_reserved name.text ≡ true) × IsAt name.at s
 IsReservedName node s = ⊥
 
--- a partial definition, where its name means no definition of its kind: at its name
+-- rule 3: a partial definition, where its name means no definition of its kind: at its name
 abbrev pub IsWithoutMain : List PlainDefinition → PlainDefinition → Violation → Type 0
 IsWithoutMain definitions d s = AtName (partial_name d.kind) (λ name. meant_kind definitions name.text ≢ Some (kind_of d.kind)) s
 
@@ -74,10 +75,11 @@ abbrev pub included : PlainKind → Option PlainName
 included (IncludesStatement i) = Some i.mixin
 included kind = None
 
--- the left side of an includes statement means no interface, and the right side no mixin: at that side
+-- rule 4: the left side of an includes statement means no interface: at that side
 abbrev pub IncludesIntoOther : List PlainDefinition → PlainDefinition → Violation → Type 0
 IncludesIntoOther definitions d s = AtName (included_into d.kind) (λ name. meant_kind definitions name.text ≢ Some kinds.Interface) s
 
+-- rule 5: its right side means no mixin: at that side
 abbrev pub IncludesOther : List PlainDefinition → PlainDefinition → Violation → Type 0
 IncludesOther definitions d s = AtName (included d.kind) (λ name. meant_kind definitions name.text ≢ Some kinds.Mixin) s
 
@@ -87,7 +89,7 @@ parent_of (InterfaceDefinition i) = i.parent
 parent_of (DictionaryDefinition d) = d.parent
 parent_of kind = None
 
--- the parent means no definition of the same kind: at the parent
+-- rule 6: the parent means no definition of the same kind: at the parent
 abbrev pub HasOtherParent : List PlainDefinition → PlainDefinition → Violation → Type 0
 HasOtherParent definitions d s = AtName (parent_of d.kind) (λ name. meant_kind definitions name.text ≢ Some (kind_of d.kind)) s
 
@@ -104,7 +106,7 @@ parent_numbers definitions kind (Some name) = number_of_kind kind (meant_kind de
 abbrev pub parent_links : List PlainDefinition → List (List ℕ)
 parent_links definitions = map (λ d. parent_numbers definitions (kind_of d.kind) (parent_of d.kind)) definitions
 
--- by these links one of the definitions comes back to itself: at its name
+-- rules 7 (by parents) and 9 (by typedefs): by these links one of the definitions comes back to itself: at its name
 pub record ComesBack (links : List (List ℕ)) (definitions : List PlainDefinition) (s : Violation) : Type 0 where
   pub number : ℕ
   pub definition : PlainDefinition
@@ -119,12 +121,12 @@ is_type_kind (Some kinds.Mixin) = false
 is_type_kind (Some kinds.Namespace) = false
 is_type_kind (Some kind) = true
 
--- a name in a type that is the name of no type: at that name
+-- rule 8: a name in a type that is the name of no type: at that name
 abbrev pub IsUnknownType : List PlainDefinition → Node → Violation → Type 0
 IsUnknownType definitions (TypeNode (plain_type place (PlainNamed name) question)) s = (is_type_kind (meant_kind definitions name.text) ≡ false) × IsAt name.at s
 IsUnknownType definitions node s = ⊥
 
--- a type nests deeper than the limit: at its first token
+-- rule 11: a type nests deeper than the limit: at its first token
 abbrev pub NestsDeep : List PlainDefinition → Node → Violation → Type 0
 NestsDeep definitions (TypeNode (plain_type place form question)) s = ((depth : ℕ) × (depth_of definitions (plain_type place form question) ≡ Some depth) × (most_type_levels < depth)) × IsAt place s
 NestsDeep definitions node s = ⊥
@@ -157,7 +159,7 @@ IsInEarlierPart before kind s = ⊥
 abbrev pub RepeatsOperation : List PlainKind → PlainKind → Violation → Type 0
 RepeatsOperation before part s = Somewhere (λ (m : PlainMember). IsInEarlierPart before m.kind) (members_in part) s
 
--- the definition that a name means has operations of one name in two of its parts
+-- rule 10: the definition that a name means has operations of one name in two of its parts
 pub record HasInTwoParts (definitions : List PlainDefinition) (s : Violation) : Type 0 where
   pub text : List ℕ
   pub kind : Kind
@@ -206,7 +208,7 @@ abbrev pub portions_from : List PlainDefinition → ℕ → List PlainDefinition
 portions_from definitions number [] = []
 portions_from definitions number (d ∷ more) = portion_of definitions number d.kind ++ portions_from definitions (number + 1) more
 
--- the sum passes the limit with this portion
+-- rule 48: the sum passes the limit with this portion
 abbrev pub PassesLimit : List Portion → Portion → Violation → Type 0
 PassesLimit before portion s =
     ((sum_by (λ (p : Portion). p.size) before ≤ most_members) × (most_members < sum_by (λ (p : Portion). p.size) before + portion.size)) × IsAt portion.at s

@@ -37,19 +37,19 @@ unsupported_at rule place = Some (record { rule = rule; at = place })
 
 abbrev pub container_rule : Container → Option ProfileRule
 container_rule container.Sequence = None
-container_rule container.AsyncSequence = Some unsupported.Asynchronous
-container_rule container.FrozenArray = Some unsupported.FrozenArray
-container_rule container.ObservableArray = Some unsupported.ObservableArray
+container_rule container.AsyncSequence = Some unsupported.Asynchronous  -- X5
+container_rule container.FrozenArray = Some unsupported.FrozenArray  -- X13
+container_rule container.ObservableArray = Some unsupported.ObservableArray  -- X6
 
 abbrev pub form_rule : PlainForm → Option ProfileRule
-form_rule (PlainFloat kind) = Some unsupported.FloatingPoint
-form_rule PlainBigInt = Some unsupported.BigInt
-form_rule (PlainBuffer kind) = Some unsupported.Buffer
-form_rule PlainSymbol = Some unsupported.Symbol
+form_rule (PlainFloat kind) = Some unsupported.FloatingPoint  -- X1
+form_rule PlainBigInt = Some unsupported.BigInt  -- X2
+form_rule (PlainBuffer kind) = Some unsupported.Buffer  -- X3
+form_rule PlainSymbol = Some unsupported.Symbol  -- X4
 form_rule (PlainContainer container inner) = container_rule container
 form_rule form = None
 
--- a type is left out at its first token
+-- a type: at its first token
 abbrev pub unsupported_type : PlainType → Option Unsupported
 unsupported_type (plain_type place form question) = option_map (λ rule. record { rule = rule; at = place }) (form_rule form)
 
@@ -61,7 +61,7 @@ is_floating_point NotANumberValue = true
 is_floating_point literal = false
 
 abbrev pub unsupported_literal : PlainLiteral → Option Unsupported
-unsupported_literal l = if is_floating_point l.value then unsupported_at unsupported.FloatingPoint l.at else None
+unsupported_literal l = if is_floating_point l.value then unsupported_at unsupported.FloatingPoint l.at else None  -- X1
 
 -- extended attributes that are read in every shape, and have no effect
 abbrev pub attributes_without_effect : List (List ℕ)
@@ -85,36 +85,36 @@ abbrev pub is_listed : PlainAttribute → Bool
 is_listed a = if is_among attributes_without_effect a.name.text then true else if is_among annotation_names a.name.text then is_empty a.arguments else false
 
 abbrev pub unsupported_attribute : PlainAttribute → Option Unsupported
-unsupported_attribute a = if is_listed a then None else unsupported_at unsupported.UnlistedAttribute a.name.at
+unsupported_attribute a = if is_listed a then None else unsupported_at unsupported.UnlistedAttribute a.name.at  -- X12
 
 abbrev pub unsupported_operation : OperationKind → Option Unsupported
-unsupported_operation (operation_kind.Special word place) = unsupported_at unsupported.SpecialOperation place
+unsupported_operation (operation_kind.Special word place) = unsupported_at unsupported.SpecialOperation place  -- X9
 unsupported_operation kind = None
 
 abbrev pub unsupported_attribute_kind : AttributeKind → Option Unsupported
-unsupported_attribute_kind (attribute_kind.Inherited place) = unsupported_at unsupported.InheritedAttribute place
+unsupported_attribute_kind (attribute_kind.Inherited place) = unsupported_at unsupported.InheritedAttribute place  -- X10
 unsupported_attribute_kind kind = None
 
 abbrev pub unsupported_iterable : Place → Option PlainAnnotated → Option Unsupported
-unsupported_iterable place None = unsupported_at unsupported.ValueIterable place
+unsupported_iterable place None = unsupported_at unsupported.ValueIterable place  -- X8
 unsupported_iterable place (Some second) = None
 
--- a member of an interface, a mixin or a namespace is left out at its first word, a maplike or setlike one at that word
+-- a member of an interface, a mixin or a namespace: at its first word, a maplike or setlike one at that word
 abbrev pub unsupported_member : PlainMemberKind → Option Unsupported
 unsupported_member (OperationMember o) = unsupported_operation o.kind
 unsupported_member (AttributeMember a) = unsupported_attribute_kind a.kind
 unsupported_member (IterableMember i) = unsupported_iterable i.at i.second
-unsupported_member (AsyncIterableMember i) = unsupported_at unsupported.Asynchronous i.at
-unsupported_member (MaplikeMember m) = unsupported_at unsupported.MapOrSet m.at
-unsupported_member (SetlikeMember s) = unsupported_at unsupported.MapOrSet s.at
+unsupported_member (AsyncIterableMember i) = unsupported_at unsupported.Asynchronous i.at  -- X5
+unsupported_member (MaplikeMember m) = unsupported_at unsupported.MapOrSet m.at  -- X7
+unsupported_member (SetlikeMember s) = unsupported_at unsupported.MapOrSet s.at  -- X7
 unsupported_member kind = None
 
 -- a member of a callback interface
 abbrev pub unsupported_callback_member : PlainMemberKind → Option Unsupported
-unsupported_callback_member (ConstantMember c) = unsupported_at unsupported.CallbackInterfaceConstant c.at
+unsupported_callback_member (ConstantMember c) = unsupported_at unsupported.CallbackInterfaceConstant c.at  -- X11
 unsupported_callback_member kind = None
 
--- whether a node that is written is of a form that the profile leaves unsupported
+-- the unsupported form of a node, if it is of one
 abbrev pub unsupported_of : Node → Option Unsupported
 unsupported_of (TypeNode t) = unsupported_type t
 unsupported_of (AttributeNode a) = unsupported_attribute a
@@ -127,15 +127,15 @@ abbrev pub IsUnsupportedBy : ProfileRule → Option Unsupported → Violation �
 IsUnsupportedBy rule None s = ⊥
 IsUnsupportedBy rule (Some form) s = (form.rule ≡ rule) × (violation_at form.at ≡ s)
 
--- the node is of a form that the rule leaves out, at the place
+-- the node is of a form that the rule refuses, at the place
 abbrev pub IsUnsupported : ProfileRule → Node → Violation → Type 0
 IsUnsupported rule node s = IsUnsupportedBy rule (unsupported_of node) s
 
--- one of the nodes is of a form that the rule leaves out
+-- one of the nodes is of a form that the rule refuses
 abbrev pub LeavesOut : List Node → ProfileRule → Violation → Type 0
 LeavesOut nodes rule s = Somewhere (IsUnsupported rule) nodes s
 
--- a form that the rule leaves out is written at the place
+-- a form that the rule refuses is written at the place
 abbrev pub BreaksProfile : List PlainDefinition → ProfileRule → Violation → Type 0
 BreaksProfile definitions rule s = LeavesOut (nodes_of definitions) rule s
 

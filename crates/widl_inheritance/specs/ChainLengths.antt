@@ -1,4 +1,4 @@
--- The lengths of chains of dictionaries, up to 257.
+-- For proofs alone. The lengths of chains of dictionaries, up to one past the limit.
 use Rattle.std.specs.Prelude.{◌≡◌, ◌↔◌, ℕ, ◌+◌, ◌<◌, ◌≤◌, List, [], ◌∷◌, length, max, min, nat_lt, slice_get, slice_index, Some, if◌then◌else◌}
 use Rattle.widl_idl.specs.DefinitionTerms.{DictTerm}
 use Rattle.widl_overload.specs.Dictionaries.{BeginsChain, HoldsIn}

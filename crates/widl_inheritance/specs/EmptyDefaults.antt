@@ -1,4 +1,4 @@
--- Which arguments lack a default value, as the program tests it.
+-- For proofs alone. Which arguments lack a default value, as the program tests it.
 use Rattle.std.specs.Prelude.{◌≡◌, Bool, true, false, List, None, Some}
 use Rattle.std.specs.List.{list_any}
 use Rattle.widl_idl.specs.declared.literal.Literal.TheVariants as the

@@ -1,4 +1,4 @@
--- Whether a literal fits a type, as the program tests it.
+-- For proofs alone. Whether a literal fits a type, as the program tests it.
 use Rattle.std.specs.Prelude.{ℕ, Bool, true, false, not, ◌&&◌, ◌||◌, Option, None, Some, slice_get}
 use Rattle.std.specs.List.{list_any}
 use Rattle.widl_idl.specs.declared.int_kind.IntKind.{IntKind}

@@ -1,4 +1,4 @@
--- What the rules on iterables read of the members of one interface, and of all.
+-- For proofs alone. What the rules on iterables read of the members of one interface, and of all.
 use Rattle.std.specs.Prelude.{◌≡◌, ℕ, ◌<◌, Bool, true, false, ◌||◌, List, Option, None, Some, if◌then◌else◌, slice_index_or}
 use Rattle.widl_text.specs.declared.place.Place.{Place}
 use Rattle.widl_idl.specs.declared.violation.Violation.{Violation}

@@ -1,4 +1,4 @@
--- For each name the greatest place at which the span of a dictionary ends that has a member of the name, of those that were visited.
+-- For proofs alone. For each name the greatest place at which the span of a dictionary ends that has a member of the name, of those that were visited.
 use Rattle.std.specs.Prelude.{◌≡◌, ◌⊎◌, ℕ, Bool, ◌&&◌, true, nat_lt, List, [], slice_get, bytes_eq, Option, Some, unwrap_or}
 use Rattle.std.specs.Borrow.{Bor}
 use Rattle.std.specs.Option.{option_map_or}

@@ -1,4 +1,4 @@
--- Which dictionaries have a required member, as the program keeps it.
+-- For proofs alone. Which dictionaries have a required member, as the program keeps it.
 use Rattle.std.specs.Prelude.{◌≡◌, ◌↔◌, ℕ, ◌<◌, Bool, true, false, ◌||◌, List, length, slice_get, slice_index_or, Option, None, Some}
 use Rattle.std.specs.List.{list_any}
 use Rattle.widl_graph.specs.Order.{IsOrder, StandsBefore}

@@ -1,4 +1,4 @@
--- The spans of the nodes of a forest: where each stands in an order in which those that come from a node follow it, and where the last of these stands.
+-- For proofs alone. The spans of the nodes of a forest: where each stands in an order in which those that come from a node follow it, and where the last of these stands.
 use Rattle.std.specs.Prelude.{◌≡◌, ◌⊎◌, ℕ, ◌<◌, ◌≤◌, List, length, map, slice_get, Option, Some, option_and_then}
 use Rattle.std.specs.Option.{option_to_list}
 use Rattle.widl_graph.specs.Reaching.{Reaches}

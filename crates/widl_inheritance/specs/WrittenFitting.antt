@@ -1,4 +1,4 @@
--- Whether a default value fits its type by the way in which both are written.
+-- For proofs alone. Whether a default value fits its type by the way in which both are written.
 use Rattle.std.specs.Prelude.{Bool, true, false, ◌&&◌, ◌||◌, Option, Some}
 use Rattle.widl_text.specs.declared.place.Place.{Place}
 use Rattle.widl_idl.specs.declared.text_kind.TextKind.{TextKind}

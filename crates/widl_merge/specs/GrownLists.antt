@@ -1,4 +1,4 @@
--- The six lists of definitions while they are made, a definition at a time.
+-- For proofs alone. The six lists of definitions while they are made, a definition at a time.
 use Rattle.std.specs.Prelude.{◌≡◌, ℕ, List, ◌++◌, filter_map, map, option_to_list, Option, Some}
 use Rattle.widl_idl.specs.declared.defs.Defs.{Defs}
 use Rattle.widl_idl.specs.declared.enumeration.Choice.{Choice}

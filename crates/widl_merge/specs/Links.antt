@@ -1,4 +1,4 @@
--- Links between definitions: for each definition the numbers of those that it leads to.
+-- For proofs alone. Links between definitions: for each definition the numbers of those that it leads to.
 use Rattle.std.specs.Prelude.{ℕ, List, length}
 use Rattle.widl_graph.specs.declared.walk.Walk.{Walk}
 use Rattle.widl_graph.specs.Order.{IsOrder, StandsBefore}

@@ -1,4 +1,4 @@
--- What `merge` finds of the definitions of a set of files.
+-- For proofs alone. What `merge` finds of the definitions of a set of files.
 use Rattle.std.specs.Prelude.{List}
 use Rattle.widl_idl.specs.declared.defs.Defs.{Defs}
 use Rattle.widl_idl.specs.declared.profile_rule.ProfileRule.{ProfileRule}

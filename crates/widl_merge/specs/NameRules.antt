@@ -1,4 +1,4 @@
--- What the rules on names ask of one name.
+-- For proofs alone. What the rules on names ask of one name.
 use Rattle.std.specs.Prelude.{◌≢◌, List, Option, Some}
 use Rattle.widl_idl.specs.declared.kind.Kind.{Kind}
 use Rattle.widl_idl.specs.declared.violation.Violation.{Violation}

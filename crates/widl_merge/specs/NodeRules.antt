@@ -1,4 +1,4 @@
--- The first violations by the rules of merging that read what is written a node at a time.
+-- For proofs alone. The first violations by the rules of merging that read what is written a node at a time.
 use Rattle.std.specs.Prelude.{List}
 use Rattle.widl_idl.specs.First.{FirstWhere, Somewhere}
 use Rattle.widl_idl.specs.MergingRules.{IsReservedName, IsUnknownType, NestsDeep}

@@ -1,4 +1,4 @@
--- The members of an interface or a namespace, put together a member at a time, as the program has them.
+-- For proofs alone. The members of an interface or a namespace, put together a member at a time, as the program has them.
 use Rattle.std.specs.Prelude.{◌≡◌, ℕ, ◌<◌, ◌++◌, Bool, ◌&&◌, List, [], ◌∷◌, length, map, slice_get, slice_set, Option, Some, option_map, if◌then◌else◌, bytes_eq, is_some}
 use Rattle.std.specs.List.{list_any}
 use Rattle.std.specs.Borrow.{Bor}

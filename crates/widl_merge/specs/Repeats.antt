@@ -1,4 +1,4 @@
--- Operations that an earlier part has too, as the program finds them.
+-- For proofs alone. Operations that an earlier part has too, as the program finds them.
 use Rattle.std.specs.Prelude.{◌≡◌, ℕ, Bool, false, ◌&&◌, List, length, Option, None, Some, if◌then◌else◌, bytes_eq}
 use Rattle.std.specs.Borrow.{Bor}
 use Rattle.indexmap.specs.IndexSet.{IndexSet, contains_by}

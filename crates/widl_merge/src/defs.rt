@@ -17,8 +17,8 @@ use crate::sources::Sources;
 use std::alloc::{AllocError, Global};
 use widl_idl::tree::{DefinitionKind, Dictionary, Interface, Namespace};
 use widl_idl::{Defs, Dicts, Ifaces, Spaces};
-use widl_text::Items;
 use widl_names::Meanings;
+use widl_text::Items;
 
 /// The merged list of definitions that break no rule of merging.
 ///

@@ -9,10 +9,10 @@ ghost use Rattle.widl_merge.specs.DictionaryTables.{DictionariesGrouped, diction
 
 use std::alloc::{AllocError, Global};
 use std::marker::Model;
-use widl_idl::tree::{Definition, DefinitionKind, DictionaryMember};
 use widl_idl::Kind;
-use widl_text::Items;
+use widl_idl::tree::{Definition, DefinitionKind, DictionaryMember};
 use widl_names::{Meanings, group_at, kind_at, no_groups, number_meant, put_in_group};
+use widl_text::Items;
 
 /// The members of dictionaries in merged order.
 #[derive(Drop)]

@@ -1,4 +1,4 @@
--- Numbers that stop at the greatest one of 128 bits without a sign.
+-- For proofs alone. Numbers that stop at the greatest one of 128 bits without a sign.
 use Rattle.std.specs.Prelude.{ℕ, ◌-◌, ◌^◌, min}
 
 -- a number, or that greatest one

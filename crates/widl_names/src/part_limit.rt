@@ -7,8 +7,8 @@
 
 use crate::parts::{group_at, members_in};
 use std::alloc::{AllocError, Global};
-use widl_text::Items;
 use widl_idl::tree::{Definition, DefinitionKind};
+use widl_text::Items;
 
 // The greatest number of members that are mixed into interfaces. It is eight times what the rule on the
 // number of members allows.

@@ -16,8 +16,8 @@ use crate::names::{kind_of, partial_name};
 use crate::part_limit::check_mixed;
 use std::alloc::{AllocError, Global};
 use std::marker::Model;
-use widl_idl::tree::{Definition, DefinitionKind, Includes, Member};
 use widl_idl::Kind;
+use widl_idl::tree::{Definition, DefinitionKind, Includes, Member};
 use widl_text::Items;
 
 /// The definitions of a set of files with their parts, by the number of the definition.

@@ -31,7 +31,7 @@ lists_in_definition kind = []
 abbrev pub argument_lists_of : List PlainDefinition → List (List PlainArgument)
 argument_lists_of definitions = flat_map (λ (d : PlainDefinition). lists_in_definition d.kind) definitions
 
--- an earlier argument has the name: at the name
+-- rule 13: an earlier argument has the name: at the name
 abbrev pub RepeatsArgument : List PlainArgument → PlainArgument → Violation → Type 0
 RepeatsArgument before a s = (list_any (λ (b : PlainArgument). bytes_eq b.name.text a.name.text) before ≡ true) × IsAt a.name.at s
 
@@ -40,7 +40,7 @@ abbrev pub AtEllipsis : PlainArgumentKind → Violation → Type 0
 AtEllipsis (VariadicArgument ellipsis) s = IsAt ellipsis s
 AtEllipsis kind s = ⊥
 
--- an argument follows one with an ellipsis: at the ellipsis
+-- rule 14: an argument follows one with an ellipsis: at the ellipsis
 abbrev pub FollowsEllipsis : List PlainArgument → PlainArgument → Violation → Type 0
 FollowsEllipsis before a s = Somewhere (λ (b : PlainArgument). AtEllipsis b.kind) before s
 
@@ -52,11 +52,11 @@ abbrev pub is_optional : PlainArgumentKind → Bool
 is_optional (OptionalArgument default) = true
 is_optional kind = false
 
--- a required argument follows an optional one: at its name
+-- rule 15: a required argument follows an optional one: at its name
 abbrev pub FollowsOptional : List PlainArgument → PlainArgument → Violation → Type 0
 FollowsOptional before a s = ((is_required a.kind ≡ true) × (list_any (λ (b : PlainArgument). is_optional b.kind) before ≡ true)) × IsAt a.name.at s
 
--- as many arguments as a list may have stand before this one: at its name
+-- rule 45: as many arguments as a list may have stand before this one: at its name
 abbrev pub IsArgumentPastLimit : List PlainArgument → PlainArgument → Violation → Type 0
 IsArgumentPastLimit before a s = (length before ≡ most_arguments) × IsAt a.name.at s
 

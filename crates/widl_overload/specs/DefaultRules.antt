@@ -89,6 +89,7 @@ module _ (list : DefsTerm) (definitions : List PlainDefinition) where
   abbrev pub IsOtherDefault : Defaulted → Violation → Type 0
   IsOtherDefault d s = (Fits list (meaning_with definitions d.attributes d.ty) d.value.value → ⊥) × IsAt d.value.at s
 
+  -- rule 16: a default value does not fit its type: at the value
   abbrev pub HasOtherDefault : Violation → Type 0
   HasOtherDefault s = Somewhere IsOtherDefault (defaults_of definitions) s
 
@@ -141,5 +142,6 @@ call_lists_in_definition kind = []
 abbrev pub call_lists_of : List PlainDefinition → List (List PlainArgument)
 call_lists_of definitions = flat_map (λ (d : PlainDefinition). call_lists_in_definition d.kind) definitions
 
+-- rule 26: an argument that takes a dictionary without required members has no default value: at its name
 abbrev pub HasNoEmptyDefault : DefsTerm → List PlainDefinition → Violation → Type 0
 HasNoEmptyDefault list definitions s = Somewhere (LacksEmptyDefault list definitions) (call_lists_of definitions) s

@@ -14,7 +14,7 @@ use Rattle.widl_idl.specs.WrittenTypes.{annotation_of}
 abbrev pub RepeatsValue : List PlainEnumerationValue → PlainEnumerationValue → Violation → Type 0
 RepeatsValue before v s = (list_any (λ (w : PlainEnumerationValue). bytes_eq w.text v.text) before ≡ true) × IsAt v.at s
 
--- an enumeration has a value twice
+-- rule 12: an enumeration has a value twice
 abbrev pub HasValueTwice : PlainKind → Violation → Type 0
 HasValueTwice (EnumerationDefinition e) s = AtOne RepeatsValue e.values s
 HasValueTwice kind s = ⊥
@@ -40,11 +40,11 @@ attribute_lists_of d = d.attributes ∷ flat_map (λ (m : PlainMember). attribut
 abbrev pub IsAnnotation : PlainAttribute → Violation → Type 0
 IsAnnotation a s = (is_some (annotation_of a.name.text) ≡ true) × IsAt a.name.at s
 
--- an annotation of types stands before what is no type
+-- rule 30: an annotation of types stands before what is no type
 abbrev pub AnnotatesNoType : PlainDefinition → Violation → Type 0
 AnnotatesNoType d s = Somewhere (Somewhere IsAnnotation) (attribute_lists_of d) s
 
--- a callback interface that hasn't exactly one operation: at its name
+-- rule 33: a callback interface that hasn't exactly one operation: at its name
 abbrev pub HasOtherThanOne : PlainKind → Violation → Type 0
 HasOtherThanOne (CallbackInterfaceDefinition c) s = (length (operations_in c.members) ≢ 1) × IsAt c.name.at s
 HasOtherThanOne kind s = ⊥
@@ -54,6 +54,7 @@ abbrev pub IsNameless : PlainMemberKind → Violation → Type 0
 IsNameless (OperationMember o) s = (is_some o.name ≡ false) × IsAt o.open_place s
 IsNameless kind s = ⊥
 
+-- rule 39: an operation has no name: at its `(`
 abbrev pub HasNameless : PlainKind → Violation → Type 0
 HasNameless kind s = Somewhere (λ (m : PlainMember). IsNameless m.kind) (members_written kind) s
 
@@ -72,6 +73,7 @@ abbrev pub IsMisformed : PlainMemberKind → Violation → Type 0
 IsMisformed (OperationMember o) s = ((is_some o.name ≡ false) ⊎ (has_early_ellipsis o.arguments ≡ true)) × IsAt o.open_place s
 IsMisformed kind s = ⊥
 
+-- rule 46: an operation of a callback interface has no name, or an ellipsis before its last argument: at its `(`
 abbrev pub HasMisformed : PlainKind → Violation → Type 0
 HasMisformed (CallbackInterfaceDefinition c) s = Somewhere (λ (m : PlainMember). IsMisformed m.kind) c.members s
 HasMisformed kind s = ⊥

@@ -26,14 +26,14 @@ module _ (dicts : List DictTerm) where
   abbrev pub RepeatsName : ℕ → List MemberTerm → MemberTerm → Violation → Type 0
   RepeatsName n before m s = ((has_member m.name before ≡ true) ⊎ InheritsMember n m.name) × IsAt m.at s
 
-  -- a dictionary has a member name twice, inherited ones included
+  -- rule 20: a dictionary has a member name twice, inherited ones included
   pub record HasNameTwice (s : Violation) : Type 0 where
     pub number : ℕ
     pub dictionary : DictTerm
     pub is : slice_get dicts number ≡ Some dictionary
     pub repeats : AtOne (RepeatsName number) dictionary.members s
 
-  -- a dictionary stands in the type of a member of its own, at any depth and through any number of dictionaries: at its name
+  -- rule 41: a dictionary stands in the type of a member of its own, at any depth and through any number of dictionaries: at its name
   pub record HoldsItself (s : Violation) : Type 0 where
     pub number : ℕ
     pub dictionary : DictTerm
@@ -41,7 +41,7 @@ module _ (dicts : List DictTerm) where
     pub back : LeadsTo dicts number number
     pub at_name : IsAt dictionary.at s
 
-  -- no dictionary holds itself, and a chain of more dictionaries than may be begins with this one: at its name
+  -- rule 47: no dictionary holds itself, and a chain of more dictionaries than may be begins with this one: at its name
   pub record BeginsLongChain (s : Violation) : Type 0 where
     pub number : ℕ
     pub dictionary : DictTerm

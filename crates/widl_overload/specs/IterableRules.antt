@@ -65,6 +65,7 @@ module _ (definitions : List PlainDefinition) where
   abbrev pub IsSecondIterable : List ℕ → List PlainMember → PlainMember → Violation → Type 0
   IsSecondIterable text before m s = ((has_iterable before ≡ true) ⊎ InheritsIterable text) × AtIterable m.kind s
 
+  -- rule 31: an iterable whose interface has an earlier one or inherits one: at its word
   pub record HasSecondIterable (s : Violation) : Type 0 where
     pub text : List ℕ
     pub number : ℕ
@@ -77,7 +78,7 @@ module _ (definitions : List PlainDefinition) where
     pub of_line : (text ≡ other) ⊎ InheritsFrom text other
     pub has : has_iteration_name (members_of_interface other) ≡ true
 
-  -- an iterable of such an interface: at its word
+  -- rule 32: an iterable of such an interface: at its word
   pub record HidesIterationMethod (s : Violation) : Type 0 where
     pub text : List ℕ
     pub number : ℕ

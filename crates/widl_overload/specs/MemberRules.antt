@@ -52,7 +52,7 @@ is_named text (Some name) = bytes_eq name.text text
 abbrev pub excludes : PlainMemberKind → PlainMemberKind → Bool
 excludes a b = not (is_operation a && is_operation b)
 
--- an earlier member has the identifier, and not both are operations: at the identifier
+-- rule 42: an earlier member has the identifier, and not both are operations: at the identifier
 abbrev pub RepeatsMember : List PlainMember → PlainMember → Violation → Type 0
 RepeatsMember before m s = AtName (identifier m.kind) (λ name. list_any (λ (b : PlainMember). is_named name.text (identifier b.kind) && excludes b.kind m.kind) before ≡ true) s
 
@@ -72,7 +72,7 @@ is_kept_name kind text =
     (bytes_eq text (codes "prototype") && (is_static_member kind || is_constant kind))
     || (is_constant kind && (bytes_eq text (codes "length") || bytes_eq text (codes "name")))
 
--- a static member or a constant of an interface has a name that it may not have: at the name
+-- rule 43: a static member or a constant of an interface has a name that it may not have: at the name
 abbrev pub HasKeptName : List PlainMember → PlainMember → Violation → Type 0
 HasKeptName before m s = AtName (identifier m.kind) (λ name. is_kept_name m.kind name.text ≡ true) s
 
@@ -90,6 +90,7 @@ IsOverloadPastLimit before (OperationMember o) s = AtName o.name (λ name. lengt
 IsOverloadPastLimit before (ConstructorMember c) s = (constructor_count before ≡ most_overloads) × IsAt c.at s
 IsOverloadPastLimit before kind s = ⊥
 
+-- rule 44: a member is an overload past the limit: at its name or its word
 abbrev pub HasOverloadPastLimit : List PlainMember → PlainMember → Violation → Type 0
 HasOverloadPastLimit before m s = IsOverloadPastLimit before m.kind s
 
@@ -102,14 +103,15 @@ abbrev pub returns_promise : List PlainDefinition → PlainOperation → Bool
 returns_promise definitions o = is_promise (meaning_alone definitions o.returned)
 
 -- whether two operations are overloads, and both return promises or both return none
-abbrev pub are_indistinguishable : List PlainDefinition → PlainOperation → PlainOperation → Bool
-are_indistinguishable definitions o p = are_overloads o p && both_or_none (returns_promise definitions o) (returns_promise definitions p)
+abbrev pub agree_on_promises : List PlainDefinition → PlainOperation → PlainOperation → Bool
+agree_on_promises definitions o p = are_overloads o p && both_or_none (returns_promise definitions o) (returns_promise definitions p)
 
 -- the first of its overloads to return a promise where earlier ones return none, or to return none where earlier ones return promises: at its name
 abbrev pub DiffersInPromise : List PlainDefinition → List PlainMember → PlainMemberKind → Violation → Type 0
-DiffersInPromise definitions before (OperationMember o) s = AtName o.name (λ name. (list_any (are_overloads o) (operations_in before) ≡ true) × (list_any (are_indistinguishable definitions o) (operations_in before) ≡ false)) s
+DiffersInPromise definitions before (OperationMember o) s = AtName o.name (λ name. (list_any (are_overloads o) (operations_in before) ≡ true) × (list_any (agree_on_promises definitions o) (operations_in before) ≡ false)) s
 DiffersInPromise definitions before kind s = ⊥
 
+-- rule 38: of the operations of a name some return a promise and some do not: at the first that differs
 abbrev pub MixesPromises : List PlainDefinition → List PlainMember → PlainMember → Violation → Type 0
 MixesPromises definitions before m s = DiffersInPromise definitions before m.kind s
 
@@ -127,6 +129,6 @@ abbrev pub AtPlace : Option Place → Violation → Type 0
 AtPlace None s = ⊥
 AtPlace (Some place) s = IsAt place s
 
--- an earlier member is a stringifier too: at the word
+-- rule 34: an earlier member is a stringifier too: at the word
 abbrev pub IsSecondStringifier : List PlainMember → PlainMember → Violation → Type 0
 IsSecondStringifier before m s = (has is_stringifier before ≡ true) × AtPlace (stringifier_place m.kind) s

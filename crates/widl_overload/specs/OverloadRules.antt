@@ -72,10 +72,10 @@ pub record AtSmallestLength (P : List TupleTerm → ℕ → Type 0) (sigs : List
   pub smallest : IsLeastNumber (P (effective_tuples sigs 0)) size
   pub at_names : AtOverloads sigs (of_one_length size (effective_tuples sigs 0)) s
 
--- tuples of one length have no distinguishing index
+-- rule 35: tuples of one length have no distinguishing index
 abbrev pub HasIndistinguishableOverloads : Defs → Violation → Type 0
 HasIndistinguishableOverloads defs s = Somewhere (AtSmallestLength (LacksIndex defs.ifaces)) (overload_lists defs) s
 
--- tuples of one length differ before their distinguishing index
+-- rule 36: tuples of one length differ before their distinguishing index
 abbrev pub HasEarlyDifference : Defs → Violation → Type 0
 HasEarlyDifference defs s = Somewhere (AtSmallestLength (DifferEarly defs.ifaces)) (overload_lists defs) s

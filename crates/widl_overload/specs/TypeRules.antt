@@ -42,7 +42,7 @@ abbrev pub is_constant_role : TypeRole → Bool
 is_constant_role role.Constant = true
 is_constant_role other = false
 
--- a constant's type is neither: at the type
+-- rule 17: a constant's type is neither: at the type
 abbrev pub IsOtherConstantType : TypeTerm → TypeUse → Violation → Type 0
 IsOtherConstantType t u s = ((is_constant_role u.role ≡ true) × (is_constant_type t ≡ false)) × IsAt (type_place u.ty) s
 
@@ -52,7 +52,7 @@ takes_value BooleanType (BooleanValue b) = true
 takes_value (IntegerType kind mode) (IntegerValue text) = is_in_range kind (integer_of text)
 takes_value t value = false
 
--- a constant's value is not of its type, or not in its range: at the value
+-- rule 18: a constant's value is not of its type, or not in its range: at the value
 abbrev pub HasOtherValue : List PlainDefinition → Node → Violation → Type 0
 HasOtherValue definitions (MemberNode (ConstantMember c)) s = (takes_value (meaning_alone definitions c.ty) c.value.value ≡ false) × IsAt c.value.at s
 HasOtherValue definitions node s = ⊥
@@ -68,7 +68,7 @@ abbrev pub is_attribute_role : TypeRole → Bool
 is_attribute_role role.Attribute = true
 is_attribute_role other = false
 
--- an attribute's type is such, or a union with one of them among its flattened members, with or without a `?`: at the type
+-- rule 19: an attribute's type is such, or a union with one of them among its flattened members, with or without a `?`: at the type
 abbrev pub IsCopiedAttribute : TypeTerm → TypeUse → Violation → Type 0
 IsCopiedAttribute t u s = ((is_attribute_role u.role ≡ true) × (list_any is_copied (flattened_member t) ≡ true)) × IsAt (type_place u.ty) s
 
@@ -92,7 +92,7 @@ abbrev pub has_question : PlainType → Bool
 has_question (plain_type at form None) = false
 has_question (plain_type at form (Some question)) = true
 
--- such a type stands before a `?`: at the `?`
+-- rule 21: such a type stands before a `?`: at the `?`
 abbrev pub IsWronglyNullable : TypeTerm → TypeUse → Violation → Type 0
 IsWronglyNullable t u s = (is_wrongly_nullable t ≡ true) × AtPlace (question_of u.ty) s
 
@@ -114,11 +114,11 @@ members_of_union t = no_types
 abbrev pub OfUnion : (TypeTerms → Type 0) → TypeTerm → TypeUse → Violation → Type 0
 OfUnion P t u s = ((is_written_union u.ty ≡ true) × P (members_of_union t)) × IsAt (type_place u.ty) s
 
--- more than one of a union's members are nullable
+-- rule 22: more than one of a union's members are nullable
 abbrev pub HaveSeveralNullable : TypeTerms → Type 0
 HaveSeveralNullable ts = 1 < nullable_members ts
 
--- a union includes a nullable type, and has a dictionary among its flattened members
+-- rule 23: a union includes a nullable type, and has a dictionary among its flattened members
 abbrev pub HaveNullableAndDictionary : TypeTerms → Type 0
 HaveNullableAndDictionary ts = (nullable_members ts ≡ 1) × (list_any is_dictionary (flattened_members ts) ≡ true)
 
@@ -133,7 +133,7 @@ pub record HaveIndistinguishablePair (ifaces : List Iface) (types : List TypeTer
   pub other_is : slice_get types second ≡ Some other
   pub indistinguishable : distinguishable ifaces one other ≡ false
 
--- two flattened members of a union aren't distinguishable
+-- rule 24: two flattened members of a union aren't distinguishable
 abbrev pub HaveIndistinguishableMembers : List Iface → TypeTerms → Type 0
 HaveIndistinguishableMembers ifaces ts = HaveIndistinguishablePair ifaces (flattened_members ts)
 
@@ -152,7 +152,7 @@ abbrev pub is_member_role : TypeRole → Bool
 is_member_role role.UnionMember = true
 is_member_role other = false
 
--- a member type of a union is annotated: at its first token, which is the `[` of its extended attributes where it has any
+-- rule 25: a member type of a union is annotated: at its first token, which is the `[` of its extended attributes where it has any
 abbrev pub IsAnnotatedMember : TypeTerm → TypeUse → Violation → Type 0
 IsAnnotatedMember t u s = ((is_member_role u.role ≡ true) × (is_annotated t ≡ true)) × IsAt u.first s
 
@@ -165,7 +165,7 @@ is_argument_or_member_role role.Argument = true
 is_argument_or_member_role role.DictionaryMember = true
 is_argument_or_member_role other = false
 
--- the type of an argument or of a dictionary member is a nullable dictionary: at the type
+-- rule 27: the type of an argument or of a dictionary member is a nullable dictionary: at the type
 abbrev pub IsNullableDictionary : TypeTerm → TypeUse → Violation → Type 0
 IsNullableDictionary t u s = ((is_argument_or_member_role u.role ≡ true) × (is_nullable_dictionary t ≡ true)) × IsAt (type_place u.ty) s
 
@@ -197,6 +197,7 @@ is_misplaced t (Some annotation) = not (applies_to t annotation)
 abbrev pub IsMisplaced : TypeTerm → PlainAttribute → Violation → Type 0
 IsMisplaced t a s = (is_misplaced (without_nullable t) (annotation_of a.name.text) ≡ true) × IsAt a.name.at s
 
+-- rule 28: an annotation does not apply to the type: at the annotation
 abbrev pub HasMisplacedAnnotation : TypeTerm → TypeUse → Violation → Type 0
 HasMisplacedAnnotation t u s = Somewhere (IsMisplaced t) u.attributes s
 
@@ -232,15 +233,16 @@ pub record HasBoth (notes : List Note) (s : Violation) : Type 0 where
   pub enforces : enforce.annotation ≡ EnforceRange
   pub at_later : violation_at (later clamp.at enforce.at) ≡ s
 
+-- rule 29: a type has both annotations: at the later of the two
 abbrev pub HasClampAndEnforceRange : List PlainDefinition → TypeUse → Violation → Type 0
 HasClampAndEnforceRange definitions u s = HasBoth (all_notes definitions u) s
 
--- an attribute of promise type that isn't read only: at its name
+-- rule 37: an attribute of promise type that isn't read only: at its name
 abbrev pub IsWritablePromise : List PlainDefinition → Node → Violation → Type 0
 IsWritablePromise definitions (MemberNode (AttributeMember a)) s = ((a.readonly ≡ false) × (is_promise (meaning_of_annotated definitions [] a.ty) ≡ true)) × IsAt a.name.at s
 IsWritablePromise definitions node s = ⊥
 
--- a stringifier attribute is neither a DOMString nor a USVString: at the word `stringifier`
+-- rule 34: a stringifier attribute is neither a DOMString nor a USVString: at the word `stringifier`
 abbrev pub IsOtherStringifier : List PlainDefinition → Node → Violation → Type 0
 IsOtherStringifier definitions (MemberNode (AttributeMember a)) s = (is_unit_string (meaning_of_annotated definitions [] a.ty) ≡ false) × AtPlace (word_of_attribute a.kind) s
 IsOtherStringifier definitions node s = ⊥
@@ -258,6 +260,6 @@ takes_undefined role.Returned = true
 takes_undefined role.Promised = true
 takes_undefined other = false
 
--- the word `undefined` elsewhere than as a whole return type or the whole type of a promise: at the word
+-- rule 40: the word `undefined` elsewhere than as a whole return type or the whole type of a promise: at the word
 abbrev pub IsUndefinedInside : TypeUse → Violation → Type 0
 IsUndefinedInside u s = ((is_undefined_word u.ty ≡ true) × (not (takes_undefined u.role) || has_question u.ty ≡ true)) × IsAt (type_place u.ty) s

@@ -1,4 +1,4 @@
--- Numbers that are ready for the next id, and the step that gives it.
+-- For proofs alone. Numbers that are ready for the next id, and the step that gives it.
 use Rattle.std.specs.Prelude.{◌≡◌, ◌⊎◌, ℕ, ◌<◌, ◌&&◌, ◌||◌, ◌++◌, Bool, true, false, not, List, [], ◌∷◌, length, nat_eq, nat_lt, slice_index_or, Option, None, Some}
 use Rattle.std.specs.BTreeSet.{contains}
 use Rattle.std.specs.List.{list_any}

@@ -1,4 +1,4 @@
--- The words that begin types.
+-- For proofs alone. The words that begin types.
 use Rattle.std.specs.Prelude.{◌≡◌, Bool, true, false, List}
 use Rattle.widl_idl.specs.declared.int_kind.IntKind.{IntKind}
 use Rattle.widl_idl.specs.declared.int_kind.IntKind.TheVariants as int

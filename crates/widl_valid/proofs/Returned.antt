@@ -9,7 +9,7 @@ use Rattle.widl_idl.specs.MergedMembers.{are_overloads, operation_in, operation_
 use Rattle.widl_idl.specs.MergingRules.{both_or_none, is_static}
 use Rattle.widl_idl.specs.PlainTypes.{PlainName}
 use Rattle.widl_idl.specs.PlainTrees.{PlainDefinition, PlainMember, PlainMemberKind, PlainOperation, OperationMember, member_of}
-use Rattle.widl_overload.specs.MemberRules.{DiffersInPromise, MixesPromises, are_indistinguishable, returns_promise}
+use Rattle.widl_overload.specs.MemberRules.{DiffersInPromise, MixesPromises, agree_on_promises, returns_promise}
 use Rattle.widl_valid.specs.MemberTables.{gives_promise, has_overload, is_overload, listed_members, violation_of_other}
 use Rattle.widl_valid.proofs.Counted.{operations_push}
 use Rattle.widl_valid.proofs.NamedViolations.{any_push, listed_next, members_end, members_step, named_first, no_members, nowhere}
@@ -82,7 +82,7 @@ module _ (known : List ℕ → Bool → Bool → Bool) (definitions : List Plain
   other_first promise (OperationMember o) found p e =
       let own = returns_promise definitions o in
       let all = list_any (are_overloads o) (operations_in before) in
-      let indistinguishable = list_any (are_indistinguishable definitions o) (operations_in before) in
+      let indistinguishable = list_any (agree_on_promises definitions o) (operations_in before) in
       named_first (λ name. (all ≡ true) × (indistinguishable ≡ false)) (λ text. known text (is_static o.kind) (not own) && not (known text (is_static o.kind) own)) o.name found
       (λ n is h. let d = differs all (known n.text (is_static o.kind) own) (known n.text (is_static o.kind) (not own)) (split_known o n own is) h in (d.0, sym (of_name o n own is) ∙ d.1))
       (λ n is h q. differs_not all (known n.text (is_static o.kind) own) (known n.text (is_static o.kind) (not own)) (split_known o n own is) h q.0 (of_name o n own is ∙ q.1))

@@ -1,4 +1,4 @@
--- The violations at which the rules on lists of arguments and on definitions are broken first.
+-- For proofs alone. The violations at which the rules on lists of arguments and on definitions are broken first.
 use Rattle.std.specs.Prelude.{List, None}
 use Rattle.widl_idl.specs.First.{FirstWhere, Somewhere, earlier}
 use Rattle.widl_idl.specs.PlainTrees.{PlainDefinition}

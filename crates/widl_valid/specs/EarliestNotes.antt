@@ -1,4 +1,4 @@
--- The annotations that say what becomes of numbers out of range, and those of typedefs, as the program gathers them.
+-- For proofs alone. The annotations that say what becomes of numbers out of range, and those of typedefs, as the program gathers them.
 use Rattle.std.specs.Prelude.{◌≡◌, ℕ, ◌++◌, List, length, filter, Option, None, Some}
 use Rattle.widl_text.specs.declared.place.Place.{Place}
 use Rattle.widl_idl.specs.declared.kind.Kind.TheVariants as kinds

@@ -1,4 +1,4 @@
--- The kinds of the members of a union that were seen, as tests.
+-- For proofs alone. The kinds of the members of a union that were seen, as tests.
 use Rattle.std.specs.Prelude.{Bool, true, false, ◌||◌}
 use Rattle.widl_overload.specs.declared.category.Category.{Category}
 use Rattle.widl_overload.specs.declared.category.Category.TheVariants.{Never, Undefined, Boolean, Numeric, String, Object, Interface, Function, DictionaryLike, SequenceLike}

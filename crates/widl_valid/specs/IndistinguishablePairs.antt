@@ -1,4 +1,4 @@
--- Pairs of flattened members that aren't distinguishable, by their kinds and by their interfaces.
+-- For proofs alone. Pairs of flattened members that aren't distinguishable, by their kinds and by their interfaces.
 use Rattle.std.specs.Prelude.{ℕ, Bool, true, false, ◌||◌, ◌&&◌, not, List, [], ◌∷◌, ⊤, nat_eq, Option, None, Some}
 use Rattle.std.specs.List.{list_any}
 use Rattle.widl_idl.specs.declared.interface.Iface.{Iface}

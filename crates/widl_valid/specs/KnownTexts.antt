@@ -1,4 +1,4 @@
--- Texts that are known, and items whose text an earlier one has.
+-- For proofs alone. Texts that are known, and items whose text an earlier one has.
 use Rattle.std.specs.Prelude.{◌≡◌, ℕ, Bool, true, List, bytes_eq}
 use Rattle.std.specs.Borrow.{Bor}
 use Rattle.std.specs.List.{list_any}

@@ -1,4 +1,4 @@
--- The spans of interfaces: where each stands in an order in which those that inherit from an interface follow it, and where the last of these stands.
+-- For proofs alone. The spans of interfaces: where each stands in an order in which those that inherit from an interface follow it, and where the last of these stands.
 use Rattle.std.specs.Prelude.{◌≡◌, ◌⊎◌, ℕ, ◌<◌, ◌≤◌, Bool, ◌&&◌, nat_lt, List, length, map, slice_get, ⊤, Option, None, Some, Vec, option_and_then}
 use Rattle.widl_idl.specs.declared.interface.Iface.{Iface}
 use Rattle.widl_overload.specs.Inheritance.{parent_of}

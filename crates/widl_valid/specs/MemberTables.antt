@@ -1,4 +1,4 @@
--- What the rules on the members of one owner keep of the members that stand before.
+-- For proofs alone. What the rules on the members of one owner keep of the members that stand before.
 use Rattle.std.specs.Prelude.{ℕ, Bool, true, false, ◌&&◌, ◌||◌, not, nat_eq, List, map, Option, None, Some, if◌then◌else◌, bytes_eq, unwrap_or}
 use Rattle.std.specs.Borrow.{Bor}
 use Rattle.indexmap.specs.IndexMap.{IndexMap, get_by}

@@ -1,4 +1,4 @@
--- The violations at which the rules are broken first that read a member with what its type means.
+-- For proofs alone. The violations at which the rules are broken first that read a member with what its type means.
 use Rattle.std.specs.Prelude.{List, [], map, None}
 use Rattle.widl_idl.specs.First.{FirstWhere, Somewhere, earlier}
 use Rattle.widl_idl.specs.PlainTrees.{PlainDefinition, PlainKind, PlainMember, InterfaceDefinition, MixinDefinition, NamespaceDefinition}

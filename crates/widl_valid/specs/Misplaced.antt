@@ -1,4 +1,4 @@
--- Annotations that don't apply to a type without its `?`s.
+-- For proofs alone. Annotations that don't apply to a type without its `?`s.
 use Rattle.std.specs.Prelude.{◌≡◌, true}
 use Rattle.widl_idl.specs.declared.violation.Violation.{Violation}
 use Rattle.widl_idl.specs.MergingRules.{IsAt}

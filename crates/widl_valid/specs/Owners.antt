@@ -1,4 +1,4 @@
--- The violations at which the rules on members are broken first, of one owner and of all.
+-- For proofs alone. The violations at which the rules on members are broken first, of one owner and of all.
 use Rattle.std.specs.Prelude.{◌≡◌, ℕ, Bool, true, false, ◌&&◌, List, length, Option, None, Some}
 use Rattle.widl_idl.specs.declared.kind.Kind.{Kind}
 use Rattle.widl_idl.specs.declared.violation.Violation.{Violation}

@@ -1,4 +1,4 @@
--- Which annotations stand on chains of typedefs, and where these end, as the program keeps it.
+-- For proofs alone. Which annotations stand on chains of typedefs, and where these end, as the program keeps it.
 use Rattle.std.specs.Prelude.{◌≡◌, ℕ, ◌+◌, ◌-◌, ◌<◌, List, [], ◌++◌, length, Option, None, Some, slice_get}
 use Rattle.widl_idl.specs.PlainTrees.{PlainDefinition}
 use Rattle.widl_idl.specs.PlainTypes.{PlainAnnotated, PlainForm, form_term}

@@ -1,4 +1,4 @@
--- The rules that read a type by itself, and what is sought among the types that a type is flattened to.
+-- For proofs alone. The rules that read a type by itself, and what is sought among the types that a type is flattened to.
 use Rattle.std.specs.Prelude.{Bool}
 use Rattle.widl_idl.specs.declared.violation.Violation.{Violation}
 use Rattle.widl_idl.specs.Terms.{TypeTerm}

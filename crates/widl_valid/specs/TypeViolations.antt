@@ -1,4 +1,4 @@
--- The violations at which the rules on types are broken first, of some types and of all.
+-- For proofs alone. The violations at which the rules on types are broken first, of some types and of all.
 use Rattle.std.specs.Prelude.{List, None}
 use Rattle.widl_idl.specs.declared.interface.Iface.{Iface}
 use Rattle.widl_idl.specs.declared.violation.Violation.{Violation}

@@ -1,4 +1,4 @@
--- The types that are written in a set of files, and what they mean, as the program lists them.
+-- For proofs alone. The types that are written in a set of files, and what they mean, as the program lists them.
 use Rattle.std.specs.Prelude.{◌≡◌, List, ◌++◌, map}
 use Rattle.widl_idl.specs.PlainTrees.{PlainDefinition}
 use Rattle.widl_idl.specs.PlainTypes.{attribute_of, type_of}

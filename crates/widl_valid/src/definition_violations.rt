@@ -9,7 +9,8 @@ ghost use Rattle.widl_valid.specs.DefinitionViolations.{AreDefinitionViolations,
 
 use crate::argument_lists::list_arguments;
 use crate::argument_rules::{
-    first_after_ellipsis, first_argument_past_limit, first_repeated_argument, first_required_after_optional,
+    first_after_ellipsis, first_argument_past_limit, first_repeated_argument,
+    first_required_after_optional,
 };
 use crate::definition_rules::{
     first_annotation_of_no_type, first_misformed_operation, first_nameless_operation,
