@@ -1,10 +1,17 @@
-//! The definitions and types of Web IDL, as plain data: what a set of files declares once its
-//! partials and mixins are put together and its types are resolved. It stands on `widl_text`. Each
-//! list in it is an [`Items`], which contracts see as a list, but for [`IdlTypes`]; a type holds
-//! itself in boxes, and contracts speak of its term without them. The contracts that the crates above
-//! use most: [`flattened`] gives the flattened member types of a union, [`same_type`] tells whether
-//! two terms are equal, [`Merged`] holds a set of files with its merged list, and [`earlier_violation`] and
-//! [`joined`] choose the first violation and the first refusal.
+//! The definitions and types of Web IDL as plain data: what a set of files declares once its partials and
+//! mixins are put together and its types are resolved (`src/*.rt`), the syntax trees of files ([`tree`]), and
+//! what the rules of the profile and of merging say (`specs/Profile.antt`, `specs/MergingRules.antt`). It
+//! stands on `widl_text` and, for one definition, on `widl_graph`. Each list in it is a
+//! [`widl_text::Items`], which contracts see as a list, but for [`IdlTypes`]; a type holds itself in boxes,
+//! and contracts speak of its term without them. The contracts that the crates above use most: [`flattened`]
+//! gives the flattened member types of a union, [`same_type`] tells whether two terms are equal, [`Merged`]
+//! holds a set of files with its merged list, and [`earlier_violation`] and [`joined`] choose the first
+//! violation and the first refusal.
+//!
+//! Short names: an [`Iface`] is an interface, a [`Space`] a namespace, a [`Dict`] a dictionary, a [`Choice`]
+//! an enumeration, an [`OpName`] the operations of one name, a [`Sig`] one overload's signature, an [`Arg`] an
+//! argument, an [`Attr`] an attribute; `ctors` are constructors, `fixed` means static, a [`Slot`] is a member
+//! in its place among all members, a [`Callee`] is what can be called.
 #![tactic(auto)]
 
 mod argument;

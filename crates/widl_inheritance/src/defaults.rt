@@ -40,7 +40,7 @@ pub fn first_other_default<'a>(
     first_other(alloc, &tables, resolver, steps, defaults.as_slice())
 }
 
-// The first place of one of these default values that doesn't fit its type.
+/// The first place of one of these default values that doesn't fit its type.
 fn first_other<'a>(
     alloc: Global,
     tables: &Tables<'_>,
@@ -58,8 +58,8 @@ fn first_other<'a>(
     Ok(best)
 }
 
-// The place of a default value, if it doesn't fit its type. Most fit as they are written, and resolving a
-// type is slow.
+/// The place of a default value, if it doesn't fit its type. Most fit as they are written, and resolving a
+/// type is slow.
 fn other_default<'a>(
     alloc: Global,
     tables: &Tables<'_>,

@@ -46,7 +46,7 @@ pub fn first_without_empty_default<'a>(
     first_lacking(alloc, &tables, resolver, steps, lists.as_slice())
 }
 
-// The first place of such a name in these lists of arguments.
+/// The first place of such a name in these lists of arguments.
 fn first_lacking<'a>(
     alloc: Global,
     tables: &Tables<'_>,
@@ -64,7 +64,7 @@ fn first_lacking<'a>(
     Ok(best)
 }
 
-// The same in one list.
+/// The same in one list.
 fn lacking_in<'a>(
     alloc: Global,
     tables: &Tables<'_>,
@@ -86,8 +86,8 @@ fn lacking_in<'a>(
     Ok(best)
 }
 
-// The place of an argument's name, if it takes such a dictionary and needs a default value. Most
-// arguments are of types that take none as they are written, and resolving a type is slow.
+/// The place of an argument's name, if it takes such a dictionary and needs a default value. Most
+/// arguments are of types that take none as they are written, and resolving a type is slow.
 fn lacking<'a>(
     alloc: Global,
     tables: &Tables<'_>,
@@ -112,8 +112,8 @@ fn lacking<'a>(
     }
 }
 
-// Whether an argument has no default value where one of a dictionary type needs it. `absent` tells whether
-// a call may leave out all that follow.
+/// Whether an argument has no default value where one of a dictionary type needs it. `absent` tells whether
+/// a call may leave out all that follow.
 fn needs_default(absent: bool, kind: &ArgumentKind) -> bool
     ensures { result ≡ needs_default absent (argument_kind_of kind.now) }
 {
@@ -133,8 +133,8 @@ fn is_required(kind: &ArgumentKind) -> bool
     }
 }
 
-// Whether a type may be a dictionary, or a union with one, by the way in which it is written: as a name
-// or as a union, without a `?`.
+/// Whether a type may be a dictionary, or a union with one, by the way in which it is written: as a name
+/// or as a union, without a `?`.
 fn may_take_dictionary(ty: &WrittenType) -> bool
     ensures { result ≡ may_take_dictionary (type_of ty.now) }
 {
@@ -165,8 +165,8 @@ fn is_name_or_union(form: &TypeForm) -> bool
     }
 }
 
-// Whether a type is a dictionary without required members, or a union with one among its flattened
-// members: then the empty dictionary is a value of it.
+/// Whether a type is a dictionary without required members, or a union with one among its flattened
+/// members: then the empty dictionary is a value of it.
 fn takes_no_member(tables: &Tables<'_>, t: &IdlType) -> bool
     ensures { result ≡ takes_no_member tables.now (type_term t.now) }
 {

@@ -46,7 +46,7 @@ pub fn find_iterables<'a>(
     find_in_interfaces(alloc, meanings, parts, &own, &inherited)
 }
 
-// The first places in all interfaces, where the flags tell what each has and inherits.
+/// The first places in all interfaces, where the flags tell what each has and inherits.
 fn find_in_interfaces<'a>(
     alloc: Global,
     meanings: &Meanings<'_, 'a>,
@@ -70,8 +70,8 @@ fn find_in_interfaces<'a>(
     Ok(best)
 }
 
-// The first places in the interface of this number. Few interfaces have an iterable, so the members of
-// the others aren't listed again.
+/// The first places in the interface of this number. Few interfaces have an iterable, so the members of
+/// the others aren't listed again.
 fn find_in_interface<'a>(
     alloc: Global,
     meanings: &Meanings<'_, 'a>,
@@ -100,7 +100,7 @@ fn find_in_interface<'a>(
     })
 }
 
-// Of each rule the earlier violation.
+/// Of each rule the earlier violation.
 fn earlier_violations(best: IterableViolations, found: IterableViolations) -> IterableViolations
     ensures second { result.second ≡ earlier best.second found.second }
     ensures hidden { result.hidden ≡ earlier best.hidden found.hidden }

@@ -68,7 +68,7 @@ fn either(a: bool, b: bool) -> bool
     a || b
 }
 
-// Where the word `iterable` of an iterable stands.
+/// Where the word `iterable` of an iterable stands.
 fn iterable_place(kind: &MemberKind) -> Option<Place>
     ensures { result ≡ iterable_place (member_kind_of kind.now) }
 {
@@ -87,7 +87,7 @@ fn is_iterable(kind: &MemberKind) -> bool
     }
 }
 
-// The violation at a place, where there is one and the test holds.
+/// The violation at a place, where there is one and the test holds.
 fn violation_if(holds: bool, place: Option<Place>) -> Option<Violation>
     ensures { result ≡ violation_if holds place }
 {
@@ -101,7 +101,7 @@ fn violation_if(holds: bool, place: Option<Place>) -> Option<Violation>
     }
 }
 
-// Whether a member is named as a method that an iterable brings.
+/// Whether a member is named as a method that an iterable brings.
 fn is_iteration_name(kind: &MemberKind) -> bool
     ensures { result ≡ is_iteration_name (identifier (member_kind_of kind.now)) }
 {
@@ -117,7 +117,7 @@ fn is_iteration_method(text: &str) -> bool
     text == "entries" || text == "forEach" || text == "keys" || text == "values"
 }
 
-// The name of a constant, an attribute or an operation.
+/// The name of a constant, an attribute or an operation.
 fn identifier(kind: &MemberKind) -> Option<&Name>
     ensures { option_map (λ name. name_of name.now) result ≡ identifier (member_kind_of kind.now) }
 {

@@ -37,7 +37,7 @@ pub fn first_repeated_member(alloc: Global, dicts: &[Dict]) -> Result<Option<Vio
     first_in_order(alloc, dicts, &spans)
 }
 
-// The numbers of the dictionaries from which these inherit directly.
+/// The numbers of the dictionaries from which these inherit directly.
 fn parents_of(alloc: Global, dicts: &[Dict]) -> Result<Vec<Option<usize>>, AllocError>
     ensures { IfOk result (λ parents. parents.items ≡ map (λ (d : DictTerm). d.parent) (map dict_term dicts.now)) }
 {
@@ -57,7 +57,7 @@ fn parent_of(dict: &Dict) -> Option<usize>
     }
 }
 
-// The first place, where each dictionary has a span.
+/// The first place, where each dictionary has a span.
 fn first_in_order(
     alloc: Global,
     dicts: &[Dict],
@@ -76,7 +76,7 @@ fn first_in_order(
     Ok(best)
 }
 
-// Visits a dictionary: the first place of a member whose name is not new. The names are kept.
+/// Visits a dictionary: the first place of a member whose name is not new. The names are kept.
 fn visit<'a>(
     ends: &mut IndexMap<&'a [u16], usize>,
     dicts: &'a [Dict],
@@ -96,7 +96,7 @@ fn visit<'a>(
     }
 }
 
-// Keeps the names of a dictionary's own members: the first place of one that is not new.
+/// Keeps the names of a dictionary's own members: the first place of one that is not new.
 fn keep_members<'a>(
     ends: &mut IndexMap<&'a [u16], usize>,
     members: &'a [Member],
@@ -114,7 +114,7 @@ fn keep_members<'a>(
     Ok(best)
 }
 
-// Keeps the name of a member: its place, if the name is not new.
+/// Keeps the name of a member: its place, if the name is not new.
 fn keep_member<'a>(
     ends: &mut IndexMap<&'a [u16], usize>,
     member: &'a Member,
@@ -133,7 +133,7 @@ fn keep_member<'a>(
     })
 }
 
-// The place that is kept for a name, or 0.
+/// The place that is kept for a name, or 0.
 fn end_of(ends: &IndexMap<&[u16], usize>, name: &[u16]) -> usize
     ensures { result ≡ end_of ends.now name.now }
 {

@@ -45,7 +45,7 @@ pub fn merge_definitions(
     Ok(defs)
 }
 
-// The empty list.
+/// The empty list.
 fn no_definitions(alloc: Global) -> Defs
     ensures { (all : List PlainDefinition) → AreListed all [] result }
 {
@@ -59,7 +59,7 @@ fn no_definitions(alloc: Global) -> Defs
     }
 }
 
-// Adds the definition of this number to the list of its kind, if it is a main one.
+/// Adds the definition of this number to the list of its kind, if it is a main one.
 fn add_definition<'a>(
     alloc: Global,
     sources: &Sources<'_, '_, 'a>,

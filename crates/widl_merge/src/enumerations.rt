@@ -28,7 +28,7 @@ pub fn enumeration_meant(alloc: Global, enumeration: &Enumeration) -> Result<Cho
     })
 }
 
-// The texts of values.
+/// The texts of values.
 fn texts_of(alloc: Global, values: &[EnumerationValue]) -> Result<Texts, AllocError>
     ensures texts { IfOk result (λ texts. texts ≡ texts_of values.now) }
     ensures numbered { IfOk result (λ texts. length texts < 4294967296) }

@@ -1,8 +1,8 @@
 //! Merging: the rules of the profile and of merging over the trees of a set of files, and the list of
-//! definitions that the files declare. It stands on the trees, the predicates and the violations of `widl_idl`,
-//! on the walk of `widl_graph`, and on the names of `widl_names`. The contracts that are used above:
-//! [`merge`] answers the merged list of files that break none of these rules, or exactly the least
-//! refusal; [`find_refusal`] answers that refusal alone.
+//! definitions that the files declare. It stands on the trees, the predicates and the violations of
+//! `widl_idl`, on the walk of `widl_graph`, and on the names of `widl_names`. The contract that is used above:
+//! [`merge`] answers the merged list of files that break none of these rules, or exactly the first
+//! refusal.
 #![tactic(auto)]
 
 mod callbacks;
@@ -34,4 +34,3 @@ mod sums;
 mod typedefs;
 
 pub use merged_set::{MergeFault, merge};
-pub use refusals::find_refusal;

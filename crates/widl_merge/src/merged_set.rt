@@ -58,7 +58,7 @@ pub fn merge(alloc: Global, fragments: Fragments) -> Result<Merged, MergeFault>
     Ok(Merged::new(defs, fragments))
 }
 
-// The merged list alone.
+/// The merged list alone.
 fn merge_files(alloc: Global, fragments: &[Fragment]) -> Result<Defs, MergeFault>
     ensures merged { IfOk result (λ defs. AreMerged (definitions_of fragments.now) defs) }
     ensures refused { (refusal : RefusalType) → IsErrOf result (MergeFault.Refused refusal) → IsRefusal (definitions_of fragments.now) (Some refusal) }
@@ -68,7 +68,7 @@ fn merge_files(alloc: Global, fragments: &[Fragment]) -> Result<Defs, MergeFault
     merge_listed(alloc, &definitions, &nodes, steps_of(fragments))
 }
 
-// The same, where the definitions and everything that is written in them are listed.
+/// The same, where the definitions and everything that is written in them are listed.
 fn merge_listed(
     alloc: Global,
     definitions: &[&Definition],
@@ -86,7 +86,7 @@ fn merge_listed(
     }
 }
 
-// The merged list of definitions that break no rule.
+/// The merged list of definitions that break no rule.
 fn merge_unbroken(
     alloc: Global,
     definitions: &[&Definition],

@@ -49,7 +49,7 @@ pub fn first_unmerged(
     Ok(join_names(&meanings, violations, best))
 }
 
-// The rules on the parts of definitions.
+/// The rules on the parts of definitions.
 fn join_members(alloc: Global, meanings: &Meanings<'_, '_>) -> Result<Option<Refusal>, AllocError>
     ensures { IfOk result (λ best. FirstBroken merging_number (BreaksMerging (plain_definitions meanings.now)) (rule.OperationInTwoParts ∷ rule.TooManyMembers ∷ []) best) }
 {
@@ -60,7 +60,7 @@ fn join_members(alloc: Global, meanings: &Meanings<'_, '_>) -> Result<Option<Ref
     Ok(joined(MergingRule::OperationInTwoParts.number(), found, best))
 }
 
-// The rules on what definitions lead to: their parents, and typedefs.
+/// The rules on what definitions lead to: their parents, and typedefs.
 fn join_links(
     alloc: Global,
     meanings: &Meanings<'_, '_>,
@@ -79,7 +79,7 @@ fn join_links(
     Ok(joined(MergingRule::InheritsFromItself.number(), found, best))
 }
 
-// The rules on names and what they mean.
+/// The rules on names and what they mean.
 fn join_names(
     meanings: &Meanings<'_, '_>,
     violations: NodeViolations,

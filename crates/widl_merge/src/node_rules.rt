@@ -49,7 +49,7 @@ pub fn first_in_nodes(
     best
 }
 
-// The violations at which one node breaks the rules.
+/// The violations at which one node breaks the rules.
 fn violations_of(
     meanings: &Meanings<'_, '_>,
     depths: &[Option<usize>],
@@ -66,7 +66,7 @@ fn violations_of(
     }
 }
 
-// Of what was found so far and of what was found now, the earlier violation for each rule.
+/// Of what was found so far and of what was found now, the earlier violation for each rule.
 fn earlier_violations(best: NodeViolations, found: NodeViolations) -> NodeViolations
     ensures reserved { result.reserved ≡ earlier best.reserved found.reserved }
     ensures unknown { result.unknown ≡ earlier best.unknown found.unknown }

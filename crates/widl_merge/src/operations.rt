@@ -16,12 +16,12 @@ use widl_idl::tree::{DefinitionKind, Member, MemberKind, Operation, OperationKin
 use widl_idl::{Kind, Violation, earlier_violation};
 use widl_names::{Meanings, Parts, kind_of, main_name, means_number, members_in};
 
-// The names of operations.
+/// The names of operations.
 #[derive(Drop)]
 struct OperationNames<'a> {
-    // Those of operations that aren't static.
+    /// Those of operations that aren't static.
     regular: IndexSet<&'a str>,
-    // Those of static operations.
+    /// Those of static operations.
     fixed: IndexSet<&'a str>,
 }
 
@@ -47,7 +47,7 @@ pub fn first_in_two_parts(
     Ok(best)
 }
 
-// The same in the parts of the definition of this number, if its name means it.
+/// The same in the parts of the definition of this number, if its name means it.
 fn first_of_owner(
     alloc: Global,
     meanings: &Meanings,
@@ -67,7 +67,7 @@ fn first_of_owner(
     }
 }
 
-// Whether a definition of this number is an interface, a mixin or a namespace that its name means.
+/// Whether a definition of this number is an interface, a mixin or a namespace that its name means.
 fn is_owner(meanings: &Meanings, number: usize, kind: &DefinitionKind) -> bool
     ensures { result ≡ is_owner (plain_definitions meanings.now) number (definition_kind_of kind.now) }
 {
@@ -92,7 +92,7 @@ fn has_parts(kind: Kind) -> bool
     }
 }
 
-// The first place of the name of an operation that an earlier one of the parts has too.
+/// The first place of the name of an operation that an earlier one of the parts has too.
 fn first_repeated(alloc: Global, parts: &[&DefinitionKind]) -> Result<Option<Violation>, AllocError>
     ensures { IfOk result (λ found. FirstWhere (AtOne RepeatsOperation (listed_parts parts.now)) found) }
 {
@@ -136,7 +136,7 @@ impl<'a> OperationNames<'a> {
         }
     }
 
-    // The first place of the name of an operation among these members that is known.
+    /// The first place of the name of an operation among these members that is known.
     fn first_known(&self, members: &[Member]) -> Option<Violation>
         ensures { FirstWhere (Somewhere (IsKnown (has_name self.now.regular self.now.fixed)) (members_of members.now)) result }
     {
@@ -168,7 +168,7 @@ impl<'a> OperationNames<'a> {
         }
     }
 
-    // Adds the names of the operations among these members.
+    /// Adds the names of the operations among these members.
     fn add_all(&mut self, members: &'a [Member]) -> Result<(), AllocError>
         ensures { OnOk result ((text : List ℕ) (static : Bool) → has_name self.new.regular self.new.fixed text static ≡ (has_name self.old.regular self.old.fixed text static || list_any (λ m. is_operation_of text static m.kind) (members_of members.now))) }
     {
@@ -207,7 +207,7 @@ pub fn is_static(kind: OperationKind) -> bool
     }
 }
 
-// Adds a text to a set.
+/// Adds a text to a set.
 fn add_text<'a>(texts: &mut IndexSet<&'a str>, text: &'a str) -> Result<(), AllocError>
     ensures { OnOk result ((other : List ℕ) → has_text texts.new other ≡ (has_text texts.old other || bytes_eq text.now other)) }
 {

@@ -52,7 +52,7 @@ pub fn first_past_limit(alloc: Global, meanings: &Meanings) -> Result<Option<Vio
     Ok(best)
 }
 
-// The violation of a portion with which the sum passes the limit.
+/// The violation of a portion with which the sum passes the limit.
 fn passed(sum: u32, portion: Option<Portion>) -> Option<Violation>
     ensures { result ≡ option_and_then (λ p. if nat_lt sum 1000001 && nat_lt 1000000 (capped (sum + p.size)) then Some (violation_at p.at) else None) portion }
 {
@@ -64,7 +64,7 @@ fn passed(sum: u32, portion: Option<Portion>) -> Option<Violation>
     }
 }
 
-// The sum with a portion, if there is one.
+/// The sum with a portion, if there is one.
 fn summed(sum: u32, portion: Option<Portion>) -> u32
     ensures { result ≡ option_map_or (λ p. capped (sum + p.size)) portion sum }
 {
@@ -74,21 +74,21 @@ fn summed(sum: u32, portion: Option<Portion>) -> u32
     }
 }
 
-// The sum of two numbers.
+/// The sum of two numbers.
 fn plus(sum: u32, size: u32) -> u32
     ensures { result ≡ capped (sum + size) }
 {
     sum.saturating_add(size).min(MOST_MEMBERS + 1)
 }
 
-// How many members there are.
+/// How many members there are.
 fn count(members: &[Member]) -> u32
     ensures { result ≡ capped (length (members_of members.now)) }
 {
     members.len().min(MOST_MEMBERS as usize + 1) as u32
 }
 
-// What a definition adds to the sum.
+/// What a definition adds to the sum.
 fn portion_of(
     meanings: &Meanings,
     added: &IndexMap<&str, u32>,
@@ -122,7 +122,7 @@ fn portion_of(
     }
 }
 
-// What a part of an interface or a namespace adds.
+/// What a part of an interface or a namespace adds.
 fn part_portion(
     meanings: &Meanings,
     number: usize,
@@ -142,7 +142,7 @@ fn part_portion(
     }
 }
 
-// Whether the definition of this number is the one that its name means, or a partial one of it.
+/// Whether the definition of this number is the one that its name means, or a partial one of it.
 fn takes_part(meanings: &Meanings, number: usize, kind: &DefinitionKind, text: &str) -> bool
     ensures { result ≡ takes_part (plain_definitions meanings.now) number (definition_kind_of kind.now) text.now }
 {
@@ -153,7 +153,7 @@ fn takes_part(meanings: &Meanings, number: usize, kind: &DefinitionKind, text: &
     }
 }
 
-// What an includes statement adds.
+/// What an includes statement adds.
 fn includes_portion(
     meanings: &Meanings,
     added: &IndexMap<&str, u32>,
@@ -173,7 +173,7 @@ fn includes_portion(
     }
 }
 
-// One and the number of the members of the mixin that a name means.
+/// One and the number of the members of the mixin that a name means.
 fn mixin_size(meanings: &Meanings, added: &IndexMap<&str, u32>, text: &str) -> Option<u32>
     requires { KeepsAdded added.now (plain_definitions meanings.now) }
     ensures { result ≡ (if is_kind kinds.Mixin (meant_kind (plain_definitions meanings.now) text.now) then Some (capped (1 + member_total (own_parts is_mixin (plain_definitions meanings.now) text.now))) else None) }
@@ -187,14 +187,14 @@ fn mixin_size(meanings: &Meanings, added: &IndexMap<&str, u32>, text: &str) -> O
     }
 }
 
-// The number of members that is kept for a text.
+/// The number of members that is kept for a text.
 fn added_for(added: &IndexMap<&str, u32>, text: &str) -> u32
     ensures { result ≡ added_in added.now text.now }
 {
     added.get(text).copied().unwrap_or(0)
 }
 
-// The number of the members of the partial mixins of each name.
+/// The number of the members of the partial mixins of each name.
 fn added_members<'a>(
     alloc: Global,
     definitions: &[&'a Definition],
@@ -208,7 +208,7 @@ fn added_members<'a>(
     Ok(added)
 }
 
-// Adds the members of a definition, if it is a partial mixin.
+/// Adds the members of a definition, if it is a partial mixin.
 fn add_part<'a>(
     added: &mut IndexMap<&'a str, u32>,
     kind: &'a DefinitionKind,

@@ -48,7 +48,7 @@ impl<'a> ChainEnd<'a> {
         }
     }
 
-    // The end of the chain that begins with a type which names the typedef whose chain ends here.
+    /// The end of the chain that begins with a type which names the typedef whose chain ends here.
     fn after(&self, ty: &'a AnnotatedType) -> ChainEnd<'a>
         requires { CanGrow self.now }
         ensures { (definitions : List PlainDefinition) → IsEndOf definitions (typedef_of_form definitions (form_term ty.now.ty.form)) self.now → EndsAt definitions (annotated_of ty.now) result }
@@ -62,7 +62,7 @@ impl<'a> ChainEnd<'a> {
         }
     }
 
-    // Whether the chain may be one typedef longer.
+    /// Whether the chain may be one typedef longer.
     fn can_grow(&self) -> bool
         ensures { IsTrue result ↔ CanGrow self.now }
     {
@@ -90,7 +90,7 @@ pub fn typedef_ends<'a>(
     Ok(ends)
 }
 
-// The end of the chain of a definition, if it is a typedef, where those of others are kept.
+/// The end of the chain of a definition, if it is a typedef, where those of others are kept.
 fn end_of<'a>(
     meanings: &Meanings<'_, 'a>,
     ends: &[Option<ChainEnd<'a>>],
@@ -105,7 +105,7 @@ fn end_of<'a>(
     }
 }
 
-// The end of the chain that begins with a type.
+/// The end of the chain that begins with a type.
 fn chain_end<'a>(
     meanings: &Meanings<'_, 'a>,
     ends: &[Option<ChainEnd<'a>>],
@@ -124,7 +124,7 @@ fn chain_end<'a>(
     }
 }
 
-// The end of the chain of the typedef that a form names, if it is kept.
+/// The end of the chain of the typedef that a form names, if it is kept.
 fn end_named<'a>(
     meanings: &Meanings<'_, 'a>,
     ends: &[Option<ChainEnd<'a>>],
@@ -149,7 +149,7 @@ pub fn kept_end<'a>(ends: &[Option<ChainEnd<'a>>], number: usize) -> Option<Chai
     }
 }
 
-// Keeps an end under the number, if there is a place for it.
+/// Keeps an end under the number, if there is a place for it.
 fn keep_end<'a>(ends: &mut Vec<Option<ChainEnd<'a>>>, number: usize, end: Option<ChainEnd<'a>>)
     ensures { (definitions : List PlainDefinition) → AreEnds definitions ends.old.items → IfSome end.entry (IsEndOf definitions (typedef_at definitions number)) → AreEnds definitions ends.new.items }
 {

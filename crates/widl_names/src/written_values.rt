@@ -65,7 +65,7 @@ pub fn integer_of(token: &[u8]) -> i128
     }
 }
 
-// The negative of a number, or the least number of 128 bits.
+/// The negative of a number, or the least number of 128 bits.
 fn clamped_negative(magnitude: u128) -> i128
     ensures { result ≡ neg_ℤ (pos (min magnitude (2 ^ 127))) }
 {
@@ -75,15 +75,15 @@ fn clamped_negative(magnitude: u128) -> i128
     }
 }
 
-// A number, or the greatest one of 128 bits.
+/// A number, or the greatest one of 128 bits.
 fn clamped_positive(magnitude: u128) -> i128
     ensures { result ≡ pos (min magnitude (2 ^ 127 - 1)) }
 {
     i128::try_from(magnitude).unwrap_or(i128::MAX)
 }
 
-// The value of an integer token without its sign. The digits of a token may be as many as a file has
-// bytes, so this and what it calls stop at the greatest `u128`.
+/// The value of an integer token without its sign. The digits of a token may be as many as a file has
+/// bytes, so this and what it calls stop at the greatest `u128`.
 fn magnitude(token: &[u8]) -> u128
     ensures { result ≡ saturated (magnitude token.now) }
 {
@@ -93,7 +93,7 @@ fn magnitude(token: &[u8]) -> u128
     }
 }
 
-// What follows a leading zero: an `x` and hexadecimal digits, or octal digits.
+/// What follows a leading zero: an `x` and hexadecimal digits, or octal digits.
 fn after_zero(more: &[u8]) -> u128
     ensures { result ≡ saturated (after_zero more.now) }
 {
@@ -103,7 +103,7 @@ fn after_zero(more: &[u8]) -> u128
     }
 }
 
-// The number that digits write.
+/// The number that digits write.
 fn digits_value(radix: u8, digits: &[u8]) -> u128
     requires { 1 ≤ radix }
     ensures { result ≡ saturated (digits_value radix digits.now) }
@@ -117,7 +117,7 @@ fn digits_value(radix: u8, digits: &[u8]) -> u128
     value
 }
 
-// The value of a digit, where letters go on from 10; 36 for any other byte, which no token has there.
+/// The value of a digit, where letters go on from 10; 36 for any other byte, which no token has there.
 fn digit_value(digit: u8) -> u8
     ensures { result ≡ digit_value digit }
 {

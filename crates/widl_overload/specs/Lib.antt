@@ -2,6 +2,7 @@ pub mod Inheritance
 pub mod Distinct
 pub mod Pairs
 pub mod Sets
+pub mod Served
 pub mod Index
 pub mod Construction
 pub mod TypeUses

@@ -3,9 +3,8 @@
 
 ghost use Rattle.std.specs.Prelude.{◌≡◌, IfOk, [], ◌∷◌};
 ghost use Rattle.widl_idl.specs.Counts.{IsNumbered, IsNumberedList, NumberedInterface, NumberedNamespace, NumberedOp};
-ghost use Rattle.widl_idl.specs.First.{FirstWhere};
 ghost use Rattle.widl_overload.specs.OverloadLists.{lists_of_interface, lists_of_interfaces, lists_of_namespaces};
-ghost use Rattle.widl_overload.specs.OverloadRules.{HasIndistinguishableOverloads, HasEarlyDifference, operation_lists, overload_lists};
+ghost use Rattle.widl_overload.specs.OverloadRules.{operation_lists, overload_lists};
 ghost use Rattle.widl_overload.specs.OverloadViolations.{AreViolationsAt, AreViolationsIn};
 ghost use Rattle.widl_overload.specs.Sets.{AreNumbered};
 
@@ -15,38 +14,6 @@ use crate::overload_violations::OverloadViolations;
 use crate::sets::{longest_list, set_of};
 use std::alloc::{AllocError, Global};
 use widl_idl::{Defs, Iface, OpName, Sig, Space, Violation};
-
-/// The first place, with its other place, at which overloads aren't distinguishable: several of them
-/// have tuples of one length, and there is no argument by which to tell which of them is called (Web
-/// IDL, "Overloading").
-///
-/// # Errors
-///
-/// `AllocError` where there is no memory.
-pub fn first_indistinguishable_overloads(
-    alloc: Global,
-    defs: &Defs,
-) -> Result<Option<Violation>, AllocError>
-    requires { IsNumberedList defs.now }
-    ensures { IfOk result (λ found. FirstWhere (HasIndistinguishableOverloads defs.now) found) }
-{
-    let violations = first_overload_violations(alloc, defs)?;
-    Ok(violations.indistinguishable)
-}
-
-/// The first place, with its other place, at which overloads differ before the argument by which they
-/// are distinguished (Web IDL, "Overloading").
-///
-/// # Errors
-///
-/// `AllocError` where there is no memory.
-pub fn first_early_difference(alloc: Global, defs: &Defs) -> Result<Option<Violation>, AllocError>
-    requires { IsNumberedList defs.now }
-    ensures { IfOk result (λ found. FirstWhere (HasEarlyDifference defs.now) found) }
-{
-    let violations = first_overload_violations(alloc, defs)?;
-    Ok(violations.early)
-}
 
 /// The first violations by both rules, in one walk over all that can be called.
 ///

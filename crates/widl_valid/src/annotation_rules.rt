@@ -14,7 +14,7 @@ use widl_idl::tree::ExtendedAttribute;
 use widl_idl::{IdlType, Mode, TextKind, Violation, earlier_violation};
 use widl_overload::TypeRole;
 
-// The place of a union's member type that is annotated, also by a typedef.
+/// The place of a union's member type that is annotated, also by a typedef.
 pub fn annotated_member(ty: &ResolvedUse<'_>) -> Option<Violation>
     ensures { FirstWhere (IsAnnotatedMember (resolved_use ty.now).meaning (resolved_use ty.now).written) result }
 {
@@ -31,7 +31,7 @@ fn is_member_role(role: TypeRole) -> bool
     matches!(role, TypeRole::UnionMember)
 }
 
-// Whether a type, with or without a `?`, is annotated.
+/// Whether a type, with or without a `?`, is annotated.
 fn is_annotated(t: &IdlType) -> bool
     ensures { result ≡ is_annotated (type_term t.now) }
 {
@@ -43,7 +43,7 @@ fn is_annotated(t: &IdlType) -> bool
     }
 }
 
-// The first place of an annotation's name that doesn't apply to the type after it.
+/// The first place of an annotation's name that doesn't apply to the type after it.
 pub fn misplaced_annotation(ty: &ResolvedUse<'_>) -> Option<Violation>
     ensures { FirstWhere (HasMisplacedAnnotation (resolved_use ty.now).meaning (resolved_use ty.now).written) result }
 {
@@ -53,7 +53,7 @@ pub fn misplaced_annotation(ty: &ResolvedUse<'_>) -> Option<Violation>
     earlier_violation(outer, own)
 }
 
-// The type without its `?`s.
+/// The type without its `?`s.
 fn without_nullable<'t>(t: &'t IdlType) -> &'t IdlType
     ensures { type_term result.now ≡ without_nullable (type_term t.now) }
 {
@@ -63,8 +63,8 @@ fn without_nullable<'t>(t: &'t IdlType) -> &'t IdlType
     }
 }
 
-// The first place among these extended attributes of an annotation that doesn't apply to a type without
-// its `?`s.
+/// The first place among these extended attributes of an annotation that doesn't apply to a type without
+/// its `?`s.
 fn first_misplaced(inner: &IdlType, attributes: &[ExtendedAttribute]) -> Option<Violation>
     ensures { FirstWhere (Somewhere (IsMisplacedOn (type_term inner.now)) (map attribute_of attributes.now)) result }
 {
@@ -86,7 +86,7 @@ fn misplaced(inner: &IdlType, attribute: &ExtendedAttribute) -> Option<Violation
     }
 }
 
-// Whether the extended attribute of this name is an annotation that doesn't apply to a type.
+/// Whether the extended attribute of this name is an annotation that doesn't apply to a type.
 fn is_misplaced(t: &IdlType, name: &str) -> bool
     ensures { result ≡ is_misplaced (type_term t.now) (annotation_of name.now) }
 {

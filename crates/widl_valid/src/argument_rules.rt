@@ -14,7 +14,7 @@ use widl_idl::tree::{Argument, ArgumentKind};
 use widl_idl::{Violation, earlier_violation};
 use widl_text::limits::MOST_ARGUMENTS;
 
-// Up to how many arguments it is faster to compare their names with each other than to keep them.
+/// Up to how many arguments it is faster to compare their names with each other than to keep them.
 const FEW: usize = 8;
 
 /// The first place of the name of an argument that an earlier argument of its list has too.
@@ -36,7 +36,7 @@ pub fn first_repeated_argument(
     Ok(best)
 }
 
-// The same in one list.
+/// The same in one list.
 fn repeated_in(alloc: Global, arguments: &[Argument]) -> Result<Option<Violation>, AllocError>
     ensures { IfOk result (λ found. FirstWhere (AtOne RepeatsArgument (arguments_of arguments.now)) found) }
 {
@@ -47,7 +47,7 @@ fn repeated_in(alloc: Global, arguments: &[Argument]) -> Result<Option<Violation
     }
 }
 
-// The same in a short list, whose names are compared with each other.
+/// The same in a short list, whose names are compared with each other.
 fn repeated_among_few(arguments: &[Argument]) -> Option<Violation>
     ensures { FirstWhere (AtOne RepeatsArgument (arguments_of arguments.now)) result }
 {
@@ -59,7 +59,7 @@ fn repeated_among_few(arguments: &[Argument]) -> Option<Violation>
     best
 }
 
-// The place of the name of an argument that one of those before has too.
+/// The place of the name of an argument that one of those before has too.
 fn repeating(before: &[Argument], argument: &Argument) -> Option<Violation>
     ensures { FirstWhere (RepeatsArgument (arguments_of before.now) (argument_of argument.now)) result }
 {
@@ -70,7 +70,7 @@ fn repeating(before: &[Argument], argument: &Argument) -> Option<Violation>
     }
 }
 
-// Whether one of the arguments has the name.
+/// Whether one of the arguments has the name.
 fn is_used(arguments: &[Argument], text: &str) -> bool
     ensures { result ≡ list_any (λ (a : PlainArgument). bytes_eq a.name.text text.now) (arguments_of arguments.now) }
 {
@@ -82,7 +82,7 @@ fn is_used(arguments: &[Argument], text: &str) -> bool
     false
 }
 
-// The same in a long list, whose names are kept.
+/// The same in a long list, whose names are kept.
 fn repeated_among_many(
     alloc: Global,
     arguments: &[Argument],
@@ -110,7 +110,7 @@ pub fn first_after_ellipsis(lists: &[&[Argument]]) -> Option<Violation>
     best
 }
 
-// The same in one list.
+/// The same in one list.
 fn ellipsis_in(arguments: &[Argument]) -> Option<Violation>
     ensures { FirstWhere (AtOne FollowsEllipsis (arguments_of arguments.now)) result }
 {
@@ -124,7 +124,7 @@ fn ellipsis_in(arguments: &[Argument]) -> Option<Violation>
     best
 }
 
-// The place of an argument's ellipsis, if it has one.
+/// The place of an argument's ellipsis, if it has one.
 fn ellipsis_of(kind: &ArgumentKind) -> Option<Violation>
     ensures { FirstWhere (AtEllipsis (argument_kind_of kind.now)) result }
 {
@@ -146,7 +146,7 @@ pub fn first_required_after_optional(lists: &[&[Argument]]) -> Option<Violation>
     best
 }
 
-// The same in one list.
+/// The same in one list.
 fn required_in(arguments: &[Argument]) -> Option<Violation>
     ensures { FirstWhere (AtOne FollowsOptional (arguments_of arguments.now)) result }
 {
@@ -161,7 +161,7 @@ fn required_in(arguments: &[Argument]) -> Option<Violation>
     best
 }
 
-// The place of the name of a required argument, if one before it is optional.
+/// The place of the name of a required argument, if one before it is optional.
 fn required_after(optional: bool, argument: &Argument) -> Option<Violation>
     ensures { result ≡ (if is_required (argument_kind_of argument.now.kind) && optional then Some (violation_at argument.now.name.at) else None) }
 {
@@ -202,7 +202,7 @@ pub fn first_argument_past_limit(lists: &[&[Argument]]) -> Option<Violation>
     best
 }
 
-// The same in one list.
+/// The same in one list.
 fn argument_past_limit(arguments: &[Argument]) -> Option<Violation>
     ensures { FirstWhere (AtOne IsArgumentPastLimit (arguments_of arguments.now)) result }
 {

@@ -77,7 +77,7 @@ pub fn first_clamp_and_enforce<'a>(
     Ok(best)
 }
 
-// The first place at which this type has both.
+/// The first place at which this type has both.
 fn clamp_and_enforce<'a>(
     meanings: &Meanings<'_, 'a>,
     chains: &TypedefChains<'a>,
@@ -94,7 +94,7 @@ fn clamp_and_enforce<'a>(
     Ok(outer.followed_by(own).followed_by(after).later())
 }
 
-// How many typedefs there are.
+/// How many typedefs there are.
 fn count_typedefs(meanings: &Meanings<'_, '_>) -> usize
     ensures { result ≡ length (typedefs (plain_definitions meanings.now)) }
 {
@@ -114,7 +114,7 @@ fn is_typedef(definition: &DefinitionKind) -> bool
     matches!(definition, DefinitionKind::Typedef(_))
 }
 
-// The annotations of the typedefs that a type leads to, of which so many may be followed.
+/// The annotations of the typedefs that a type leads to, of which so many may be followed.
 fn annotations_after<'a>(
     meanings: &Meanings<'_, 'a>,
     ends: &[Option<RangeEnd<'a>>],
@@ -137,7 +137,7 @@ fn annotations_after<'a>(
     Ok(said)
 }
 
-// The end of the chain of the typedef that a form names, where so many may still be followed.
+/// The end of the chain of the typedef that a form names, where so many may still be followed.
 fn next_end<'a>(
     meanings: &Meanings<'_, 'a>,
     ends: &[Option<RangeEnd<'a>>],
@@ -157,8 +157,8 @@ fn next_end<'a>(
     }
 }
 
-// The end of the chain of the definition with this number, if it is a typedef: the kept one, or its type
-// alone where so few typedefs may be followed that the kept one is too far away.
+/// The end of the chain of the definition with this number, if it is a typedef: the kept one, or its type
+/// alone where so few typedefs may be followed that the kept one is too far away.
 fn end_within<'a>(
     meanings: &Meanings<'_, 'a>,
     ends: &[Option<RangeEnd<'a>>],
@@ -180,7 +180,7 @@ fn end_within<'a>(
     }
 }
 
-// The type of the definition with this number as the end of a chain, if it is a typedef.
+/// The type of the definition with this number as the end of a chain, if it is a typedef.
 fn first_end<'a>(
     meanings: &Meanings<'_, 'a>,
     steps: &mut usize,
@@ -197,7 +197,7 @@ fn first_end<'a>(
     }
 }
 
-// Counts down by what a step costs.
+/// Counts down by what a step costs.
 fn spend(steps: &mut usize, cost: usize) -> Result<(), AllocError>
     ensures { OnOk result (steps.new + cost ≡ steps.old) }
 {
@@ -208,7 +208,7 @@ fn spend(steps: &mut usize, cost: usize) -> Result<(), AllocError>
     Ok(())
 }
 
-// What it costs to look at a form: 1, and the length of its name.
+/// What it costs to look at a form: 1, and the length of its name.
 fn form_size(form: &TypeForm) -> usize {
     match form {
         TypeForm::Named(name) => name.text.len().saturating_add(1),

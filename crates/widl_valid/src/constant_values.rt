@@ -14,9 +14,9 @@ use widl_idl::tree::{Constant, LiteralValue};
 use widl_idl::{IdlType, IntKind, Violation};
 use widl_names::{Resolver, integer_of};
 
-// The place of a constant's value that is not of its type, or not in its range.
-//
-// Its errors are those of `Resolver::resolve`.
+/// The place of a constant's value that is not of its type, or not in its range.
+///
+/// Its errors are those of `Resolver::resolve`.
 pub fn other_constant_value<'a>(
     alloc: Global,
     resolver: &Resolver<'_, '_, 'a>,
@@ -33,7 +33,7 @@ pub fn other_constant_value<'a>(
     }
 }
 
-// Whether a constant of the type may have the value.
+/// Whether a constant of the type may have the value.
 fn takes_value(t: &IdlType, value: &LiteralValue) -> bool
     ensures { result ≡ takes_value (type_term t.now) (value_of value.now) }
 {
@@ -47,7 +47,7 @@ fn takes_value(t: &IdlType, value: &LiteralValue) -> bool
     }
 }
 
-// Whether an integer type has the value.
+/// Whether an integer type has the value.
 fn is_in_range(kind: IntKind, value: i128) -> bool
     ensures { result ≡ is_in_range kind value }
 {

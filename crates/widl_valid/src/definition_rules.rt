@@ -38,7 +38,7 @@ pub fn first_repeated_value(
     }
 }
 
-// The same among values.
+/// The same among values.
 fn repeated_among(
     alloc: Global,
     values: &[EnumerationValue],
@@ -64,7 +64,7 @@ pub fn first_annotation_of_no_type(definition: &Definition) -> Option<Violation>
     earlier_violation(own, inner)
 }
 
-// The same before members.
+/// The same before members.
 fn annotation_in_members(members: &[Member]) -> Option<Violation>
     ensures { FirstWhere (Somewhere (λ m. Somewhere IsAnnotation (attributes_of_no_type m.attributes m.kind)) (members_of members.now)) result }
 {
@@ -76,8 +76,8 @@ fn annotation_in_members(members: &[Member]) -> Option<Violation>
     best
 }
 
-// The extended attributes before a member that belong to no type: what stands before an attribute
-// belongs to its type.
+/// The extended attributes before a member that belong to no type: what stands before an attribute
+/// belongs to its type.
 fn attributes_of_no_type(member: &Member) -> &[ExtendedAttribute]
     ensures { map attribute_of result.now ≡ attributes_of_no_type (map attribute_of member.now.attributes) (member_kind_of member.now.kind) }
 {
@@ -87,7 +87,7 @@ fn attributes_of_no_type(member: &Member) -> &[ExtendedAttribute]
     }
 }
 
-// The first place of the name of an annotation among extended attributes.
+/// The first place of the name of an annotation among extended attributes.
 fn first_annotation(attributes: &[ExtendedAttribute]) -> Option<Violation>
     ensures { FirstWhere (Somewhere IsAnnotation (map attribute_of attributes.now)) result }
 {
@@ -99,7 +99,7 @@ fn first_annotation(attributes: &[ExtendedAttribute]) -> Option<Violation>
     best
 }
 
-// The place of the name of an extended attribute, if it is an annotation.
+/// The place of the name of an extended attribute, if it is an annotation.
 fn annotation_at(attribute: &ExtendedAttribute) -> Option<Violation>
     ensures { FirstWhere (IsAnnotation (attribute_of attribute.now)) result }
 {
@@ -160,7 +160,7 @@ pub fn first_nameless_operation(kind: &DefinitionKind) -> Option<Violation>
     nameless_in(members_written(kind))
 }
 
-// The same among members.
+/// The same among members.
 fn nameless_in(members: &[Member]) -> Option<Violation>
     ensures { FirstWhere (Somewhere (λ m. IsNameless m.kind) (members_of members.now)) result }
 {
@@ -172,7 +172,7 @@ fn nameless_in(members: &[Member]) -> Option<Violation>
     best
 }
 
-// The place of the `(` of an operation that has no name.
+/// The place of the `(` of an operation that has no name.
 fn nameless_operation(kind: &MemberKind) -> Option<Violation>
     ensures { FirstWhere (IsNameless (member_kind_of kind.now)) result }
 {
@@ -197,7 +197,7 @@ pub fn first_misformed_operation(kind: &DefinitionKind) -> Option<Violation>
     }
 }
 
-// The same among members.
+/// The same among members.
 fn misformed_in(members: &[Member]) -> Option<Violation>
     ensures { FirstWhere (Somewhere (λ m. IsMisformed m.kind) (members_of members.now)) result }
 {
@@ -209,7 +209,7 @@ fn misformed_in(members: &[Member]) -> Option<Violation>
     best
 }
 
-// The same of one member.
+/// The same of one member.
 fn misformed_operation(kind: &MemberKind) -> Option<Violation>
     ensures { FirstWhere (IsMisformed (member_kind_of kind.now)) result }
 {
@@ -225,7 +225,7 @@ fn misformed_operation(kind: &MemberKind) -> Option<Violation>
     }
 }
 
-// Whether an argument other than the last has an ellipsis.
+/// Whether an argument other than the last has an ellipsis.
 fn has_early_ellipsis(arguments: &[Argument]) -> bool
     ensures { result ≡ has_early_ellipsis (arguments_of arguments.now) }
 {
@@ -250,7 +250,7 @@ fn is_variadic(kind: &ArgumentKind) -> bool
     }
 }
 
-// The members that stand in a definition.
+/// The members that stand in a definition.
 fn members_written(kind: &DefinitionKind) -> &[Member]
     ensures { members_of result.now ≡ members_written (definition_kind_of kind.now) }
 {

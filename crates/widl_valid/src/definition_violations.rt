@@ -62,7 +62,7 @@ pub fn find_in_definitions(
     Ok(best)
 }
 
-// The first violations in one definition.
+/// The first violations in one definition.
 fn find_in_definition(
     alloc: Global,
     definition: &Definition,
@@ -87,7 +87,7 @@ fn find_in_definition(
     })
 }
 
-// Of each rule the earlier violation.
+/// Of each rule the earlier violation.
 fn earlier_violations(
     best: DefinitionViolations,
     found: DefinitionViolations,

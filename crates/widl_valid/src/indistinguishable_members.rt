@@ -39,7 +39,7 @@ pub fn have_indistinguishable(
     any_related(alloc, defs.ifaces.as_slice(), lineages, &numbers)
 }
 
-// Whether two of the types aren't distinguishable by their kinds, where two interfaces don't count.
+/// Whether two of the types aren't distinguishable by their kinds, where two interfaces don't count.
 fn any_clash(types: &IdlTypes) -> bool
     ensures { result ≡ any_pair clash (map category (type_terms types.now)) }
 {
@@ -54,7 +54,7 @@ fn any_clash(types: &IdlTypes) -> bool
     false
 }
 
-// The numbers of the interfaces among the types.
+/// The numbers of the interfaces among the types.
 fn interface_numbers(alloc: Global, types: &IdlTypes) -> Result<Vec<u32>, AllocError>
     ensures { IfOk result (λ numbers. numbers.items ≡ filter_map interface_number (map category (type_terms types.now))) }
 {
@@ -65,7 +65,7 @@ fn interface_numbers(alloc: Global, types: &IdlTypes) -> Result<Vec<u32>, AllocE
     Ok(numbers)
 }
 
-// Adds the number of an interface.
+/// Adds the number of an interface.
 fn push_number(numbers: &mut Vec<u32>, kind: Category) -> Result<(), AllocError>
     ensures { OnOk result (numbers.new.items ≡ numbers.old.items ++ listed (interface_number kind)) }
 {

@@ -43,7 +43,7 @@ pub fn find_invalid(alloc: Global, merged: &Merged) -> Result<Option<Refusal>, A
     Ok(join_definitions(violations, best))
 }
 
-// The rules on members.
+/// The rules on members.
 fn join_members<'a>(
     alloc: Global,
     meanings: &Meanings<'_, 'a>,
@@ -62,7 +62,7 @@ fn join_members<'a>(
     Ok(join_nodes(types, violations.stringifier, best))
 }
 
-// The rules on types.
+/// The rules on types.
 fn join_uses<'a>(
     alloc: Global,
     defs: &Defs,

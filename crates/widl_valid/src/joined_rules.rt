@@ -87,7 +87,7 @@ pub fn join_types(violations: TypeViolations, best: Option<Refusal>) -> Option<R
     join_roles(violations, best)
 }
 
-// The rules on annotations, on nullable dictionaries and on unions whose members aren't distinguishable.
+/// The rules on annotations, on nullable dictionaries and on unions whose members aren't distinguishable.
 fn join_annotations(violations: TypeViolations, best: Option<Refusal>) -> Option<Refusal>
     ensures { (defs : Defs) (definitions : List PlainDefinition) → AreTypeViolations defs.ifaces definitions (all_uses definitions) violations → JoinsOver (rule.AnnotatedUnionMember ∷ rule.NullableDictionary ∷ rule.MisplacedAnnotation ∷ rule.ClampAndEnforceRange ∷ rule.IndistinguishableUnionMembers ∷ []) defs definitions best result }
 {
@@ -118,7 +118,7 @@ fn join_annotations(violations: TypeViolations, best: Option<Refusal>) -> Option
     )
 }
 
-// The rules on the `?` of a type, and on nullable members of unions.
+/// The rules on the `?` of a type, and on nullable members of unions.
 fn join_nullable(violations: TypeViolations, best: Option<Refusal>) -> Option<Refusal>
     ensures { (defs : Defs) (definitions : List PlainDefinition) → AreTypeViolations defs.ifaces definitions (all_uses definitions) violations → Joins (rule.WronglyNullable ∷ rule.SeveralNullableMembers ∷ rule.NullableBesideDictionary ∷ []) definitions best result }
 {
@@ -139,7 +139,7 @@ fn join_nullable(violations: TypeViolations, best: Option<Refusal>) -> Option<Re
     )
 }
 
-// The rules on what a type is the type of.
+/// The rules on what a type is the type of.
 fn join_roles(violations: TypeViolations, best: Option<Refusal>) -> Option<Refusal>
     ensures { (defs : Defs) (definitions : List PlainDefinition) → AreTypeViolations defs.ifaces definitions (all_uses definitions) violations → Joins (rule.OtherConstantType ∷ rule.CopiedAttribute ∷ rule.UndefinedInside ∷ []) definitions best result }
 {

@@ -24,7 +24,7 @@ pub fn first_kept_name(members: &[&Member]) -> Option<Violation>
     best
 }
 
-// The place of the name of a member, where it may not have it.
+/// The place of the name of a member, where it may not have it.
 fn kept_name(kind: &MemberKind) -> Option<Violation>
     ensures { result ≡ violation_of_name (identifier (member_kind_of kind.now)) (is_kept_name (member_kind_of kind.now)) }
 {

@@ -76,7 +76,7 @@ impl KindsSeen {
         }
     }
 
-    // Whether a member was seen whose values are objects.
+    /// Whether a member was seen whose values are objects.
     fn meets_object(&self) -> bool
         ensures { result ≡ has_objects self.now }
     {

@@ -42,4 +42,3 @@ mod type_violations;
 mod union_rules;
 
 pub use acceptance::{ValidFault, validate};
-pub use invalidity::find_invalid;

@@ -52,7 +52,7 @@ pub fn find_in_member_types<'a>(
     Ok(best)
 }
 
-// The members of an interface, a mixin or a namespace.
+/// The members of an interface, a mixin or a namespace.
 fn own_members(kind: &DefinitionKind) -> &[Member]
     ensures { members_of result.now ≡ own_members (definition_kind_of kind.now) }
 {
@@ -64,7 +64,7 @@ fn own_members(kind: &DefinitionKind) -> &[Member]
     }
 }
 
-// The first violations among members.
+/// The first violations among members.
 fn find_in_members<'a>(
     alloc: Global,
     resolver: &Resolver<'_, '_, 'a>,
@@ -81,7 +81,7 @@ fn find_in_members<'a>(
     Ok(best)
 }
 
-// The first violations in one member.
+/// The first violations in one member.
 fn find_in_member<'a>(
     alloc: Global,
     resolver: &Resolver<'_, '_, 'a>,
@@ -100,7 +100,7 @@ fn find_in_member<'a>(
     })
 }
 
-// The place of a constant's value that is not of its type, or not in its range.
+/// The place of a constant's value that is not of its type, or not in its range.
 fn other_value<'a>(
     alloc: Global,
     resolver: &Resolver<'_, '_, 'a>,
@@ -122,7 +122,7 @@ fn other_value<'a>(
     }
 }
 
-// The place of an attribute's name whose type is a promise and that isn't read only.
+/// The place of an attribute's name whose type is a promise and that isn't read only.
 fn writable_promise<'a>(
     alloc: Global,
     resolver: &Resolver<'_, '_, 'a>,
@@ -144,7 +144,7 @@ fn writable_promise<'a>(
     }
 }
 
-// The place of the name of an attribute, if its type is a promise and it isn't read only.
+/// The place of the name of an attribute, if its type is a promise and it isn't read only.
 fn promise_place<'a>(
     alloc: Global,
     resolver: &Resolver<'_, '_, 'a>,
@@ -170,7 +170,7 @@ fn is_promise(t: &IdlType) -> bool
     matches!(t, IdlType::Promise(_))
 }
 
-// The place of the word `stringifier` before an attribute that is neither a DOMString nor a USVString.
+/// The place of the word `stringifier` before an attribute that is neither a DOMString nor a USVString.
 fn other_stringifier<'a>(
     alloc: Global,
     resolver: &Resolver<'_, '_, 'a>,
@@ -192,7 +192,7 @@ fn other_stringifier<'a>(
     }
 }
 
-// The place of the word `stringifier` before an attribute, if that is of another type.
+/// The place of the word `stringifier` before an attribute, if that is of another type.
 fn stringifier_place<'a>(
     alloc: Global,
     resolver: &Resolver<'_, '_, 'a>,
@@ -212,7 +212,7 @@ fn stringifier_place<'a>(
     }
 }
 
-// What an attribute's type means after its own annotations alone.
+/// What an attribute's type means after its own annotations alone.
 fn own_type<'a>(
     alloc: Global,
     resolver: &Resolver<'_, '_, 'a>,
@@ -224,7 +224,7 @@ fn own_type<'a>(
     resolver.resolve_with(alloc, steps, &[], &attribute.ty)
 }
 
-// Of each rule the earlier violation.
+/// Of each rule the earlier violation.
 fn earlier_violations(
     best: MemberTypeViolations,
     found: MemberTypeViolations,

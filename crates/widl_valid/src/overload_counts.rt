@@ -14,16 +14,16 @@ use widl_idl::tree::{Member, MemberKind, Operation};
 use widl_idl::{Violation, earlier_violation};
 use widl_text::limits::MOST_OVERLOADS;
 
-// How many operations have a name.
+/// How many operations have a name.
 #[derive(Drop)]
 struct NameCounts<'a> {
-    // Those that aren't static.
+    /// Those that aren't static.
     regular: IndexMap<&'a str, u32>,
-    // Those that are static.
+    /// Those that are static.
     fixed: IndexMap<&'a str, u32>,
 }
 
-// How many overloads there are.
+/// How many overloads there are.
 #[derive(Drop)]
 struct OverloadCounts<'a> {
     operations: NameCounts<'a>,
@@ -62,7 +62,7 @@ impl<'a> OverloadCounts<'a> {
         }
     }
 
-    // The place of a member that follows 64 of its overloads.
+    /// The place of a member that follows 64 of its overloads.
     fn past_limit(&self, kind: &MemberKind) -> Option<Violation>
         ensures { result ≡ violation_past_limit (overload_count self.now.operations.regular self.now.operations.fixed) self.now.constructors (member_kind_of kind.now) }
     {
@@ -77,7 +77,7 @@ impl<'a> OverloadCounts<'a> {
         }
     }
 
-    // Counts a member.
+    /// Counts a member.
     fn add(&mut self, kind: &'a MemberKind) -> Result<(), AllocError>
         ensures operations { OnOk result ((text : List ℕ) (static : Bool) → overload_count self.new.operations.regular self.new.operations.fixed text static ≡ (if is_overload text static (member_kind_of kind.now) then overload_count self.old.operations.regular self.old.operations.fixed text static + 1 else overload_count self.old.operations.regular self.old.operations.fixed text static)) }
         ensures constructors { OnOk result (self.new.constructors ≡ (if is_constructor (member_kind_of kind.now) then self.old.constructors + 1 else self.old.constructors)) }
@@ -103,7 +103,7 @@ impl<'a> NameCounts<'a> {
         }
     }
 
-    // The place of the name of an operation that follows 64 of its overloads.
+    /// The place of the name of an operation that follows 64 of its overloads.
     fn past_limit(&self, operation: &Operation) -> Option<Violation>
         ensures { result ≡ violation_of_name (operation_of operation.now).name (λ text. nat_eq (overload_count self.now.regular self.now.fixed text (is_static operation.now.kind)) 64) }
     {
@@ -125,7 +125,7 @@ impl<'a> NameCounts<'a> {
         }
     }
 
-    // Counts an operation.
+    /// Counts an operation.
     fn add(&mut self, operation: &'a Operation) -> Result<(), AllocError>
         ensures { OnOk result ((text : List ℕ) (static : Bool) → overload_count self.new.regular self.new.fixed text static ≡ (if has_overload text static (operation_of operation.now) then overload_count self.old.regular self.old.fixed text static + 1 else overload_count self.old.regular self.old.fixed text static)) }
     {
@@ -143,14 +143,14 @@ impl<'a> NameCounts<'a> {
     }
 }
 
-// The count that is kept for a text.
+/// The count that is kept for a text.
 fn count_in(counts: &IndexMap<&str, u32>, text: &str) -> u32
     ensures { result ≡ count_in counts.now text.now }
 {
     counts.get(text).copied().unwrap_or(0)
 }
 
-// Counts a text.
+/// Counts a text.
 fn add_one<'a>(counts: &mut IndexMap<&'a str, u32>, text: &'a str) -> Result<(), AllocError>
     ensures { OnOk result ((other : List ℕ) → count_in counts.new other ≡ (if bytes_eq other text.now then count_in counts.old other + 1 else count_in counts.old other)) }
 {

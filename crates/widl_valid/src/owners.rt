@@ -60,8 +60,8 @@ pub fn find_in_owners<'a>(
     Ok(best)
 }
 
-// The first violations in the definition of this number, if it is an interface or a namespace that its name
-// means.
+/// The first violations in the definition of this number, if it is an interface or a namespace that its name
+/// means.
 fn find_in_owner<'a>(
     alloc: Global,
     meanings: &Meanings<'_, 'a>,
@@ -85,7 +85,7 @@ fn find_in_owner<'a>(
     }
 }
 
-// Whether a definition of this number is an interface or a namespace that its name means.
+/// Whether a definition of this number is an interface or a namespace that its name means.
 fn is_owner(meanings: &Meanings, number: usize, kind: &DefinitionKind) -> bool
     ensures { result ≡ is_owner (plain_definitions meanings.now) number (definition_kind_of kind.now) }
 {
@@ -119,7 +119,7 @@ fn is_interface(kind: Kind) -> bool
     }
 }
 
-// The first violations among these members of an interface or a namespace; each rule asks its kinds alone.
+/// The first violations among these members of an interface or a namespace; each rule asks its kinds alone.
 fn find_in_members<'a>(
     alloc: Global,
     resolver: &Resolver<'_, '_, 'a>,
@@ -142,7 +142,7 @@ fn find_in_members<'a>(
     })
 }
 
-// The first place of a name that a static member or a constant of an interface may not have.
+/// The first place of a name that a static member or a constant of an interface may not have.
 fn find_kept_name(kind: Kind, members: &[&Member]) -> Option<Violation>
     ensures { FirstWhere (InMembers kind (listed_members members.now) is_interface_kind HasKeptName) result }
 {
@@ -153,7 +153,7 @@ fn find_kept_name(kind: Kind, members: &[&Member]) -> Option<Violation>
     }
 }
 
-// The first place of the word of a second stringifier of an interface.
+/// The first place of the word of a second stringifier of an interface.
 fn find_stringifier(kind: Kind, members: &[&Member]) -> Option<Violation>
     ensures { FirstWhere (InMembers kind (listed_members members.now) is_interface_kind IsSecondStringifier) result }
 {
@@ -164,7 +164,7 @@ fn find_stringifier(kind: Kind, members: &[&Member]) -> Option<Violation>
     }
 }
 
-// Of each rule the earlier violation.
+/// Of each rule the earlier violation.
 fn earlier_violations(best: MemberViolations, found: MemberViolations) -> MemberViolations
     ensures { result ≡ earlier_violations best found }
 {

@@ -15,12 +15,12 @@ use widl_idl::tree::{Member, MemberKind, Operation};
 use widl_idl::{IdlType, Violation, earlier_violation};
 use widl_names::Resolver;
 
-// The names of operations, by what they return.
+/// The names of operations, by what they return.
 #[derive(Drop)]
 struct ReturnedKinds<'a> {
-    // Those that return promises.
+    /// Those that return promises.
     promises: OperationNames<'a>,
-    // Those that return none.
+    /// Those that return none.
     others: OperationNames<'a>,
 }
 
@@ -49,7 +49,7 @@ pub fn first_mixing_promises<'a>(
     Ok(best)
 }
 
-// Whether a member is an operation that returns a promise.
+/// Whether a member is an operation that returns a promise.
 fn gives_promise<'a>(
     alloc: Global,
     resolver: &Resolver<'_, '_, 'a>,
@@ -95,8 +95,8 @@ impl<'a> ReturnedKinds<'a> {
         }
     }
 
-    // The place of the name of a member, an operation that returns a promise or not, where all that are
-    // known of its name return the other.
+    /// The place of the name of a member, an operation that returns a promise or not, where all that are
+    /// known of its name return the other.
     fn differing(&self, promise: bool, kind: &MemberKind) -> Option<Violation>
         ensures { result ≡ violation_of_other (has_returned self.now.promises.regular self.now.promises.fixed self.now.others.regular self.now.others.fixed) promise (member_kind_of kind.now) }
     {
@@ -133,7 +133,7 @@ impl<'a> ReturnedKinds<'a> {
         }
     }
 
-    // Adds the name of a member, if it is an operation; it is empty where the operation has none.
+    /// Adds the name of a member, if it is an operation; it is empty where the operation has none.
     fn add(&mut self, promise: bool, kind: &'a MemberKind) -> Result<(), AllocError>
         ensures { OnOk result ((text : List ℕ) (static asked : Bool) → has_returned self.new.promises.regular self.new.promises.fixed self.new.others.regular self.new.others.fixed text static asked ≡ (has_returned self.old.promises.regular self.old.promises.fixed self.old.others.regular self.old.others.fixed text static asked || (is_overload text static (member_kind_of kind.now) && both_or_none asked promise))) }
     {

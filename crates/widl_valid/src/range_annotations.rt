@@ -12,17 +12,17 @@ use widl_idl::tree::ExtendedAttribute;
 use widl_idl::{Violation, earlier_violation};
 use widl_text::Place;
 
-// The names of the earliest `[Clamp]` and of the earliest `[EnforceRange]` in a list of annotations.
+/// The names of the earliest `[Clamp]` and of the earliest `[EnforceRange]` in a list of annotations.
 #[derive(Clone, Copy)]
 pub struct RangeAnnotations {
-    // Where `[Clamp]` stands.
+    /// Where `[Clamp]` stands.
     pub clamp: Option<Violation>,
-    // Where `[EnforceRange]` stands.
+    /// Where `[EnforceRange]` stands.
     pub enforce: Option<Violation>,
 }
 
 impl RangeAnnotations {
-    // Those of no annotation.
+    /// Those of no annotation.
     pub fn none() -> RangeAnnotations
         ensures { AreEarliest result [] }
     {
@@ -32,7 +32,7 @@ impl RangeAnnotations {
         }
     }
 
-    // Those among extended attributes.
+    /// Those among extended attributes.
     pub fn of(attributes: &[ExtendedAttribute]) -> RangeAnnotations
         ensures { AreEarliest result (notes_of (map attribute_of attributes.now)) }
     {
@@ -43,7 +43,7 @@ impl RangeAnnotations {
         said
     }
 
-    // Those in these annotations and others together.
+    /// Those in these annotations and others together.
     pub fn followed_by(self, others: RangeAnnotations) -> RangeAnnotations
         ensures { (notes more : List Note) → AreEarliest self notes → AreEarliest others more → AreEarliest result (notes ++ more) }
     {
@@ -53,15 +53,15 @@ impl RangeAnnotations {
         }
     }
 
-    // The later name of the two, where there are both: the first place that is the later of a `[Clamp]` and an
-    // `[EnforceRange]`.
+    /// The later name of the two, where there are both: the first place that is the later of a `[Clamp]` and an
+    /// `[EnforceRange]`.
     pub fn later(self) -> Option<Violation>
         ensures { (notes : List Note) → AreEarliest self notes → FirstWhere (HasBoth notes) result }
     {
         later_violation(self.clamp, self.enforce)
     }
 
-    // What one extended attribute says.
+    /// What one extended attribute says.
     fn of_one(attribute: &ExtendedAttribute) -> RangeAnnotations
         ensures { result ≡ said_by (annotation_of (attribute_of attribute.now).name.text) (attribute_of attribute.now).name.at }
     {
@@ -86,7 +86,7 @@ impl RangeAnnotations {
     }
 }
 
-// The later violation of two, where there are both.
+/// The later violation of two, where there are both.
 fn later_violation(clamp: Option<Violation>, enforce: Option<Violation>) -> Option<Violation>
     ensures { result ≡ later_of clamp enforce }
 {
@@ -96,7 +96,7 @@ fn later_violation(clamp: Option<Violation>, enforce: Option<Violation>) -> Opti
     }
 }
 
-// Of two places the later one.
+/// Of two places the later one.
 fn later(p: Place, q: Place) -> Place
     ensures { result ≡ later p q }
 {

@@ -13,12 +13,12 @@ use std::alloc::{AllocError, Global};
 use widl_idl::tree::{Member, MemberKind};
 use widl_idl::{Violation, earlier_violation};
 
-// The names of members.
+/// The names of members.
 #[derive(Drop)]
 struct MemberNames<'a> {
-    // Those of operations.
+    /// Those of operations.
     operations: IndexSet<&'a str>,
-    // Those of constants and attributes.
+    /// Those of constants and attributes.
     others: IndexSet<&'a str>,
 }
 
@@ -53,7 +53,7 @@ impl<'a> MemberNames<'a> {
         }
     }
 
-    // The place of the name of a member, where it may not have it.
+    /// The place of the name of a member, where it may not have it.
     fn repeated(&self, kind: &MemberKind) -> Option<Violation>
         ensures { result ≡ violation_of_name (identifier (member_kind_of kind.now)) (λ text. clashes self.now.operations self.now.others text (is_operation (member_kind_of kind.now))) }
     {
@@ -71,7 +71,7 @@ impl<'a> MemberNames<'a> {
         self.others.contains(text) || !operation && self.operations.contains(text)
     }
 
-    // Adds the name of a member, if it has one.
+    /// Adds the name of a member, if it has one.
     fn add(&mut self, kind: &'a MemberKind) -> Result<(), AllocError>
         ensures { OnOk result ((text : List ℕ) (operation : Bool) → clashes self.new.operations self.new.others text operation ≡ (clashes self.old.operations self.old.others text operation || (is_named text (identifier (member_kind_of kind.now)) && not (is_operation (member_kind_of kind.now) && operation)))) }
     {

@@ -14,7 +14,7 @@ use widl_idl::tree::TypeForm;
 use widl_idl::{IdlType, Violation};
 use widl_overload::TypeRole;
 
-// The place of a constant's type that is neither boolean nor an integer type.
+/// The place of a constant's type that is neither boolean nor an integer type.
 pub fn other_constant_type(ty: &ResolvedUse<'_>) -> Option<Violation>
     ensures { FirstWhere (IsOtherConstantType (resolved_use ty.now).meaning (resolved_use ty.now).written) result }
 {
@@ -37,7 +37,7 @@ fn is_constant_type(t: &IdlType) -> bool
     matches!(t, IdlType::Boolean | IdlType::Int(_, _))
 }
 
-// The place of an attribute's type whose values are copied when they are read.
+/// The place of an attribute's type whose values are copied when they are read.
 pub fn copied_attribute(ty: &ResolvedUse<'_>) -> Option<Violation>
     ensures { FirstWhere (IsCopiedAttribute (resolved_use ty.now).meaning (resolved_use ty.now).written) result }
 {
@@ -54,7 +54,7 @@ fn is_attribute_role(role: TypeRole) -> bool
     matches!(role, TypeRole::Attribute)
 }
 
-// The place of `undefined` elsewhere than as a whole return type or the whole type of a promise.
+/// The place of `undefined` elsewhere than as a whole return type or the whole type of a promise.
 pub fn undefined_inside(ty: &ResolvedUse<'_>) -> Option<Violation>
     ensures { FirstWhere (IsUndefinedInside (resolved_use ty.now).written) result }
 {

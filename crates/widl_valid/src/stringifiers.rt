@@ -25,7 +25,7 @@ pub fn first_second_stringifier(members: &[&Member]) -> Option<Violation>
     best
 }
 
-// Where the word `stringifier` of a member stands.
+/// Where the word `stringifier` of a member stands.
 fn stringifier_place(kind: &MemberKind) -> Option<Place>
     ensures { result ≡ stringifier_place (member_kind_of kind.now) }
 {

@@ -15,26 +15,26 @@ use crate::resolved_uses::ResolvedUse;
 use crate::role_rules::{copied_attribute, other_constant_type, undefined_inside};
 use widl_idl::{Violation, earlier_violation};
 
-// A rule that reads a type by itself.
+/// A rule that reads a type by itself.
 #[derive(Clone, Copy)]
 pub enum TypeRule {
-    // The type of a constant is neither boolean nor an integer type.
+    /// The type of a constant is neither boolean nor an integer type.
     OtherConstantType,
-    // The type of an attribute is a sequence, a dictionary or a record, or a union with one.
+    /// The type of an attribute is a sequence, a dictionary or a record, or a union with one.
     CopiedAttribute,
-    // `undefined` stands inside a type, or where no value is returned.
+    /// `undefined` stands inside a type, or where no value is returned.
     UndefinedInside,
-    // A type may not stand before its `?`.
+    /// A type may not stand before its `?`.
     WronglyNullable,
-    // Several member types of a union are nullable.
+    /// Several member types of a union are nullable.
     SeveralNullable,
-    // A union includes a nullable type and has a dictionary.
+    /// A union includes a nullable type and has a dictionary.
     NullableBesideDictionary,
-    // A member type of a union is annotated.
+    /// A member type of a union is annotated.
     AnnotatedMember,
-    // The type of an argument or of a dictionary member is a nullable dictionary.
+    /// The type of an argument or of a dictionary member is a nullable dictionary.
     NullableDictionary,
-    // An annotation doesn't apply to its type.
+    /// An annotation doesn't apply to its type.
     MisplacedAnnotation,
 }
 
@@ -103,7 +103,7 @@ pub fn first_misplaced_annotation(uses: &[ResolvedUse<'_>]) -> Option<Violation>
     first_breaking(uses, TypeRule::MisplacedAnnotation)
 }
 
-// The first place at which one of these types breaks the rule.
+/// The first place at which one of these types breaks the rule.
 fn first_breaking(uses: &[ResolvedUse<'_>], rule: TypeRule) -> Option<Violation>
     ensures { FirstWhere (Somewhere (BreaksTypeRule rule) (map resolved_use uses.now)) result }
 {
@@ -115,7 +115,7 @@ fn first_breaking(uses: &[ResolvedUse<'_>], rule: TypeRule) -> Option<Violation>
     best
 }
 
-// The first place at which a type breaks the rule.
+/// The first place at which a type breaks the rule.
 fn breaking(ty: &ResolvedUse<'_>, rule: TypeRule) -> Option<Violation>
     ensures { FirstWhere (BreaksTypeRule rule (resolved_use ty.now)) result }
 {

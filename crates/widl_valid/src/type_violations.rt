@@ -79,7 +79,7 @@ pub fn find_in_types<'a>(
     Ok(best)
 }
 
-// The first violations among these types.
+/// The first violations among these types.
 fn find_in_uses<'a>(
     alloc: Global,
     defs: &Defs,
@@ -110,7 +110,7 @@ fn find_in_uses<'a>(
     })
 }
 
-// Of each rule the earlier violation.
+/// Of each rule the earlier violation.
 fn earlier_violations(best: TypeViolations, found: TypeViolations) -> TypeViolations
     ensures { result ≡ earlier_violations best found }
 {

@@ -36,7 +36,7 @@ pub fn first_indistinguishable_union(
     Ok(best)
 }
 
-// The place of a type that is written as such a union.
+/// The place of a type that is written as such a union.
 fn indistinguishable_union(
     alloc: Global,
     defs: &Defs,
@@ -55,7 +55,7 @@ fn indistinguishable_union(
     }
 }
 
-// Whether two flattened members of a union, with or without a `?`, aren't distinguishable.
+/// Whether two flattened members of a union, with or without a `?`, aren't distinguishable.
 #[cycle(indistinguishable)]
 fn has_indistinguishable_members(
     alloc: Global,
