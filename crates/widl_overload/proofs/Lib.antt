@@ -12,3 +12,4 @@ pub mod ViolationSteps
 pub mod SameInterfaces
 pub mod SameTuples
 pub mod SameOverloads
+pub mod OverTerms

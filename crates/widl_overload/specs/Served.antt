@@ -37,15 +37,22 @@ is_served_alone [] = false
 is_served_alone (s ∷ []) = is_served_signature s
 is_served_alone (s ∷ t ∷ more) = false
 
--- a namespace with operations alone
+abbrev pub is_served_name : OpNameTerm → Bool
+is_served_name o = is_served_alone o.sigs
+
+abbrev pub has_operations_alone : SpaceTerm → Bool
+has_operations_alone n = is_none n.members.attrs && is_none n.members.consts
+
+-- a namespace with operations alone, each of them served
 abbrev pub is_served_namespace : SpaceTerm → Bool
-is_served_namespace n = is_none n.members.attrs && is_none n.members.consts && list_all (λ (o : OpNameTerm). is_served_alone o.sigs) n.members.ops
+is_served_namespace n = has_operations_alone n && list_all is_served_name n.members.ops
+
+abbrev pub has_namespaces_alone : DefsTerm → Bool
+has_namespaces_alone defs = is_none defs.ifaces && is_none defs.dicts && is_none defs.choices && is_none defs.callback_fns && is_none defs.callback_ifaces
 
 -- namespaces alone, each of them served
 abbrev pub is_served_list : DefsTerm → Bool
-is_served_list defs =
-    is_none defs.ifaces && is_none defs.dicts && is_none defs.choices && is_none defs.callback_fns && is_none defs.callback_ifaces
-    && list_all is_served_namespace defs.spaces
+is_served_list defs = has_namespaces_alone defs && list_all is_served_namespace defs.spaces
 
 abbrev pub IsServed : DefsTerm → Type 0
 IsServed defs = is_served_list defs ≡ true

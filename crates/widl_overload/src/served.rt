@@ -4,7 +4,7 @@ ghost use Rattle.std.specs.Prelude.{◌≡◌, ◌↔◌, IsTrue, map};
 ghost use Rattle.std.specs.List.{list_all};
 ghost use Rattle.widl_idl.specs.DefinitionTerms.{arg_term, defs_term, op_name_term, sig_term, space_term};
 ghost use Rattle.widl_idl.specs.Terms.{type_term};
-ghost use Rattle.widl_overload.specs.Served.{IsServed, is_any, is_any_or_undefined, is_required, is_served_alone, is_served_argument, is_served_list, is_served_namespace, is_served_signature};
+ghost use Rattle.widl_overload.specs.Served.{IsServed, has_namespaces_alone, has_operations_alone, is_any, is_any_or_undefined, is_required, is_served_alone, is_served_argument, is_served_list, is_served_name, is_served_namespace, is_served_signature};
 
 use crate::accepted::Accepted;
 use widl_idl::{Arg, Defs, IdlType, OpName, Optionality, Sig, Space};
@@ -21,12 +21,17 @@ pub fn is_served(accepted: &Accepted) -> bool
 fn is_served_list(defs: &Defs) -> bool
     ensures { result ≡ is_served_list (defs_term defs.now) }
 {
+    has_namespaces_alone(defs) && are_served_namespaces(defs.spaces.as_slice())
+}
+
+fn has_namespaces_alone(defs: &Defs) -> bool
+    ensures { result ≡ has_namespaces_alone (defs_term defs.now) }
+{
     defs.ifaces.len() == 0
         && defs.dicts.len() == 0
         && defs.choices.len() == 0
         && defs.callback_fns.len() == 0
         && defs.callback_ifaces.len() == 0
-        && are_served_namespaces(defs.spaces.as_slice())
 }
 
 fn are_served_namespaces(spaces: &[Space]) -> bool
@@ -39,16 +44,28 @@ fn are_served_namespaces(spaces: &[Space]) -> bool
 fn is_served_namespace(space: &Space) -> bool
     ensures { result ≡ is_served_namespace (space_term space.now) }
 {
-    space.attrs.len() == 0 && space.consts.len() == 0 && are_served_operations(space.ops.as_slice())
+    has_operations_alone(space) && are_served_operations(space.ops.as_slice())
+}
+
+fn has_operations_alone(space: &Space) -> bool
+    ensures { result ≡ has_operations_alone (space_term space.now) }
+{
+    space.attrs.len() == 0 && space.consts.len() == 0
 }
 
 fn are_served_operations(ops: &[OpName]) -> bool
-    ensures { result ≡ list_all (λ o. is_served_alone (op_name_term o).sigs) ops.now }
+    ensures { result ≡ list_all (λ o. is_served_name (op_name_term o)) ops.now }
 {
-    ops.iter().all(|op| is_served_alone(op.sigs.as_slice()))
+    ops.iter().all(is_served_name)
 }
 
-/// Whether there is one overload, and it is supported.
+/// Whether a name has one overload, and it is supported.
+fn is_served_name(op: &OpName) -> bool
+    ensures { result ≡ is_served_name (op_name_term op.now) }
+{
+    is_served_alone(op.sigs.as_slice())
+}
+
 fn is_served_alone(sigs: &[Sig]) -> bool
     ensures { result ≡ is_served_alone (map sig_term sigs.now) }
 {
