@@ -1,0 +1,5 @@
+pub mod TerminalNumbers
+pub mod RuleNumbers
+pub mod Grammar
+pub mod Tables
+pub mod Owed
