@@ -3,3 +3,10 @@ pub mod RuleNumbers
 pub mod Grammar
 pub mod Tables
 pub mod Owed
+pub mod ListedWords
+pub mod Slots
+pub mod Integers
+pub mod Texts
+pub mod Terminals
+pub mod Characters
+pub mod Spelled
