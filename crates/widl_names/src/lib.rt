@@ -33,4 +33,4 @@ pub use parts::{Parts, group_at, members_in, no_groups, put_in_group};
 pub use resolver::Resolver;
 pub use steps::steps_of;
 pub use typedef_links::{number_named, typedef_at, typedef_order};
-pub use written_values::{default_meant, integer_of, value_meant};
+pub use written_values::{default_meant, value_meant};

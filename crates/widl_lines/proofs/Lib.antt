@@ -1,0 +1,4 @@
+pub mod Listing
+pub mod Splitting
+pub mod Digits
+pub mod Counting

@@ -1,0 +1,12 @@
+pub mod TerminalNumbers
+pub mod RuleNumbers
+pub mod Grammar
+pub mod Tables
+pub mod Owed
+pub mod ListedWords
+pub mod Slots
+pub mod Integers
+pub mod Texts
+pub mod Terminals
+pub mod Characters
+pub mod Spelled
