@@ -6,8 +6,8 @@ use Rattle.widl_idl.specs.declared.refusal.Refusal.{Refusal}
 use Rattle.widl_idl.specs.declared.violation.Violation.{Violation}
 use Rattle.widl_idl.specs.declared.tree.fragments.Fragment.{Fragment}
 use Rattle.widl_idl.specs.DefinitionTerms.{defs_term}
-use Rattle.widl_idl.specs.LeastRefusal.{LeastBroken, violation_of}
-use Rattle.widl_idl.specs.LeastRefusal as least_refusal
+use Rattle.widl_idl.specs.FirstRefusal.{FirstBroken, violation_of}
+use Rattle.widl_idl.specs.FirstRefusal as first_refusal
 use Rattle.widl_idl.specs.Meanings.{definitions_of}
 use Rattle.widl_idl.specs.MergedList.{merged_from, merged_list}
 use Rattle.widl_idl.specs.MergedSets.{MergedSet}
@@ -50,12 +50,12 @@ all_trees cuts trees file (bytes ∷ texts) (x ∷ xs) (y ∷ ys) utf8 is other 
 
 -- the first refusal by rules that are broken at the same violations
 module _ {R : Type 0} (number : R → ℕ) (Breaks Others : R → Violation → Type 0) (rules : List R) where
-  broken_changed : (r : Refusal) → ((rule : R) (s : Violation) → Breaks rule s → Others rule s) → least_refusal.Broken number Breaks rules r → least_refusal.Broken number Others rules r
+  broken_changed : (r : Refusal) → ((rule : R) (s : Violation) → Breaks rule s → Others rule s) → first_refusal.Broken number Breaks rules r → first_refusal.Broken number Others rules r
   broken_changed r to broken = record { which = broken.which; listed = broken.listed; numbered = broken.numbered; breaks = to broken.which (violation_of r) broken.breaks }
 
-  least_changed : (a : Option Refusal) → ((rule : R) (s : Violation) → Breaks rule s → Others rule s) → ((rule : R) (s : Violation) → Others rule s → Breaks rule s) → LeastBroken number Breaks rules a → LeastBroken number Others rules a
-  least_changed None to from earliest = λ r broken. earliest r (record { which = broken.which; listed = broken.listed; numbered = broken.numbered; breaks = from broken.which (violation_of r) broken.breaks })
-  least_changed (Some r) to from earliest = record {
+  first_changed : (a : Option Refusal) → ((rule : R) (s : Violation) → Breaks rule s → Others rule s) → ((rule : R) (s : Violation) → Others rule s → Breaks rule s) → FirstBroken number Breaks rules a → FirstBroken number Others rules a
+  first_changed None to from earliest = λ r broken. earliest r (record { which = broken.which; listed = broken.listed; numbered = broken.numbered; breaks = from broken.which (violation_of r) broken.breaks })
+  first_changed (Some r) to from earliest = record {
     broken = broken_changed r to earliest.broken;
     first = λ s broken. earliest.first s (record { which = broken.which; listed = broken.listed; numbered = broken.numbered; breaks = from broken.which (violation_of s) broken.breaks });
   }
@@ -71,7 +71,7 @@ one_invalidity xs ys same a b is other =
     let second : MergedSet = record { defs = other.0; fragments = ys } in
     let merged : defs_term is.0 ≡ defs_term other.0 = same_terms xs ys is.0 other.0 same is.1 other.1 in
     same_refusal validity_number (BreaksValidity second) validity_rules a b
-    (least_changed validity_number (BreaksValidity first) (BreaksValidity second) validity_rules a (breaks_same first second same merged) (breaks_same second first (sym same) (sym merged)) is.2)
+    (first_changed validity_number (BreaksValidity first) (BreaksValidity second) validity_rules a (breaks_same first second same merged) (breaks_same second first (sym same) (sym merged)) is.2)
     other.2
 
 one_after : (xs ys : List Fragment) → definitions_of xs ≡ definitions_of ys → (p q a b : Option Refusal) → p ≡ q → IsRefusalAfter xs p a → IsRefusalAfter ys q b → a ≡ b

@@ -9,7 +9,7 @@ use Rattle.widl_idl.specs.declared.refusal.Refusal.{Refusal}
 use Rattle.widl_idl.specs.declared.merging_rule.MergingRule.{MergingRule}
 use Rattle.widl_idl.specs.declared.profile_rule.ProfileRule.{ProfileRule}
 use Rattle.widl_idl.specs.declared.violation.Violation.{Violation}
-use Rattle.widl_idl.specs.LeastRefusal.{violation_of}
+use Rattle.widl_idl.specs.FirstRefusal.{violation_of}
 use Rattle.widl_idl.specs.Meanings.{definitions_of}
 use Rattle.widl_idl.specs.MergedSets.{AreFiles, IsMerged, MergedSet}
 use Rattle.widl_idl.specs.MergingRules.{BreaksMerging}
