@@ -99,7 +99,7 @@ encoding_found texts file found place within encoded is here =
     record {
       within = subst (λ n. n < length texts) (sym same) within;
       before = λ i below. (let low : i < file = subst (λ n. i < n) same below in
-        subst IsUtf8 (get_or-take file texts i [] low) (all_utf8 (take file texts) found encoded is i (omega (arith, low, size))));
+          subst IsUtf8 (get_or-take file texts i [] low) (all_utf8 (take file texts) found encoded is i (omega (arith, low, size))));
       here = subst (λ n. IsLexFault n (named texts n) (NotUtf8 place)) (sym same) here;
     }
 
@@ -118,8 +118,7 @@ pub kept_found : (texts : List (List ℕ)) (file : ℕ) (found finding now : Opt
 kept_found texts file found finding now bytes within encoded is same here keeps joined =
     let size : length (take file texts) ≡ file = size_before texts file within in
     let placed = subst (λ n. IsFileFinding n (named texts file) finding) (sym size) (subst (λ b. IsFileFinding file b finding) same here) in
-    let one = one_found (take file texts) (named texts file) found finding encoded keeps is placed in
-    (
+    let one = one_found (take file texts) (named texts file) found finding encoded keeps is placed in (
       subst (λ l. IsFoundIn l now) (sym (take_more texts file [] within)) (subst (IsFoundIn (take file texts ++ named texts file ∷ [])) (sym joined) one),
       subst KeepsEncoding (sym joined) (still_encoded found finding encoded keeps),
     )
