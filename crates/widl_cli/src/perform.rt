@@ -34,6 +34,11 @@ pub fn perform_steps<K: Sink>(
     Ok(status)
 }
 
+/// The same, without what the writer still holds at the end.
+///
+/// # Errors
+///
+/// `WriteFailed` where the sink failed.
 fn perform_all<K: Sink>(
     steps: &Steps,
     budget: u64,
@@ -61,6 +66,10 @@ fn perform_all<K: Sink>(
 }
 
 /// Writes the line of a step, if it has one.
+///
+/// # Errors
+///
+/// `WriteFailed` where the sink failed.
 fn write_line<K: Sink>(step: &Step, writer: &mut Writer, out: &mut K) -> Result<(), WriteFailed>
     ensures wrote { OnOk result (Sends (K.held out.old) (K.held out.new) writer.old (bytes_of step.now.line) writer.new) }
     ensures torn { OnErr result (GrewByPrefix (K.held out.old) (K.held out.new) (writer.old ++ bytes_of step.now.line)) }
