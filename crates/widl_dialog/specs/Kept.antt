@@ -1,0 +1,19 @@
+-- What each action keeps: a relation between the world before it and the world after it.
+use Rattle.std.specs.Prelude.{◌≡◌, ℕ, ◌+◌, ◌-◌, ◌≤◌, List, ◌++◌}
+use Rattle.widl_dialog.specs.Dialog.{Dialog, End, Say, Steps}
+use Rattle.widl_dialog.specs.Runs.{Did, Went, Stops}
+
+-- it holds from the world before an action to the world after it
+abbrev pub Holds : {W A S : Type 0} → (W → W → Type 0) → W → Did W A S → Type 0
+Holds Kept w (Went v a) = Kept w v
+Holds Kept w (Stops s) = Unit {0}
+
+-- it holds from each world to itself, goes on, and holds over each action
+pub record Keeps {Q A W S : Type 0} (act : Q → W → Did W A S) (Kept : W → W → Type 0) : Type 0 where
+  pub same : (w : W) → Kept w w
+  pub goes_on : (u v w : W) → Kept u v → Kept v w → Kept u w
+  pub holds : (q : Q) (w : W) → Holds Kept w (act q w)
+
+-- the list of the one world begins that of the other
+abbrev pub Grown : {W E : Type 0} → (W → List E) → W → W → Type 0
+Grown {E = E} lines w v = (more : List E) × (lines v ≡ lines w ++ more)
