@@ -1,8 +1,8 @@
 -- The actions and jobs of a run.
 use Rattle.std.specs.Prelude.{◌≡◌, ℕ, zero, suc, refl}
-use Rattle.std.proofs.Common.{sym, ap, subst, ◌∙◌}
+use Rattle.std.proofs.Common.{sym, ap, subst}
 use Rattle.widl_dialog.specs.Dialog.{Dialog, End, Say, Steps, bind}
-use Rattle.widl_dialog.specs.Runs.{Did, Went, Stops, Finish, Ended, Halted, on_did, Runs, Does}
+use Rattle.widl_dialog.specs.Runs.{Did, Went, Stops, Finish, Halted, on_did, Runs, Does}
 use Rattle.widl_dialog.specs.Count.{count_did, count_runs, count}
 
 module _ {J Q A R W S : Type 0} (rule : J → Dialog J Q A R) (act : Q → W → Did W A S) where

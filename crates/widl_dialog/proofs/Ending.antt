@@ -1,9 +1,9 @@
 -- Each run ends where charges are paid and rules are calm.
-use Rattle.std.specs.Prelude.{◌≡◌, ℕ, zero, suc, ◌<◌, ◌≤◌, ◌⊎◌, refl, Bool, true, false}
-use Rattle.std.proofs.Common.{sym, subst, arith}
+use Rattle.std.specs.Prelude.{◌≡◌, ℕ, zero, suc, ◌<◌, ◌≤◌, refl, Bool, true, false}
+use Rattle.std.proofs.Common.{subst, arith}
 use mathlib.Core.Logic.{inl, inr}
 use Rattle.widl_dialog.specs.Dialog.{Dialog, End, Say, Steps}
-use Rattle.widl_dialog.specs.Runs.{Did, Went, Stops, Finish, Ended, Halted, on_did, Runs, Does, Outcome}
+use Rattle.widl_dialog.specs.Runs.{Did, Went, Stops, Finish, Ended, Halted, Does}
 use Rattle.widl_dialog.specs.Calm.{Ranks, unless, Below, Leaves, Calm, Spends, Calming}
 use Rattle.widl_dialog.specs.Laws.{EachEnds}
 use Rattle.widl_dialog.proofs.Running.{does_said, does_stop, does_join, does_halt, does_steps}

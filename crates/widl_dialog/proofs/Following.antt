@@ -1,10 +1,9 @@
 -- Places of a run that follow one another.
-use Rattle.std.specs.Prelude.{◌≡◌, ℕ, zero, suc, ◌+◌, List, [], refl}
-use Rattle.std.proofs.Common.{sym, ap, subst, ◌∙◌, arith}
+use Rattle.std.specs.Prelude.{◌≡◌, ℕ, zero, suc, ◌+◌, [], refl}
+use Rattle.std.proofs.Common.{sym, subst, arith}
 use Rattle.widl_dialog.specs.Dialog.{Dialog, End, Say, Steps, bind}
 use Rattle.widl_dialog.specs.Position.{After, At}
-use Rattle.widl_dialog.specs.Runs.{Did, Went, Stops, Finish, Ended, Halted, on_did, Runs, Does}
-use Rattle.widl_dialog.specs.Count.{count}
+use Rattle.widl_dialog.specs.Runs.{Did, Went, Finish, Does}
 use Rattle.widl_dialog.specs.Follows.{Follows}
 use Rattle.widl_dialog.proofs.Running.{does_said, does_steps}
 use Rattle.widl_dialog.proofs.Counting.{same_count, count_steps, count_said}

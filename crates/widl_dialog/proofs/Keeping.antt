@@ -1,8 +1,8 @@
 -- What each action keeps, a run keeps.
-use Rattle.std.specs.Prelude.{◌≡◌, ℕ, zero, suc, List, [], ◌++◌, refl}
+use Rattle.std.specs.Prelude.{◌≡◌, ℕ, zero, suc, List, [], ◌++◌}
 use Rattle.std.proofs.Common.{sym, ap, subst, ◌∙◌, append-nil, append_assoc}
 use Rattle.widl_dialog.specs.Dialog.{Dialog, End, Say, Steps, bind}
-use Rattle.widl_dialog.specs.Runs.{Did, Went, Stops, Finish, Halted, on_did, Runs, Does}
+use Rattle.widl_dialog.specs.Runs.{Did, Went, Stops, Finish, Halted, on_did, Runs}
 use Rattle.widl_dialog.specs.Kept.{Holds, Keeps, Grown}
 use Rattle.widl_dialog.specs.Laws.{RunsKeep}
 

@@ -12,3 +12,4 @@ pub mod Counting
 pub mod Following
 pub mod Settling
 pub mod Stacking
+mod Examples

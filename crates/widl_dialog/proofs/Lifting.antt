@@ -1,10 +1,10 @@
 -- A conversation in a world.
-use Rattle.std.specs.Prelude.{◌≡◌, ℕ, zero, suc, List, [], ◌∷◌, ◌++◌, refl}
+use Rattle.std.specs.Prelude.{◌≡◌, ℕ, zero, suc, List, [], ◌∷◌, refl}
 use Rattle.std.proofs.Common.{sym, ap, subst, ◌∙◌}
 use Rattle.widl_dialog.specs.Dialog.{Dialog, End, Say, Steps, bind}
 use Rattle.widl_dialog.specs.Conversation.{Next, Asks, Ends, Reads, Comes}
 use Rattle.widl_dialog.specs.Position.{After, At}
-use Rattle.widl_dialog.specs.Runs.{Did, Went, Stops, Finish, Ended, Halted, on_did, Runs, Does}
+use Rattle.widl_dialog.specs.Runs.{Did, Finish, Ended, Halted, Runs, Does}
 use Rattle.widl_dialog.specs.Lift.{Ways, lift, Asked, Last, IsDone}
 use Rattle.widl_dialog.specs.Laws.{RunsAreTalks}
 use Rattle.widl_dialog.proofs.Bind.{bind_assoc}

@@ -1,6 +1,6 @@
 -- Where a conversation stands.
 use Rattle.std.specs.Prelude.{◌≡◌, ℕ, zero, suc, List, [], ◌∷◌, ◌++◌, refl}
-use Rattle.std.proofs.Common.{sym, ap, subst, ◌∙◌, append-nil}
+use Rattle.std.proofs.Common.{sym, ap, subst, append-nil}
 use Rattle.widl_dialog.specs.Dialog.{Dialog, End, Say, Steps, bind}
 use Rattle.widl_dialog.specs.Conversation.{Next, Asks, Ends, Reads, Comes}
 use Rattle.widl_dialog.specs.Position.{After, At}

@@ -1,8 +1,8 @@
 -- A conversation within a larger set of rules.
-use Rattle.std.specs.Prelude.{◌≡◌, ℕ, zero, suc, List, [], ◌∷◌, ◌++◌, refl}
+use Rattle.std.specs.Prelude.{◌≡◌, ℕ, zero, suc, List, [], ◌∷◌, refl}
 use Rattle.std.proofs.Common.{sym, ap, subst, ◌∙◌}
 use Rattle.widl_dialog.specs.Dialog.{Dialog, End, Say, Steps, bind}
-use Rattle.widl_dialog.specs.Conversation.{Next, Asks, Ends, Reads, Comes, Finishes, Good}
+use Rattle.widl_dialog.specs.Conversation.{Next, Ends, Reads, Comes, Finishes, Good}
 use Rattle.widl_dialog.specs.Position.{After, At}
 use Rattle.widl_dialog.specs.Rename.{rename}
 

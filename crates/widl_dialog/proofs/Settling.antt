@@ -1,5 +1,5 @@
 -- Jobs alone lead from each tree to an ask or an end, where they only go to lower ones.
-use Rattle.std.specs.Prelude.{◌≡◌, ℕ, zero, suc, ◌<◌, ◌⊎◌, refl}
+use Rattle.std.specs.Prelude.{◌≡◌, ℕ, zero, suc, ◌<◌, refl}
 use Rattle.std.proofs.Common.{subst, ap, arith}
 use mathlib.Core.Logic.{inl, inr}
 use Rattle.widl_dialog.specs.Dialog.{Dialog, End, Say, Steps, bind}

@@ -1,12 +1,11 @@
 -- Frames that wait for the completion of a job, and where a conversation stands after one more answer.
 use Rattle.std.specs.Prelude.{◌≡◌, ℕ, ◌+◌, List, [], ◌∷◌, ◌++◌, Option, Some, None, refl}
 use Rattle.std.proofs.Common.{sym, ap, subst, ◌∙◌, arith, append-nil}
-use Rattle.widl_dialog.specs.Dialog.{Dialog, End, Say, Steps, bind}
-use Rattle.widl_dialog.specs.Conversation.{Next, Asks, Ends, Reads, Comes}
-use Rattle.widl_dialog.specs.Position.{After, At}
+use Rattle.widl_dialog.specs.Dialog.{Dialog, End, Steps, bind}
+use Rattle.widl_dialog.specs.Position.{At}
 use Rattle.widl_dialog.specs.Stack.{under, stack_load, longer, still}
 use Rattle.widl_dialog.proofs.Bind.{bind_assoc, bind_end}
-use Rattle.widl_dialog.proofs.Positions.{here, at_then, at_steps, at_answer, at_bind, comes_through}
+use Rattle.widl_dialog.proofs.Positions.{here, at_then, at_steps, at_answer, at_bind}
 
 pub under_push : {J Q A R F : Type 0} (back : F → R → Dialog J Q A R) (fs : List F) (f : F) (r : R) → under back (fs ++ f ∷ []) r ≡ bind (back f r) (under back fs)
 under_push back [] f r = sym (bind_end (back f r))

@@ -1,9 +1,9 @@
 -- An ask comes next exactly where some whole conversation goes on with it.
-use Rattle.std.specs.Prelude.{◌≡◌, ℕ, zero, suc, List, [], ◌∷◌, ◌++◌, refl}
-use Rattle.std.proofs.Common.{sym, ap, subst, ◌∙◌}
+use Rattle.std.specs.Prelude.{ℕ, zero, suc, List, [], ◌∷◌, ◌++◌, refl}
+use Rattle.std.proofs.Common.{sym, ap, subst}
 use Rattle.widl_dialog.specs.Dialog.{Dialog, End, Say, Steps, bind}
 use Rattle.widl_dialog.specs.Conversation.{Next, Asks, Ends, Reads, Comes, Finishes, Good}
-use Rattle.widl_dialog.specs.Position.{After, At}
+use Rattle.widl_dialog.specs.Position.{After}
 use Rattle.widl_dialog.specs.Laws.{AsksGoOn}
 use Rattle.widl_dialog.proofs.Nexts.{joins}
 use Rattle.widl_dialog.proofs.Positions.{place_of_ask, comes_through}

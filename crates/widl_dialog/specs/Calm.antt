@@ -3,13 +3,15 @@ use Rattle.std.specs.Prelude.{◌≡◌, ℕ, ◌<◌, ◌≤◌, ◌⊎◌, Boo
 use Rattle.widl_dialog.specs.Dialog.{Dialog, End, Say, Steps}
 use Rattle.widl_dialog.specs.Runs.{Did, Went, Stops}
 
--- which asks are charges, two ranks of each job, and which jobs take a charge on every way to their end
+-- which asks are charges, two ranks of each job, and which jobs take a charge on every way to their end. One rank wouldn't do:
+-- no number is above what is left of every list that an answer may bring.
 pub record Ranks (Job Ask : Type 0) : Type 0 where
   pub pays : Ask → Bool
   pub high : Job → ℕ
   pub low : Job → ℕ
   pub spends : Job → Bool
 
+-- the fact is owed where the test fails
 abbrev pub unless : Bool → Type 0 → Type 0
 unless true t = Unit {0}
 unless false t = t

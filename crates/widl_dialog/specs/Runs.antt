@@ -1,4 +1,4 @@
--- Runs: what steps do in a world, where each ask is an action on the world and its answer is the action's.
+-- Runs: what steps do in a world, where an ask is an action on the world, and the action gives the answer.
 use Rattle.std.specs.Prelude.{◌≡◌, ℕ, zero, suc}
 use Rattle.widl_dialog.specs.Dialog.{Dialog, End, Say, Steps, bind}
 
@@ -12,6 +12,7 @@ pub data Finish (Completion Stop : Type 0) : Type 0 where
   Ended : Completion → Finish Completion Stop
   Halted : Stop → Finish Completion Stop
 
+-- the one of the world and answer where the action went, the other of what stopped it
 abbrev pub on_did : {W A S : Type 0} → Did W A S → (W → A → Type 0) → (S → Type 0) → Type 0
 on_did (Went w a) f g = f w a
 on_did (Stops s) f g = g s
@@ -28,7 +29,7 @@ pub record Does {J Q A R W S : Type 0} (rule : J → Dialog J Q A R) (act : Q �
   pub steps : ℕ
   pub runs : Runs rule act steps d w v f
 
--- where the steps go from a world
+-- where the steps go from this world, and how they finish
 pub record Outcome {J Q A R W S : Type 0} (rule : J → Dialog J Q A R) (act : Q → W → Did W A S) (d : Dialog J Q A R) (w : W) : Type 0 where
   pub world : W
   pub finish : Finish R S
