@@ -2,7 +2,7 @@
 use Rattle.std.specs.Prelude.{◌≡◌, ℕ, zero, suc, List, [], ◌++◌}
 use Rattle.std.proofs.Common.{sym, ap, subst, ◌∙◌, append-nil, append_assoc}
 use Rattle.widl_dialog.specs.Dialog.{Dialog, End, Say, Steps, bind}
-use Rattle.widl_dialog.specs.Runs.{Did, Went, Stops, Finish, Halted, on_did, Runs}
+use Rattle.widl_dialog.specs.Runs.{Did, Went, Stops, Finish, Halted, on_did, Runs, Does}
 use Rattle.widl_dialog.specs.Kept.{Holds, Keeps, Grown}
 use Rattle.widl_dialog.specs.Laws.{RunsKeep}
 
@@ -31,3 +31,6 @@ keeps_list act lines adds = record {
   goes_on = λ u v w x y. (x.0 ++ y.0, y.1 ∙ ap (λ l. l ++ y.0) x.1 ∙ append_assoc (lines u) x.0 y.0);
   holds = adds;
 }
+
+pub grows : {J Q A R W S E : Type 0} (rule : J → Dialog J Q A R) (act : Q → W → Did W A S) (lines : W → List E) → ((q : Q) (w : W) → Holds (Grown lines) w (act q w)) → {d : Dialog J Q A R} {w v : W} {f : Finish R S} → Does rule act d w v f → Grown lines w v
+grows rule act lines adds {d = d} {w = w} {v = v} {f = f} x = runs_keep rule act (Grown lines) (keeps_list act lines adds) d w v f x
