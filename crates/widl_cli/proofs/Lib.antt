@@ -5,3 +5,4 @@ mod Fetches
 mod Names
 mod OneOutput
 mod Runs
+mod OneText

@@ -17,6 +17,7 @@ mod inheritance;
 mod merging;
 mod overloads;
 mod profile;
+mod served;
 mod validity;
 
 const FRAGMENT: &str = "namespace N { undefined f(octet a); };";
