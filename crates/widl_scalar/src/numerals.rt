@@ -38,11 +38,11 @@ pub fn number_of(alloc: Global, text: &Units) -> Result<Read, AllocError>
     ensures number { IsOkAnd result IsReadNumber }
 {
     let _ = alloc;
-    Ok(read(text))
+    Ok(read_text(text))
 }
 
 /// The same.
-pub(crate) fn read(text: &Units) -> Read
+pub(crate) fn read_text(text: &Units) -> Read
     ensures reads { Reads (trimmed text.now) result }
     ensures value { result ≡ read_of (trimmed text.now) }
     ensures number { IsReadNumber result }

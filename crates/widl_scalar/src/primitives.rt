@@ -4,7 +4,7 @@ ghost use Rattle.std.specs.Prelude.{◌≡◌, IfOk};
 ghost use Rattle.widl_scalar.specs.Primitives.{HasNumber, IsGivenNumber, length_of, number_in, text_in, truth_of};
 
 use crate::number_to_text::number_text;
-use crate::numerals::{Read, read};
+use crate::numerals::{Read, read_text};
 use std::alloc::{AllocError, Global};
 use widl_text::Units;
 use widl_value::{Number, Value};
@@ -59,7 +59,7 @@ pub fn number_in_value(value: &Value) -> ValueNumber
         Value::Null => ValueNumber::Number(Number::Whole(0)),
         Value::Bool(b) => ValueNumber::Number(Number::Whole(if *b { 1 } else { 0 })),
         Value::Num(number) => ValueNumber::Number(*number),
-        Value::Str(text) => match read(text) {
+        Value::Str(text) => match read_text(text) {
             Read::Number(number) => ValueNumber::Number(number),
             Read::OutOfProfile => ValueNumber::OutOfProfile,
         },
