@@ -1,6 +1,6 @@
 -- What is read of a text, computed.
 -- Source: ECMA-262, StringNumericLiteral and StringToNumber.
-use Rattle.std.specs.Prelude.{ℕ, ◌+◌, ◌*◌, ◌/◌, ◌^◌, ◌==◌, ◌&&◌, ◌||◌, Bool, false, nat_lt, nat_le, if◌then◌else◌, List, [], ◌∷◌, ◌++◌, length, drop, slice_index, codes, Option, Some, None, option_map, pos}
+use Rattle.std.specs.Prelude.{ℕ, ◌+◌, ◌*◌, ◌/◌, ◌^◌, ◌==◌, ◌&&◌, ◌||◌, Bool, true, false, nat_lt, nat_le, if◌then◌else◌, List, [], ◌∷◌, ◌++◌, length, drop, slice_index, codes, Option, Some, None, option_map, pos}
 use Rattle.std.specs.Char.{digit_value}
 use Rattle.std.specs.List.{list_all}
 use Rattle.std.specs.Str.{bytes_eq}
@@ -50,11 +50,15 @@ abbrev pub after_sign : List ℕ → List ℕ
 after_sign text = if slice_index text 0 == 45 || slice_index text 0 == 43 then drop 1 text else text
 
 -- the powers of ten to multiply by and to divide by that the end of a numeral means: an exponent, or nothing
+abbrev pub powers_by : Bool → ℕ → ℕ × ℕ
+powers_by true n = (0, n)
+powers_by false n = (n, 0)
+
 abbrev pub powers_of : List ℕ → Option (ℕ × ℕ)
 powers_of [] = Some (0, 0)
 powers_of (mark ∷ rest) =
     if (mark == 101 || mark == 69) && is_numeral 10 (after_sign rest)
-    then Some (if is_minus rest then (0, digits_value 10 (after_sign rest)) else (digits_value 10 (after_sign rest), 0))
+    then Some (powers_by (is_minus rest) (digits_value 10 (after_sign rest)))
     else None
 
 -- what is read of digits and of a fraction with the powers of ten that follow
