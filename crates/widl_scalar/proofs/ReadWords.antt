@@ -268,3 +268,8 @@ decimal_read text rest negative some cut none other read r =
   where
     unsigned_here : (negative : Bool) (rest : List ℕ) → bytes_eq rest (codes "Infinity") ≡ false → read_signed negative rest ≡ read_unsigned negative rest
     unsigned_here negative rest other = simp other
+
+pub empty_read : (text : List ℕ) → length text ≡ 0 → ◌≡◌ {A = Read} (reads.Number (numbers.Whole (pos 0))) (read_of text)
+unfolding read_of
+empty_read [] none = refl
+empty_read (u ∷ us) none = absurd (omega (arith, none))

@@ -1,6 +1,6 @@
 -- The conversions of values that are no objects.
 -- Source: ECMA-262, ToBoolean, ToNumber, ToString, ToLength.
-use Rattle.std.specs.Prelude.{ℕ, zero, suc, ◌-◌, ◌^◌, Bool, true, false, if◌then◌else◌, List, [], ◌∷◌, codes, ℤ, pos, negsuc, min}
+use Rattle.std.specs.Prelude.{ℕ, ◌-◌, ◌^◌, Bool, true, false, if◌then◌else◌, nat_lt, length, codes, pos, negsuc, min, unsigned_abs}
 use Rattle.widl_value.specs.declared.number.Number as the
 use Rattle.widl_value.specs.declared.number.Number.TheVariants as numbers
 use Rattle.widl_value.specs.declared.value.Value.{Value}
@@ -21,20 +21,14 @@ abbrev pub number_truth : the.Number → Bool
 number_truth numbers.NaN = false
 number_truth numbers.PosInf = true
 number_truth numbers.NegInf = true
-number_truth (numbers.Whole (pos zero)) = false
-number_truth (numbers.Whole (pos (suc n))) = true
-number_truth (numbers.Whole (negsuc n)) = true
-
-abbrev pub text_truth : List ℕ → Bool
-text_truth [] = false
-text_truth (u ∷ us) = true
+number_truth (numbers.Whole x) = nat_lt 0 (unsigned_abs x)
 
 abbrev pub truth_of : Value → Bool
 truth_of Undefined = false
 truth_of Null = false
 truth_of (Boolean b) = b
 truth_of (Num n) = number_truth n
-truth_of (Str text) = text_truth text
+truth_of (Str text) = nat_lt 0 (length text)
 truth_of (Sym id) = true
 truth_of (Obj obj) = true
 

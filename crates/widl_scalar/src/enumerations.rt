@@ -14,6 +14,13 @@ pub fn enum_at(defs: &Defs, choice: u32, text: &Units) -> Option<u32>
     ensures none { IfNone result ((place : ℕ) → place < 2 ^ 32 → HasValueAt defs.now.choices choice text.now place → ⊥) }
     ensures value { result ≡ value_place defs.now.choices choice text.now }
 {
+    place_in(defs, choice, text)
+}
+
+/// The first place of a text among the values of the enumeration of this number.
+fn place_in(defs: &Defs, choice: u32, text: &Units) -> Option<u32>
+    ensures { result ≡ value_place defs.now.choices choice text.now }
+{
     let number = choice as usize;
     if number >= defs.choices.len() {
         return None;

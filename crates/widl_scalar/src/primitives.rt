@@ -1,7 +1,7 @@
 //! Values to truth values, Numbers, texts and lengths, where no step of a script is needed.
 
 ghost use Rattle.std.specs.Prelude.{◌≡◌, IfOk};
-ghost use Rattle.widl_scalar.specs.Primitives.{HasNumber, IsGivenNumber, length_of, number_in, text_in, truth_of};
+ghost use Rattle.widl_scalar.specs.Primitives.{HasNumber, IsGivenNumber, length_of, number_in, number_truth, text_in, truth_of};
 
 use crate::number_to_text::number_text;
 use crate::numerals::{Read, read_text};
@@ -43,9 +43,20 @@ pub fn truth(value: &Value) -> bool
     match value {
         Value::Undefined | Value::Null => false,
         Value::Bool(b) => *b,
-        Value::Num(number) => !matches!(number, Number::NaN | Number::Whole(0)),
+        Value::Num(number) => number_truth(*number),
         Value::Str(text) => text.len() > 0,
         Value::Sym(_) | Value::Obj(_) => true,
+    }
+}
+
+/// Whether a Number is taken for true: each but NaN and 0.
+fn number_truth(x: Number) -> bool
+    ensures { result ≡ number_truth x }
+{
+    match x {
+        Number::NaN => false,
+        Number::PosInf | Number::NegInf => true,
+        Number::Whole(v) => v != 0,
     }
 }
 

@@ -1,8 +1,8 @@
 use Rattle.std.proofs.Common.{ap, sym, ◌∙◌}
 use Rattle.std.proofs.lemmas.Bool.{cond-false, cond-true, false≢true}
 use Rattle.std.proofs.lemmas.Slice.Eq.{bytes_eq-Decides}
-use Rattle.widl_scalar.proofs.NumeralCuts.{not_empty}
-use Rattle.widl_scalar.proofs.ReadWords.{decimal_read, infinite_read, prefix_read}
+use Rattle.widl_scalar.proofs.NumeralCuts.{empty, not_empty}
+use Rattle.widl_scalar.proofs.ReadWords.{decimal_read, empty_read, infinite_read, prefix_read}
 use Rattle.widl_scalar.proofs.TextReads.{decimal_reads, infinite_reads, prefix_reads}
 use Rattle.widl_value.specs.declared.number.Number.TheVariants as numbers
 use Rattle.widl_scalar.specs.declared.numerals.Read.TheVariants as reads
@@ -31,3 +31,6 @@ returns-else-negative-clause-value c = infinite_read _ _ _ (not_empty _ c.if-is_
 
 pub returns-clause-value : goal.returns-clause-value
 returns-clause-value c = decimal_read _ _ _ (not_empty _ c.if-is_empty.ensures) c.split_sign-negative.ensures c.in_default.ensures.none (sym c.if-eq.ensures) _ c.decimal_number.ensures.reads
+
+pub returns-then-is_empty-clause-value : goal.returns-then-is_empty-clause-value
+returns-then-is_empty-clause-value c = empty_read _ (empty _ c.if-is_empty.ensures)
