@@ -43,3 +43,68 @@ pub fn place_of_text_is_first()
     ensures some { (texts : List (List ℕ)) (text : List ℕ) → IfSome (place_of_text texts text) (IsFirstPlace texts text) }
     ensures none { (texts : List (List ℕ)) (text : List ℕ) → IfNone (place_of_text texts text) ((place : ℕ) → IsFirstPlace texts text place → ⊥) }
 {}
+
+#[cfg(test)]
+mod tests {
+    use super::*;
+    use std::alloc::{AllocError, Global};
+    use widl_idl::{Choice, Choices, Items};
+    use widl_text::Place;
+
+    /// A list whose one enumeration has these values.
+    fn list_of(alloc: Global, values: Texts) -> Result<Defs, AllocError> {
+        let at = Place { file: 0, at: 0 };
+        let name = Units::of_str(alloc, "E")?;
+        let mut choices = Choices::new(alloc);
+        choices.push(Choice { at, name, values })?;
+        Ok(Defs {
+            ifaces: Items::new(alloc),
+            spaces: Items::new(alloc),
+            dicts: Items::new(alloc),
+            choices,
+            callback_fns: Items::new(alloc),
+            callback_ifaces: Items::new(alloc),
+        })
+    }
+
+    #[test]
+    fn finds_the_first_place(rt: HostRuntime) -> Result<(), AllocError> {
+        let mut values = Texts::new(rt.alloc());
+        for value in ["auto", "", "autos", "auto"] {
+            values.push(Units::of_str(rt.alloc(), value)?)?;
+        }
+        let defs = list_of(rt.alloc(), values)?;
+        let rows = [
+            (0, "auto", Some(0)),
+            (0, "", Some(1)),
+            (0, "autos", Some(2)),
+            (0, "aut", None),
+            (0, "autost", None),
+            (0, "Auto", None),
+            (1, "auto", None),
+            (4_294_967_295, "auto", None),
+        ];
+        for (choice, text, want) in rows {
+            let text = Units::of_str(rt.alloc(), text)?;
+            assert_eq!(rt; enum_at(&defs, choice, &text), want, "{text:?}");
+        }
+        Ok(())
+    }
+
+    #[test]
+    fn finds_the_last_of_many_values(rt: HostRuntime) -> Result<(), AllocError> {
+        let mut values = Texts::new(rt.alloc());
+        for unit in 0..50_000u16 {
+            let mut value = Units::of_str(rt.alloc(), "value")?;
+            value.push(unit)?;
+            values.push(value)?;
+        }
+        let defs = list_of(rt.alloc(), values)?;
+        for (unit, want) in [(49_999, Some(49_999)), (50_000, None)] {
+            let mut text = Units::of_str(rt.alloc(), "value")?;
+            text.push(unit)?;
+            assert_eq!(rt; enum_at(&defs, 0, &text), want);
+        }
+        Ok(())
+    }
+}

@@ -118,6 +118,23 @@ mod tests {
     }
 
     #[test]
+    fn writes_what_is_no_number_exactly(rt: HostRuntime) -> Result<(), AllocError> {
+        let rows = [
+            (9_007_199_254_740_993, "9007199254740993"),
+            (18_446_744_073_709_551_617, "18446744073709551617"),
+            (
+                -1_267_650_600_228_229_401_496_703_205_376,
+                "-1267650600228229401496703205376",
+            ),
+        ];
+        for (v, want) in rows {
+            let want = Units::of_str(rt.alloc(), want)?;
+            assert_eq!(rt; number_text(rt.alloc(), Number::Whole(v))?, want, "{v}");
+        }
+        Ok(())
+    }
+
+    #[test]
     fn writes_words(rt: HostRuntime) -> Result<(), AllocError> {
         assert_eq!(rt;
             number_text(rt.alloc(), Number::NaN)?,

@@ -203,6 +203,7 @@ mod tests {
             ("+7", 7),
             ("-12.50e1", -125),
             ("0e999", 0),
+            ("0e99999999999999999999", 0),
             ("0.00e-99999999999999999999999999999999999999", 0),
             ("9007199254740993", 9_007_199_254_740_992),
             ("0x20000000000003", 9_007_199_254_740_996),
@@ -350,20 +351,36 @@ mod tests {
 
     #[test]
     fn reads_long_texts(rt: HostRuntime) -> Result<(), AllocError> {
-        let mut text = Units::new(rt.alloc());
-        for _ in 0..100_000 {
+        let rows = [
+            (" ", "", Read::Number(Number::Whole(0))),
+            ("0", ".5e1", Read::Number(Number::Whole(5))),
+            ("7", "", Read::OutOfProfile),
+            ("7", "x", Read::Number(Number::NaN)),
+            ("0", "1", Read::Number(Number::Whole(1))),
+        ];
+        for (front, end, want) in rows {
+            let mut text = Units::of_str(rt.alloc(), "")?;
+            for unit in front.bytes() {
+                for _ in 0..500_000 {
+                    text.push(u16::from(unit))?;
+                }
+            }
+            for unit in end.bytes() {
+                text.push(u16::from(unit))?;
+            }
+            assert_eq!(rt; number_of(rt.alloc(), &text)?, want, "{front} {end}");
+        }
+        Ok(())
+    }
+
+    #[test]
+    fn takes_the_zeros_of_a_long_text_back(rt: HostRuntime) -> Result<(), AllocError> {
+        let mut text = Units::of_str(rt.alloc(), "1")?;
+        for _ in 0..500_000 {
             text.push(48)?;
         }
-        text.push(49)?;
-        assert_eq!(rt;
-            number_of(rt.alloc(), &text)?,
-            Read::Number(Number::Whole(1))
-        );
-        for _ in 0..100_000 {
-            text.push(48)?;
-        }
-        for unit in [101, 45, 57, 57, 57, 57, 57] {
-            text.push(unit)?;
+        for unit in "e-499999".bytes() {
+            text.push(u16::from(unit))?;
         }
         assert_eq!(rt;
             number_of(rt.alloc(), &text)?,

@@ -116,3 +116,117 @@ pub fn length_of_number(x: Number) -> u64
         }
     }
 }
+
+#[cfg(test)]
+mod tests {
+    use super::*;
+    use widl_value::{ObjRef, Shape};
+
+    fn object() -> Value {
+        Value::Obj(ObjRef {
+            id: 0,
+            shape: Shape::Plain,
+        })
+    }
+
+    #[test]
+    fn tells_truth(rt: HostRuntime) -> Result<(), AllocError> {
+        let rows = [
+            (Value::Undefined, false),
+            (Value::Null, false),
+            (Value::Bool(true), true),
+            (Value::Num(Number::NaN), false),
+            (Value::Num(Number::Whole(0)), false),
+            (Value::Num(Number::Whole(-1)), true),
+            (Value::Num(Number::NegInf), true),
+            (Value::Str(Units::of_str(rt.alloc(), "")?), false),
+            (Value::Str(Units::of_str(rt.alloc(), " ")?), true),
+            (Value::Str(Units::of_str(rt.alloc(), "0")?), true),
+            (Value::Sym(0), true),
+            (object(), true),
+        ];
+        for (value, want) in &rows {
+            assert_eq!(rt; truth(value), *want, "{value:?}");
+        }
+        Ok(())
+    }
+
+    #[test]
+    fn tells_numbers(rt: HostRuntime) -> Result<(), AllocError> {
+        let rows = [
+            (Value::Undefined, ValueNumber::Number(Number::NaN)),
+            (Value::Null, ValueNumber::Number(Number::Whole(0))),
+            (Value::Bool(true), ValueNumber::Number(Number::Whole(1))),
+            (
+                Value::Num(Number::PosInf),
+                ValueNumber::Number(Number::PosInf),
+            ),
+            (Value::Sym(0), ValueNumber::Symbol),
+            (object(), ValueNumber::Object),
+        ];
+        for (value, want) in &rows {
+            assert_eq!(rt; number_in_value(value), *want, "{value:?}");
+        }
+        let texts = [
+            ("", ValueNumber::Number(Number::Whole(0))),
+            (" 0x1F\n", ValueNumber::Number(Number::Whole(31))),
+            ("1e3", ValueNumber::Number(Number::Whole(1000))),
+            ("10e-1", ValueNumber::Number(Number::Whole(1))),
+            ("1.5", ValueNumber::OutOfProfile),
+            ("one", ValueNumber::Number(Number::NaN)),
+        ];
+        for (text, want) in texts {
+            let value = Value::Str(Units::of_str(rt.alloc(), text)?);
+            assert_eq!(rt; number_in_value(&value), want, "{value:?}");
+        }
+        Ok(())
+    }
+
+    #[test]
+    fn tells_texts(rt: HostRuntime) -> Result<(), AllocError> {
+        let rows = [
+            (Value::Undefined, "undefined"),
+            (Value::Null, "null"),
+            (Value::Bool(true), "true"),
+            (Value::Bool(false), "false"),
+            (
+                Value::Num(Number::Whole(18_446_744_073_709_551_616)),
+                "18446744073709552000",
+            ),
+            (
+                Value::Str(Units::of_str(rt.alloc(), "as it is")?),
+                "as it is",
+            ),
+        ];
+        for (value, want) in &rows {
+            let want = ValueText::Text(Units::of_str(rt.alloc(), want)?);
+            assert_eq!(rt; text_in_value(rt.alloc(), value)?, want);
+        }
+        assert_eq!(rt;
+            text_in_value(rt.alloc(), &Value::Sym(0))?,
+            ValueText::Symbol
+        );
+        assert_eq!(rt; text_in_value(rt.alloc(), &object())?, ValueText::Object);
+        Ok(())
+    }
+
+    #[test]
+    fn brings_lengths_into_their_range(rt: HostRuntime) {
+        let rows = [
+            (Number::NaN, 0),
+            (Number::NegInf, 0),
+            (Number::PosInf, 9_007_199_254_740_991),
+            (Number::Whole(-1), 0),
+            (Number::Whole(7), 7),
+            (Number::Whole(9_007_199_254_740_991), 9_007_199_254_740_991),
+            (Number::Whole(9_007_199_254_740_992), 9_007_199_254_740_991),
+            (
+                Number::Whole(18_446_744_073_709_551_616),
+                9_007_199_254_740_991,
+            ),
+        ];
+        for (number, want) in rows {
+            assert_eq!(rt; length_of_number(number), want, "{number:?}");
+        }
+    }
+}

@@ -19,6 +19,7 @@ loop-w-smaller c = digit_smaller _ _ c.loop-w.invariant.0 (digit_next _ _ c.requ
 pub loop-w-preserved : goal.loop-w-preserved
 unfolding digit_next
 loop-w-preserved c =
-    let tens = c.ten_step.ensures.tens _ c.loop-w.invariant.0.is in
-    (digit_next _ _ c.requires.short c.requires.limit c.loop-w.invariant.0 (c.round_at.ensures.none c.in_default.is _ tens),
-    reached_next _ _ _ c.requires.limit c.requires.short c.loop-w.invariant.1 tens (sym c.round_at.ensures.value ∙ c.in_default.is))
+    let tens = c.ten_step.ensures.tens _ c.loop-w.invariant.0.is in (
+      digit_next _ _ c.requires.short c.requires.limit c.loop-w.invariant.0 (c.round_at.ensures.none c.in_default.is _ tens),
+      reached_next _ _ _ c.requires.limit c.requires.short c.loop-w.invariant.1 tens (sym c.round_at.ensures.value ∙ c.in_default.is),
+    )
