@@ -1,27 +1,23 @@
 -- What is computed of a text is what is read of it.
-use Rattle.std.proofs.Common.{◌≡◌, ◌≢◌, ℕ, suc, zero, ◌+◌, ◌*◌, ◌/◌, ◌^◌, ◌<◌, ◌≤◌, ◌⊎◌, inl, inr, Bool, true, false, List, [], ◌∷◌, ◌++◌, length, get_or, drop, Option, Some, None, ℤ, pos, refl, sym, ap, subst, ◌∙◌, arith}
-use Rattle.std.specs.Prelude.{◌==◌, ◌&&◌, ◌||◌, codes, if◌then◌else◌, nat_lt, nat_le, option_map, neg_ℤ, unsigned_abs}
+use Rattle.std.proofs.Common.{◌≡◌, ℕ, suc, zero, ◌+◌, ◌*◌, ◌/◌, ◌^◌, ◌<◌, ◌≤◌, ◌⊎◌, inl, inr, Bool, true, false, List, [], ◌∷◌, ◌++◌, length, get_or, drop, Option, Some, None, pos, refl, sym, ap, subst, ◌∙◌, arith}
+use Rattle.std.specs.Prelude.{◌==◌, ◌&&◌, ◌||◌, codes, if◌then◌else◌, nat_lt, nat_le, option_map, unsigned_abs}
 use Rattle.std.specs.List.{list_all}
 use Rattle.std.specs.Option.{unwrap_or}
 use Rattle.std.specs.Str.{bytes_eq}
 use Rattle.std.proofs.lemmas.Bool.{cases_eq, cases_lt, true≢false}
 use Rattle.std.proofs.lemmas.Bool.Decides.{nat_tests}
-use Rattle.std.proofs.lemmas.List.{length-append, append-nil}
 use Rattle.std.proofs.lemmas.Slice.Eq.{bytes_eq-Decides}
 use Rattle.std.proofs.Math.Nat.{mul-div_cancel, one-le-pow}
 use Rattle.std.specs.Char.{digit_value}
 use Rattle.std.specs.Str.Parse.{AllDigits, digits_value}
-use Rattle.widl_value.specs.declared.number.Number as the
 use Rattle.widl_value.specs.declared.number.Number.TheVariants as numbers
-use Rattle.widl_value.specs.Near.{Nearest}
-use Rattle.widl_value.specs.Rounding.{nearest_of}
 use Rattle.widl_value.proofs.NearWords.{nearest_word}
 use Rattle.widl_scalar.specs.declared.numerals.Read.{Read}
 use Rattle.widl_scalar.specs.declared.numerals.Read.TheVariants as reads
 use Rattle.widl_scalar.specs.DecimalScales.{IsScaled}
 use Rattle.widl_scalar.specs.NumeralParts.{IsDigitCut, IsFractionCut, IsSignCut, NoDigitFirst}
 use Rattle.widl_scalar.specs.NumeralWords.{after_digits, after_fraction, after_sign, exact_of, fraction_of, front_digits, is_minus, is_numeral, powers_by, powers_of, prefix_of, read_by, read_of, read_radix, read_scaled, read_signed, read_unsigned, read_value}
-use Rattle.widl_scalar.specs.Numerals.{Answers, IsExponent, IsSign, IsTail, IsUnsigned, base_of, signed}
+use Rattle.widl_scalar.specs.Numerals.{Answers, IsExponent, IsTail, base_of, signed}
 use Rattle.widl_scalar.specs.RadixTexts.{IsPrefixCut, ReadsRadix, ReadsUnsigned}
 use Rattle.widl_scalar.proofs.NumeralCuts.{same_sign, sign_found, no_sign}
 use Rattle.widl_scalar.proofs.NumeralReads.{same_parts, unsigned_none, unsigned_there}

@@ -1,6 +1,6 @@
 -- The conversions of values that are no objects.
 -- Source: ECMA-262, ToBoolean, ToNumber, ToString, ToLength.
-use Rattle.std.specs.Prelude.{ℕ, ◌-◌, ◌^◌, Bool, true, false, if◌then◌else◌, nat_lt, length, codes, pos, negsuc, min, unsigned_abs}
+use Rattle.std.specs.Prelude.{◌≡◌, ℕ, ◌-◌, ◌^◌, Bool, true, false, if◌then◌else◌, nat_lt, length, codes, pos, negsuc, min, unsigned_abs}
 use Rattle.widl_value.specs.declared.number.Number as the
 use Rattle.widl_value.specs.declared.number.Number.TheVariants as numbers
 use Rattle.widl_value.specs.declared.value.Value.{Value}
@@ -14,6 +14,7 @@ use Rattle.widl_scalar.specs.declared.primitives.ValueText.{ValueText}
 use Rattle.widl_scalar.specs.declared.primitives.ValueText.TheVariants as written
 use Rattle.widl_scalar.specs.NumberTexts.{number_text_of}
 use Rattle.widl_scalar.specs.NumeralWords.{read_of}
+use Rattle.widl_scalar.specs.Scalars.{NearestWithin}
 use Rattle.widl_scalar.specs.WhiteSpace.{trimmed}
 
 -- ToBoolean
@@ -56,7 +57,14 @@ text_in (Str text) = written.Text text
 text_in (Sym id) = written.Symbol
 text_in (Obj obj) = written.Object
 
--- ToLength of a Number: from 0 to 2 to the 53, minus 1
+-- ToLength of a Number: of the numbers from 0 to 2 to the 53, minus 1, the one nearest to it, and 0 for NaN
+abbrev pub IsLength : the.Number → ℕ → Type 0
+IsLength numbers.NaN n = n ≡ 0
+IsLength numbers.PosInf n = n ≡ 2 ^ 53 - 1
+IsLength numbers.NegInf n = n ≡ 0
+IsLength (numbers.Whole x) n = NearestWithin (pos 0) (pos (2 ^ 53 - 1)) x (pos n)
+
+-- the same, computed
 abbrev pub length_of : the.Number → ℕ
 length_of numbers.NaN = 0
 length_of numbers.PosInf = 2 ^ 53 - 1

@@ -1,7 +1,7 @@
 //! Values to truth values, Numbers, texts and lengths, where no step of a script is needed.
 
 ghost use Rattle.std.specs.Prelude.{◌≡◌, IfOk};
-ghost use Rattle.widl_scalar.specs.Primitives.{HasNumber, IsGivenNumber, length_of, number_in, number_truth, text_in, truth_of};
+ghost use Rattle.widl_scalar.specs.Primitives.{HasNumber, IsGivenNumber, IsLength, length_of, number_in, number_truth, text_in, truth_of};
 
 use crate::number_to_text::number_text;
 use crate::numerals::{Read, read_text};
@@ -101,8 +101,10 @@ pub fn text_in_value(alloc: Global, value: &Value) -> Result<ValueText, AllocErr
 
 /// The length that a Number means (ECMA-262, "ToLength"): 0 for NaN, and otherwise the Number
 /// brought into 0 to 2^53 - 1.
+#[tactic(auto, using(crate::proofs::Lengths::is_length))]
 pub fn length_of_number(x: Number) -> u64
-    ensures { result ≡ length_of x }
+    ensures length { IsLength x result }
+    ensures value { result ≡ length_of x }
 {
     match x {
         Number::NaN | Number::NegInf => 0,

@@ -1,5 +1,5 @@
 -- What is computed lies nearest.
-use Rattle.std.proofs.Common.{◌≡◌, ℕ, suc, zero, ◌+◌, ◌-◌, ◌*◌, ◌/◌, ◌%◌, ◌^◌, ◌<◌, ◌≤◌, ◌⊎◌, inl, inr, Bool, true, false, ℤ, pos, negsuc, refl, sym, ap, subst, ◌∙◌, arith}
+use Rattle.std.proofs.Common.{◌≡◌, ℕ, suc, zero, ◌+◌, ◌-◌, ◌*◌, ◌/◌, ◌%◌, ◌^◌, ◌<◌, ◌≤◌, ◌⊎◌, inl, inr, Bool, true, false, ℤ, pos, negsuc, refl, sym, ap, ◌∙◌, arith}
 use Rattle.std.specs.Prelude.{if◌then◌else◌, neg_ℤ, unsigned_abs, ◌≤ℤ◌}
 use Rattle.std.specs.Int.Count.{count_leading_zeros}
 use Rattle.std.proofs.lemmas.Nat.{div-add-mod', leading_top, mod_below, pow-add}
@@ -9,8 +9,8 @@ use Rattle.std.proofs.lemmas.Bool.Decides.{nat_tests}
 use Rattle.std.proofs.lemmas.Int.{ints}
 use Rattle.widl_value.specs.declared.number.Number.{Number}
 use Rattle.widl_value.specs.declared.number.Number.TheVariants.{NaN, PosInf, NegInf, Whole}
-use Rattle.widl_value.specs.Near.{IsNumber, Near, NearInt, Nearest, IsWholeNumber}
-use Rattle.widl_value.specs.Rounding.{goes_up, near_of, nearest_of, rounded, step_of}
+use Rattle.widl_value.specs.Near.{IsNumber, Near, Nearest}
+use Rattle.widl_value.specs.Rounding.{goes_up, near_of, nearest_of, step_of}
 use Rattle.widl_value.specs.Steps.{Steps, IsUp, IsDown}
 use Rattle.widl_value.proofs.NearSigned.{nearest_above, nearest_below, size_most}
 use Rattle.widl_value.proofs.NearUnique.{near_unique}
