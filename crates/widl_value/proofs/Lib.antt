@@ -1,3 +1,4 @@
 pub mod NearSigned
 pub mod NearUnique
+pub mod NearWords
 pub mod ShortNumbers

@@ -1,3 +1,4 @@
 pub mod Classes
 pub mod Near
+pub mod Rounding
 pub mod Steps

@@ -17,6 +17,6 @@ pub use flags::Flags;
 pub use keys::Keys;
 pub use number::Number;
 pub use object::{ObjRef, Shape};
-pub use rounding::{near, nearest, nearest_is_unique, rounds_up};
+pub use rounding::{near, nearest, nearest_is_unique, nearest_of_is_nearest, rounds_up};
 pub use value::Value;
 pub use values::Values;
