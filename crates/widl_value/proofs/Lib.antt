@@ -1,3 +1,5 @@
+pub mod Dictionaries
 pub mod NearSigned
 pub mod NearUnique
+pub mod Places
 pub mod ShortNumbers

@@ -1,3 +1,4 @@
 pub mod Classes
+pub mod IdlTerms
 pub mod Near
 pub mod Steps
