@@ -2,6 +2,7 @@
 use Rattle.std.proofs.Common.{◌≡◌, ℕ, ◌+◌, ◌*◌, ◌<◌, ◌≤◌, ◌^◌, List, [], ◌∷◌, ◌++◌, length, take, suc, zero, ap, ◌∙◌, arith}
 use Rattle.std.specs.Prelude.{sum_by}
 use Rattle.std.proofs.lemmas.List.{length-append, length-take-le}
+use Rattle.std.proofs.lemmas.List.Sums.{sum_by-cons}
 use Rattle.widl_text.specs.Limits.{most_files, most_file_bytes}
 use Rattle.widl_text.specs.declared.place.Place.{Place}
 use Rattle.widl_idl.specs.declared.tree.fragments.Fragment.{Fragment}
@@ -47,7 +48,8 @@ trees_tokens file (bytes ∷ texts) (tree ∷ trees) short are =
     let here : tree.token_count ≤ length bytes = tree_tokens file bytes tree are.0 in
     let size : length bytes ≤ 1048576 = short zero in
     let others : sum_by (λ (f : Fragment). f.token_count) trees ≤ most_file_bytes * length texts = trees_tokens (file + 1) texts trees (λ i. short (suc i)) are.1 in
-    omega (arith, here, size, others)
+    let sum : sum_by (λ (f : Fragment). f.token_count) (tree ∷ trees) ≡ tree.token_count + sum_by (λ (f : Fragment). f.token_count) trees = sum_by-cons (λ (f : Fragment). f.token_count) tree trees in
+    omega (arith, here, size, others, sum)
 
 -- 64 files of 2 ^ 20 bytes have at most 2 ^ 26 tokens
 pub tokens_fit : (texts : List (List ℕ)) (trees : List Fragment) → length texts ≤ most_files → AreShort texts → AreTreesOf texts trees
