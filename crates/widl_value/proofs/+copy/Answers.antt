@@ -1,4 +1,4 @@
-use Rattle.std.proofs.Common.{◌≡◌, ap, sym, ◌∙◌}
+use Rattle.std.proofs.Common.{ap, sym, ◌∙◌}
 use Rattle.widl_value.specs.IdlTerms.{DictionaryValue, idl_term, packed_members}
 use Rattle.widl_value.proofs.Dictionaries.{dictionary_term}
 use Rattle.widl_value.proofs.+copy.Goals as goal
