@@ -7,6 +7,7 @@ A generated file says on its first line which script of tools/ writes it. In a c
 files are taken away, the scripts are run, `rt fmt` puts what they wrote into layout, and each file must be there again
 as it stands here. So nobody edits a table by hand, and no script is left behind its tables.
 """
+import itertools
 import os
 import re
 import shutil
@@ -76,9 +77,9 @@ def difference(copy, path):
         return f"{path} isn't written by the script that it names"
     if here is None:
         return f"{path} is written by a script, and isn't there"
-    pairs = zip(here.splitlines(), made.splitlines())
-    line = next((number for number, (a, b) in enumerate(pairs, 1) if a != b), "the last")
-    return f"{path} differs from what its script writes, first at line {line}"
+    pairs = itertools.zip_longest(here.splitlines(), made.splitlines())
+    line = next((number for number, (a, b) in enumerate(pairs, 1) if a != b), "end")
+    return f"{path} differs from what its script writes: line {line}"
 
 
 def main():
