@@ -1,4 +1,4 @@
--- For proofs: how many actions and jobs a run goes through. It depends on where the run begins alone, so it serves as a measure.
+-- For proofs alone. how many actions and jobs a run goes through. It depends on where the run begins alone, so it serves as a measure.
 use Rattle.std.specs.Prelude.{◌≡◌, ℕ, zero, suc}
 use Rattle.widl_dialog.specs.Dialog.{Dialog, End, Say, Steps, bind}
 use Rattle.widl_dialog.specs.Runs.{Did, Went, Stops, Finish, Halted, on_did, Runs, Does}

@@ -1,4 +1,4 @@
--- For proofs: a place of a run that follows another one, and how many actions and jobs lie between them.
+-- For proofs alone. a place of a run that follows another one, and how many actions and jobs lie between them.
 use Rattle.std.specs.Prelude.{◌≡◌, ℕ, ◌+◌}
 use Rattle.widl_dialog.specs.Dialog.{Dialog}
 use Rattle.widl_dialog.specs.Runs.{Did, Finish, Does}

@@ -1,4 +1,4 @@
--- For proofs: jobs alone lead from steps to an ask or an end, if they only go to lower ones; and how many there are serves as a measure.
+-- For proofs alone. jobs alone lead from steps to an ask or an end, if they only go to lower ones; and how many there are serves as a measure.
 use Rattle.std.specs.Prelude.{ℕ, zero, suc}
 use Rattle.widl_dialog.specs.Dialog.{Dialog, End, Say, Steps, bind}
 use Rattle.widl_dialog.specs.Calm.{Below}
