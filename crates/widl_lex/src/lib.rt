@@ -16,6 +16,7 @@ pub use fault::LexFault;
 pub use law::each_text_has_one_cut;
 pub use token::{Token, TokenKind};
 pub use tokens::Tokens;
+pub use utf8::utf8_fault;
 
 #[cfg(test)]
 mod tests;

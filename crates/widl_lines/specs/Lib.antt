@@ -3,3 +3,12 @@ pub mod RuleNumbers
 pub mod Grammar
 pub mod Tables
 pub mod Owed
+pub mod Terminals
+pub mod Lines
+pub mod Words
+pub mod WordTerms
+pub mod Blocks
+pub mod Stacks
+pub mod Breaks
+pub mod TextBreaks
+pub mod LineTerms
