@@ -5,7 +5,7 @@ use Rattle.widl_lines.specs.declared.grammar.Terminal.{Terminal}
 use Rattle.widl_lines.specs.declared.word_form.WordForm.{WordForm}
 use Rattle.widl_lines.specs.declared.word_form.WordForm.TheVariants.{Bare, Text, RawText, Unclosed, Decimal, Missing}
 use Rattle.widl_lines.specs.declared.shape.Context.{Context}
-use Rattle.widl_lines.specs.declared.shape.Context.TheVariants.{First, InTarget, AfterSlot, AfterLiteral, Elsewhere}
+use Rattle.widl_lines.specs.declared.shape.Context.TheVariants.{First, InTarget, InStep, AfterSlot, AfterLiteral, Elsewhere}
 use Rattle.widl_lines.specs.declared.shape.Shape.{Shape}
 use Rattle.widl_lines.specs.Terminals.{terminal_of}
 
@@ -21,13 +21,13 @@ abbrev pub run_length : Bool → List ℕ → ℕ
 run_length dashes [] = 0
 run_length dashes (b ∷ text) = if is_run dashes b then suc (run_length dashes text) else 0
 
--- in a target and after the word `slot` a run may hold dashes
+-- in a target, and after the word `slot` of a step line, a run may hold dashes
 abbrev pub has_dashes : Context → Bool
 has_dashes InTarget = true
 has_dashes AfterSlot = true
 has_dashes _ = false
 
--- after the word `literal` texts and numbers are those of Web IDL
+-- after the word `literal` of a step line texts and numbers are those of Web IDL
 abbrev pub is_literal : Context → Bool
 is_literal AfterLiteral = true
 is_literal _ = false
@@ -66,14 +66,28 @@ shape_of c b text =
     else if is_literal c && (is_ascii_digit b || nat_eq b 45) then number text (decimal_length text)
     else bare c b text
 
-abbrev pub after_word : List ℕ → Context
-after_word word = if bytes_eq word (codes "slot") then AfterSlot else if bytes_eq word (codes "literal") then AfterLiteral else Elsewhere
+-- the first words of the step lines that name slots and literals
+abbrev pub begins_step : List ℕ → Bool
+begins_step word = bytes_eq word (codes "return") || bytes_eq word (codes "append") || bytes_eq word (codes "invoke")
+
+abbrev pub after_first : List ℕ → Context
+after_first word =
+    if bytes_eq word (codes "steps") then InTarget
+    else if bytes_eq word (codes "slot") then AfterSlot
+    else if begins_step word then InStep
+    else Elsewhere
+
+abbrev pub in_step : List ℕ → Context
+in_step word = if bytes_eq word (codes "slot") then AfterSlot else if bytes_eq word (codes "literal") then AfterLiteral else InStep
 
 -- where the next word stands
 abbrev pub next_context : Context → List ℕ → Context
+next_context First word = after_first word
 next_context InTarget word = InTarget
-next_context First word = if bytes_eq word (codes "steps") then InTarget else after_word word
-next_context _ word = after_word word
+next_context InStep word = in_step word
+next_context AfterSlot word = InStep
+next_context AfterLiteral word = InStep
+next_context Elsewhere word = Elsewhere
 
 -- a word of a line: its terminal, its form, the column of its first byte, and its bytes
 pub record Lexeme : Type 0 where
@@ -99,7 +113,7 @@ words_from c column zero (b ∷ text) =
     else
     let shape = shape_of c b text in
     let word = b ∷ take shape.more text in
-    lexeme shape.form column word ∷ missing shape.form (column + 1 + length text) ++ words_from (next_context c word) (column + 1) shape.more text
+    lexeme shape.form column word ∷ missing shape.form (column + 1 + shape.more) ++ words_from (next_context c word) (column + 1) shape.more text
 
 -- a line whose first byte is `#` has none
 unfoldable pub words_of : List ℕ → List Lexeme

@@ -2,7 +2,7 @@
 //! the words before it.
 
 ghost use Rattle.std.specs.Prelude.{◌≡◌, ◌≤◌, length, false, not, IfSome};
-ghost use Rattle.widl_lines.specs.Words.{is_blank, is_run, run_length, has_dashes, is_literal, text_length, decimal_length, quoted, number, bare, shape_of, after_word, next_context};
+ghost use Rattle.widl_lines.specs.Words.{is_blank, is_run, run_length, has_dashes, is_literal, text_length, decimal_length, quoted, number, bare, shape_of, begins_step, after_first, in_step, next_context};
 
 use crate::WordForm;
 
@@ -13,9 +13,11 @@ pub enum Context {
     First,
     /// Somewhere after a first word `steps`.
     InTarget,
-    /// Directly after the word `slot`.
+    /// Somewhere after a first word that begins step lines with slots and literals.
+    InStep,
+    /// Directly after the word `slot` of a step line.
     AfterSlot,
-    /// Directly after the word `literal`.
+    /// Directly after the word `literal` of a step line.
     AfterLiteral,
     /// Anywhere else.
     Elsewhere,
@@ -171,15 +173,36 @@ pub fn shape_of(context: Context, byte: u8, text: &[u8]) -> Shape
     }
 }
 
-fn after_word(word: &[u8]) -> Context
-    ensures { result ≡ after_word word.now }
+/// Whether the word is the first one of a step line that may name slots and literals.
+fn begins_step(word: &[u8]) -> bool
+    ensures { result ≡ begins_step word.now }
+{
+    word == b"return".as_slice() || word == b"append".as_slice() || word == b"invoke".as_slice()
+}
+
+fn after_first(word: &[u8]) -> Context
+    ensures { result ≡ after_first word.now }
+{
+    if word == b"steps".as_slice() {
+        Context::InTarget
+    } else if word == b"slot".as_slice() {
+        Context::AfterSlot
+    } else if begins_step(word) {
+        Context::InStep
+    } else {
+        Context::Elsewhere
+    }
+}
+
+fn in_step(word: &[u8]) -> Context
+    ensures { result ≡ in_step word.now }
 {
     if word == b"slot".as_slice() {
         Context::AfterSlot
     } else if word == b"literal".as_slice() {
         Context::AfterLiteral
     } else {
-        Context::Elsewhere
+        Context::InStep
     }
 }
 
@@ -188,14 +211,10 @@ pub fn next_context(context: Context, word: &[u8]) -> Context
     ensures { result ≡ next_context context word.now }
 {
     match context {
+        Context::First => after_first(word),
         Context::InTarget => Context::InTarget,
-        Context::First => {
-            if word == b"steps".as_slice() {
-                Context::InTarget
-            } else {
-                after_word(word)
-            }
-        }
-        _ => after_word(word),
+        Context::InStep => in_step(word),
+        Context::AfterSlot | Context::AfterLiteral => Context::InStep,
+        Context::Elsewhere => Context::Elsewhere,
     }
 }
