@@ -1,0 +1,9 @@
+pub mod BreakOrder
+pub mod LineBreaks
+pub mod FromMachine
+pub mod Stacking
+pub mod Cutting
+pub mod LineCuts
+pub mod Passing
+pub mod Leaving
+pub mod OneBreak

@@ -12,3 +12,4 @@ pub mod Stacks
 pub mod Breaks
 pub mod TextBreaks
 pub mod LineTerms
+pub mod Refusals

@@ -1,5 +1,5 @@
 -- The lines of a text, and the line and column of a byte.
-use Rattle.std.specs.Prelude.{ℕ, ◌+◌, List, [], ◌∷◌, take, count_by, nat_eq, if◌then◌else◌}
+use Rattle.std.specs.Prelude.{◌≡◌, ℕ, ◌+◌, ◌<◌, List, [], ◌∷◌, length, take, get_or, count_by, nat_eq, if◌then◌else◌}
 
 abbrev pub put_before : ℕ → List (List ℕ) → List (List ℕ)
 put_before b [] = (b ∷ []) ∷ []
@@ -37,3 +37,10 @@ column_after column (b ∷ text) = column_after (if nat_eq b 10 then 1 else colu
 -- the column of the byte at the place in its line, from 1
 abbrev pub column_number : List ℕ → ℕ → ℕ
 column_number text at = column_after 1 (take at text)
+
+-- only for contracts of code: no LF stands below the place, and the first LF stands at it
+abbrev pub NoLineEnd : List ℕ → ℕ → Type 0
+NoLineEnd text at = (k : ℕ) → k < at → get_or text k 0 ≡ 10 → ⊥
+
+abbrev pub IsLineEnd : List ℕ → ℕ → Type 0
+IsLineEnd text at = (at < length text) × (get_or text at 0 ≡ 10) × NoLineEnd text at

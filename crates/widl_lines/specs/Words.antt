@@ -115,7 +115,11 @@ words_from c column zero (b ∷ text) =
     let word = b ∷ take shape.more text in
     lexeme shape.form column word ∷ missing shape.form (column + 1 + shape.more) ++ words_from (next_context c word) (column + 1) shape.more text
 
--- a line whose first byte is `#` has none
+-- the line's first byte is `#`
+abbrev pub is_comment : List ℕ → Bool
+is_comment [] = false
+is_comment (b ∷ line) = nat_eq b 35
+
+-- a comment has none
 unfoldable pub words_of : List ℕ → List Lexeme
-words_of [] = []
-words_of (b ∷ line) = if nat_eq b 35 then [] else words_from First 1 0 (b ∷ line)
+words_of line = if is_comment line then [] else words_from First 1 0 line

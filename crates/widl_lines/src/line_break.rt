@@ -3,7 +3,7 @@
 ghost use Rattle.std.specs.Prelude.{◌≡◌, ℕ, ◌<◌, ◌≤◌, ◌+◌, List, length, get_or, map, IfOk, MatchOption, true, false};
 ghost use Rattle.widl_lines.specs.declared.words.Word.{Word};
 ghost use Rattle.widl_lines.specs.Grammar.{grammar};
-ghost use Rattle.widl_lines.specs.Words.{Lexeme};
+ghost use Rattle.widl_lines.specs.Terminals.{is_large};
 ghost use Rattle.widl_lines.specs.WordTerms.{lexeme_of};
 ghost use Rattle.widl_lines.specs.Stacks.{blocks_of};
 ghost use Rattle.widl_lines.specs.Blocks.{first_word, change_by};
@@ -83,13 +83,19 @@ fn broken(rule: LineRule, word: usize) -> Option<LineBreak>
     Some(LineBreak { rule, word })
 }
 
+fn is_large_word(word: &Word<'_>) -> bool
+    ensures { result ≡ is_large word.now.form word.now.text.now }
+{
+    is_large(word.form, word.text)
+}
+
 /// The number of the first too large word before a place.
 fn first_large(words: &[Word<'_>], limit: usize) -> Option<usize>
     requires { limit ≤ length words.now }
     ensures { MatchOption result (NoneLarge (map lexeme_of words.now) limit) (λ k. (k < limit) × (get_or (large_of (map lexeme_of words.now)) k false ≡ true) × NoneLarge (map lexeme_of words.now) k) }
 {
     for place in 0..limit {
-        if is_large(words[place].form, words[place].text) {
+        if is_large_word(&words[place]) {
             return Some(place);
         }
     }
@@ -97,7 +103,7 @@ fn first_large(words: &[Word<'_>], limit: usize) -> Option<usize>
 }
 
 fn terminals(alloc: Global, words: &[Word<'_>]) -> Result<Vec<Terminal>, AllocError>
-    ensures { IfOk result (λ terminals. terminals.items ≡ terminals_of (map lexeme_of words.now)) }
+    ensures { IfOk result (λ terminals. terminals.items ≡ map (λ word. word.terminal) words.now) }
 {
     words.iter().map(|word| word.terminal).collect(alloc)
 }

@@ -1,7 +1,7 @@
 //! The lines of a text.
 
 ghost use Rattle.std.specs.Prelude.{◌≡◌, ◌+◌, ◌^◌, ◌<◌, ◌≤◌, [], ◌∷◌, length, MatchOption};
-ghost use Rattle.widl_lines.specs.Lines.{lines_of, without_return, line_number, column_number};
+ghost use Rattle.widl_lines.specs.Lines.{lines_of, without_return, line_number, column_number, NoLineEnd, IsLineEnd};
 
 /// The first line of a text.
 #[derive(Clone, Copy, Debug)]
@@ -12,14 +12,32 @@ pub struct FirstLine<'a> {
     pub rest: Option<&'a [u8]>,
 }
 
+/// The piece without a CR at its end.
+#[tactic(auto, using(crate::proofs::LineCuts::return_left, crate::proofs::LineCuts::nothing_left, crate::proofs::LineCuts::empty_left))]
 fn without_return(piece: &[u8]) -> &[u8]
     ensures value { result.now ≡ without_return piece.now }
     ensures most { length result.now ≤ length piece.now }
 {
-    match piece {
-        [line @ .., b'\r'] => line,
-        _ => piece,
+    let count = piece.len();
+    if count == 0 {
+        return piece;
     }
+    if piece[count - 1] == b'\r' {
+        return &piece[..count - 1];
+    }
+    piece
+}
+
+/// The place of the first LF.
+fn line_end(text: &[u8]) -> Option<usize>
+    ensures { MatchOption result (NoLineEnd text.now (length text.now)) (λ at. IsLineEnd text.now at) }
+{
+    for (place, byte) in text.iter().enumerate() {
+        if *byte == b'\n' {
+            return Some(place);
+        }
+    }
+    None
 }
 
 /// The first line of a text. A CR directly before the LF does not count.
@@ -27,7 +45,7 @@ pub fn first_line<'a>(text: &'a [u8]) -> FirstLine<'a>
     ensures lines { MatchOption result.rest (lines_of text.now ≡ result.line.now ∷ []) (λ rest. lines_of text.now ≡ result.line.now ∷ lines_of rest.now) }
     ensures most { MatchOption result.rest (length result.line.now ≤ length text.now) (λ rest. length result.line.now + length rest.now < length text.now) }
 {
-    match text.iter().position(|byte| *byte == b'\n') {
+    match line_end(text) {
         None => FirstLine {
             line: text,
             rest: None,

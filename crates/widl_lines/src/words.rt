@@ -1,7 +1,7 @@
 //! The words of a line.
 
 ghost use Rattle.std.specs.Prelude.{◌≡◌, ◌+◌, ◌^◌, ◌<◌, ◌≤◌, [], ◌∷◌, ◌++◌, length, map, IfOk, OnOk};
-ghost use Rattle.widl_lines.specs.Words.{lexeme, missing, words_from, words_of};
+ghost use Rattle.widl_lines.specs.Words.{lexeme, missing, words_from, is_comment, words_of};
 ghost use Rattle.widl_lines.specs.declared.shape.Context.TheVariants.{First};
 ghost use Rattle.widl_lines.specs.WordTerms.{lexeme_of};
 
@@ -83,7 +83,17 @@ fn cut_words<'a>(
     Ok(words)
 }
 
+fn is_comment(line: &[u8]) -> bool
+    ensures { result ≡ is_comment line.now }
+{
+    match line {
+        [] => false,
+        [first, ..] => *first == b'#',
+    }
+}
+
 /// The words of a line. A line whose first byte is `#` has none.
+#[tactic(auto, using(crate::proofs::Cutting::comment, crate::proofs::Cutting::no_comment))]
 pub fn words_of<'a>(
     alloc: Global,
     line: &'a [u8],
@@ -91,7 +101,7 @@ pub fn words_of<'a>(
     requires { length line.now + 1 < 2 ^ 32 }
     ensures { IfOk result (λ words. map lexeme_of words.items ≡ words_of line.now) }
 {
-    if let [b'#', ..] = line {
+    if is_comment(line) {
         return Ok(Vec::new(alloc));
     }
     cut_words(alloc, line)
