@@ -1,7 +1,7 @@
 -- What written names, texts and values mean.
--- Source: Web IDL, "Names", "Constants" and the tokens of "IDL grammar".
-use Rattle.std.specs.Prelude.{ℕ, ◌-◌, ◌^◌, ◌||◌, min, nat_eq, if◌then◌else◌, List, [], ◌∷◌, ℤ, pos, neg_ℤ, chars, Option, option_map}
-use Rattle.std.specs.Str.Parse.{digits_value}
+-- Source: Web IDL, "Names" and "Constants".
+use Rattle.std.specs.Prelude.{ℕ, List, chars, Option, option_map}
+use Rattle.widl_text.specs.IntegerTokens.{integer_of}
 use Rattle.widl_text.specs.Utf16.{utf16_of}
 use Rattle.widl_idl.specs.declared.literal.Literal.{Literal}
 use Rattle.widl_idl.specs.declared.literal.Literal.TheVariants as the
@@ -14,21 +14,6 @@ units_of bytes = utf16_of (chars bytes)
 -- the units of a name
 abbrev pub name_units : PlainName → List ℕ
 name_units name = units_of name.text
-
--- what follows a leading 0: an `x` or `X` and hexadecimal digits, or octal digits
-abbrev pub behind_zero : List ℕ → ℕ
-behind_zero [] = 0
-behind_zero (c ∷ more) = if nat_eq c 0x78 || nat_eq c 0x58 then digits_value 16 more else digits_value 8 (c ∷ more)
-
--- the value of an integer token without its sign
-abbrev pub magnitude : List ℕ → ℕ
-magnitude [] = 0
-magnitude (c ∷ more) = if nat_eq c 0x30 then behind_zero more else digits_value 10 (c ∷ more)
-
--- the value of an integer token, or the nearest number of 128 bits
-abbrev pub integer_of : List ℕ → ℤ
-integer_of [] = pos 0
-integer_of (c ∷ more) = if nat_eq c 0x2D then neg_ℤ (pos (min (magnitude more) (2 ^ 127))) else pos (min (magnitude (c ∷ more)) (2 ^ 127 - 1))
 
 -- the value of a literal; a form that is left out stands as null
 abbrev pub value_meant : PlainValue → Literal

@@ -1,3 +1,7 @@
+pub mod Listing
+pub mod Splitting
+pub mod Digits
+pub mod Counting
 pub mod BreakOrder
 pub mod LineBreaks
 pub mod FromMachine

@@ -3,7 +3,13 @@ pub mod RuleNumbers
 pub mod Grammar
 pub mod Tables
 pub mod Owed
+pub mod ListedWords
+pub mod Slots
+pub mod Integers
+pub mod Texts
 pub mod Terminals
+pub mod Characters
+pub mod Spelled
 pub mod Lines
 pub mod Words
 pub mod WordTerms

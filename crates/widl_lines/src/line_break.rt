@@ -10,7 +10,7 @@ ghost use Rattle.widl_lines.specs.Blocks.{first_word, change_by};
 ghost use Rattle.widl_lines.specs.Breaks.{number, terminals_of, large_of, no_later, first_of, IsFirst, ByWords, ByBlocks, LineBreaks, NoneLarge};
 
 use crate::blocks::{Block, Change, change_of, innermost, is_opening, start_of};
-use crate::terminal::is_large;
+use crate::is_large;
 use crate::{Rule, Terminal, Word};
 use std::alloc::{AllocError, Global};
 use widl_predictive::{Fault, read_sentence};

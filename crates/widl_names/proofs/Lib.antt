@@ -12,4 +12,3 @@ pub mod KindNumbers
 pub mod TypeUses
 pub mod TypedefEnds
 pub mod TypedefLinks
-pub mod Saturated

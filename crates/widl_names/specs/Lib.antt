@@ -6,4 +6,3 @@ pub mod SaidNotes
 pub mod TypeUses
 pub mod TypedefEnds
 pub mod TypedefLinks
-pub mod WrittenIntegers

@@ -33,4 +33,4 @@ pub use resolver::Resolver;
 pub use steps::steps_of;
 pub use things::Thing;
 pub use typedef_links::{number_named, typedef_at, typedef_order};
-pub use written_values::{default_meant, integer_of, value_meant};
+pub use written_values::{default_meant, value_meant};

@@ -13,7 +13,8 @@ use Rattle.widl_idl.specs.MergingRules.{IsAt}
 use Rattle.widl_idl.specs.PlainTypes.{PlainAnnotated, PlainAttribute, PlainLiteral, PlainValue, NullValue, UndefinedValue, BooleanValue, IntegerValue, TextValue, EmptySequenceValue, EmptyDictionaryValue}
 use Rattle.widl_idl.specs.PlainTrees.{PlainArgument, PlainArgumentKind, RequiredArgument, OptionalArgument, VariadicArgument, PlainMember, PlainMemberKind, OperationMember, ConstructorMember, PlainDictionaryMember, PlainDefinition, PlainKind, InterfaceDefinition, MixinDefinition, NamespaceDefinition, DictionaryDefinition}
 use Rattle.widl_idl.specs.Terms.{TypeTerm, AnyType, BooleanType, IntegerType, StringType, EnumerationType, DictionaryType, SequenceType, NullableType}
-use Rattle.widl_idl.specs.WrittenLiterals.{integer_of, units_of}
+use Rattle.widl_text.specs.IntegerTokens.{integer_of}
+use Rattle.widl_idl.specs.WrittenLiterals.{units_of}
 use Rattle.widl_idl.specs.WrittenTypes.{meaning_with}
 use Rattle.widl_overload.specs.ArgumentRules.{argument_lists_of, is_required}
 use Rattle.widl_overload.specs.Dictionaries.{HasRequired}

@@ -18,7 +18,7 @@ use Rattle.widl_idl.specs.PlainTrees.{PlainMemberKind, ConstantMember, Attribute
 use Rattle.widl_idl.specs.Resolution.{Annotation, ClampTo, EnforceRange, LegacyNullToEmptyString, Note, Typedef, WrittenType, TypedefName, NullableOf}
 use Rattle.widl_idl.specs.Terms.{TypeTerm, TypeTerms, AnyType, BooleanType, IntegerType, StringType, DictionaryType, SequenceType, RecordType, PromiseType, NullableType, UnionType, no_types}
 use Rattle.widl_idl.specs.Things.{Thing, MemberThing}
-use Rattle.widl_idl.specs.WrittenLiterals.{integer_of}
+use Rattle.widl_text.specs.IntegerTokens.{integer_of}
 use Rattle.widl_idl.specs.WrittenTypes.{annotation_of, meaning_alone, meaning_of_annotated, notes_of, typedefs, written_type}
 use Rattle.widl_overload.specs.declared.type_role.TypeRole.{TypeRole}
 use Rattle.widl_overload.specs.declared.type_role.TypeRole.TheVariants as role

@@ -1,2 +1,3 @@
 pub mod Index
+pub mod IntegerTokens
 pub mod Utf16

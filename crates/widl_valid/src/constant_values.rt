@@ -12,7 +12,8 @@ ghost use Rattle.widl_overload.specs.TypeRules.{HasOtherValue, takes_value};
 use std::alloc::{AllocError, Global};
 use widl_idl::tree::{Constant, LiteralValue};
 use widl_idl::{IdlType, IntKind, Spot};
-use widl_names::{Resolver, integer_of};
+use widl_names::Resolver;
+use widl_text::integer_of;
 
 // The place of a constant's value that is not of its type, or not in its range.
 //

@@ -5,7 +5,7 @@ use Rattle.std.proofs.lemmas.Bool.{cases_lt}
 use Rattle.std.proofs.lemmas.Int.Digits.{digits_value_more}
 use Rattle.std.specs.Char.{digit_value}
 use Rattle.std.specs.Str.Parse.{digits_value}
-use Rattle.widl_names.specs.WrittenIntegers.{saturated}
+use Rattle.widl_text.specs.IntegerTokens.{saturated}
 
 -- a step of a number that stops at the greatest one is that of the number itself
 capped_step : (greatest radix number digit : ℕ) → 1 ≤ radix → min (min (min number greatest * radix) greatest + digit) greatest ≡ min (number * radix + digit) greatest

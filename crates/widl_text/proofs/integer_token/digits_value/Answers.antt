@@ -1,7 +1,7 @@
 use Rattle.std.proofs.Common.{arith, ap, ◌*◌, ◌∙◌}
-use Rattle.widl_names.specs.WrittenIntegers.{saturated}
-use Rattle.widl_names.proofs.Saturated.{saturated_more}
-use Rattle.widl_names.proofs.written_values.digits_value.Goals as goal
+use Rattle.widl_text.specs.IntegerTokens.{saturated}
+use Rattle.widl_text.proofs.Saturated.{saturated_more}
+use Rattle.widl_text.proofs.integer_token.digits_value.Goals as goal
 
 pub loop-digit-preserved : goal.loop-digit-preserved
 loop-digit-preserved c =
