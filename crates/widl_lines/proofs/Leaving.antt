@@ -1,6 +1,7 @@
 -- The lines that are left of a text, and what reading one of them does.
 use Rattle.std.proofs.Common.{◌≡◌, ℕ, zero, suc, ◌+◌, ◌<◌, ◌≤◌, Bool, true, false, List, [], ◌∷◌, ◌++◌, length, map, Option, Some, None, nat_eq, refl, sym, ◌∙◌, ap, subst, arith, append_assoc, append-nil, eq-eqb, Bor}
-use Rattle.std.specs.Prelude.{MatchOption}
+use Rattle.std.specs.Prelude.{MatchOption, is_some}
+use Rattle.widl_lines.specs.declared.blocks.Change.{Change}
 use Rattle.widl_lines.specs.declared.blocks.Block.{Block}
 use Rattle.widl_lines.specs.declared.line_break.LineBreak.{LineBreak}
 use Rattle.widl_lines.specs.declared.script_place.ScriptPlace.{ScriptPlace}
@@ -10,7 +11,7 @@ use Rattle.widl_lines.specs.Lines.{lines_of}
 use Rattle.widl_lines.specs.Words.{Lexeme, words_of}
 use Rattle.widl_lines.specs.WordTerms.{lexeme_of}
 use Rattle.widl_lines.specs.Stacks.{blocks_of}
-use Rattle.widl_lines.specs.Blocks.{innermost, blocks_after}
+use Rattle.widl_lines.specs.Blocks.{innermost, blocks_after, change_by, after_change}
 use Rattle.widl_lines.specs.Breaks.{LineBreaks}
 use Rattle.widl_lines.specs.TextBreaks.{Line, numbered, place_in, TextBreak, lines_from, script_lines, placed}
 use Rattle.widl_lines.specs.LineTerms.{line_of, State, Reads, IsRead}
@@ -59,6 +60,24 @@ mapped (x ∷ lines) line = ap (λ y. line_of x ∷ y) (mapped lines line)
 is_none : (found : Option LineBreak) → ((b : LineBreak) → found ≡ Some b → ⊥) → found ≡ None
 is_none None h = refl
 is_none (Some b) h = absurd (h b refl)
+
+-- a break was found, or none
+pub told : (found : Option LineBreak) (P : Type 0) → is_some found ≡ true → MatchOption found P (λ b. Unit {0})
+told None P e = cc
+told (Some b) P e = tt
+
+none_of : (found : Option LineBreak) → is_some found ≡ false → found ≡ None
+none_of None e = refl
+none_of (Some b) e = cc
+
+pub seen_broken : (old seen : List Block) (words : List Lexeme) (found : Option LineBreak) → seen ≡ old → LineBreaks (blocks_of seen) words found → LineBreaks (blocks_of old) words found
+seen_broken old seen words found e h = subst (λ x. LineBreaks (blocks_of x) words found) e h
+
+pub none_broken : (old seen : List Block) (words : List Lexeme) (found : Option LineBreak) → seen ≡ old → is_some found ≡ false → LineBreaks (blocks_of seen) words found → LineBreaks (blocks_of old) words None
+none_broken old seen words found e none h = subst (LineBreaks (blocks_of old) words) (none_of found none) (seen_broken old seen words found e h)
+
+pub blocks_changed : (old new seen : List Block) (words : List Lexeme) (change : Option Change) → seen ≡ old → change ≡ change_by words (blocks_of seen) → blocks_of new ≡ after_change change (blocks_of old) → blocks_of new ≡ blocks_after words (blocks_of old)
+blocks_changed old new seen words change e f h = h ∙ ap (λ x. after_change x (blocks_of old)) (f ∙ ap (λ x. change_by words (blocks_of x)) e)
 
 -- a line that breaks something
 pub refused_read : (state : State) (number end n : ℕ) (items one other : List Word) (spec : List Lexeme) (found : Option LineBreak) (b : LineBreak) (place : ScriptPlace) → map lexeme_of items ≡ spec → n ≡ length items → false ≡ nat_eq n 0 → one ≡ items → other ≡ items → LineBreaks state.blocks (map lexeme_of one) found → found ≡ Some b → place ≡ place_in (record { number = number; end = end; words = map lexeme_of other }) b → (lines : List Line) → TextBreak state.last state.blocks (numbered number end spec ++ lines) (Some place)

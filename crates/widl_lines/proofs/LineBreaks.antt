@@ -1,5 +1,6 @@
 -- The first rule that a line breaks, from what the machine answers.
 use Rattle.std.proofs.Common.{◌≡◌, ℕ, zero, suc, ◌+◌, ◌<◌, ◌≤◌, ◌⊎◌, inl, inr, Bool, true, false, List, [], ◌∷◌, length, map, get_or, Option, Some, None, refl, sym, ◌∙◌, ap, subst, arith, lit≤}
+use Rattle.std.specs.Prelude.{is_some, not}
 use Rattle.widl_predictive.specs.Grammar.{SyntaxPlace, DeepPlace, IsFault, IsAccepted}
 use Rattle.widl_predictive.specs.declared.fault.Fault.{Fault}
 use Rattle.widl_predictive.specs.declared.fault.Fault.TheVariants.{Syntax, TooDeep as Deep}
@@ -9,6 +10,7 @@ use Rattle.widl_lines.specs.declared.line_break.LineRule.{LineRule}
 use Rattle.widl_lines.specs.declared.line_break.LineRule.TheVariants.{NoForm, TooDeep, TooLarge, NoBlock}
 use Rattle.widl_lines.specs.declared.line_break.LineBreak.{LineBreak}
 use Rattle.widl_lines.specs.declared.blocks.Block.{Block}
+use Rattle.widl_lines.specs.declared.blocks.Change.{Change}
 use Rattle.widl_lines.specs.Grammar.{grammar}
 use Rattle.widl_lines.specs.Words.{Lexeme}
 use Rattle.widl_lines.specs.Blocks.{innermost, start_of, change_by, is_opening}
@@ -141,3 +143,10 @@ module _ (blocks : List Block) (words : List Lexeme) where
       nothing TooDeep j h = shallow h.1 h.2
       nothing TooLarge j h = h
       nothing NoBlock j h = there h.1
+
+-- what the tests of the code rule out
+pub never_none : (change other : Option Change) (flag : Bool) → change ≡ other → is_some change ≡ not flag → flag ≡ false → other ≡ None → ⊥
+never_none change other flag e f g h = let x : is_some change ≡ false = ap is_some (e ∙ h) in let y : is_some change ≡ true = f ∙ ap not g in let z : false ≡ true = sym x ∙ y in cc
+
+pub not_opening : (opens result : Bool) → result ≡ opens → opens ≡ true → result ≡ false → ⊥
+not_opening opens result e f g = let z : true ≡ false = sym (e ∙ f) ∙ g in cc

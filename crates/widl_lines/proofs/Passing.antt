@@ -1,6 +1,8 @@
 -- One line further in a script.
 use Rattle.std.proofs.Common.{◌≡◌, ℕ, zero, suc, ◌+◌, ◌<◌, ◌≤◌, Bool, true, false, List, [], ◌∷◌, ◌++◌, length, map, Option, Some, None, refl, sym, ◌∙◌, ap, subst, arith, append_assoc, append-nil}
-use Rattle.std.specs.Prelude.{IsUtf8, MatchOption, option_map, unwrap_or}
+use Rattle.std.specs.Prelude.{IsUtf8, Result, IfErr}
+use Rattle.std.specs.Result.{IsErrAnd}
+use Rattle.std.proofs.lemmas.Result.{err_from_is_err_and}
 use Rattle.widl_lex.specs.Utf8.{IsUtf8Fault}
 use Rattle.widl_lines.specs.declared.blocks.Block.{Block}
 use Rattle.widl_lines.specs.declared.line_break.LineBreak.{LineBreak}
@@ -14,6 +16,10 @@ use Rattle.widl_lines.specs.Breaks.{LineBreaks}
 use Rattle.widl_lines.specs.TextBreaks.{Line, numbered, place_in, TextBreak, here, later, unclosed, closed, unclosed_at, lines_from, script_lines, PlacedLine, placed, ScriptBreak, not_utf8, in_lines, IsScript, utf8_place}
 use Rattle.widl_lines.specs.LineTerms.{State, Reads, RefusedIn, IsRead, IsRefusedBy}
 use Rattle.widl_lines.specs.Refusals.{IsRefusal}
+
+-- an error that is handed on as it is
+pub handed_on : {T E : Type 0} (P : E → Type 0) (r : Result T E) (fault : E) → IsErrAnd r (λ y. y ≡ fault) → P fault → IfErr r P
+handed_on P r fault h p = let q = err_from_is_err_and r h in subst (λ x. IfErr x P) (sym q.1) (subst P (sym q.2) p)
 
 -- a line that breaks something
 pub refused_line : (state : State) (number end : ℕ) (words spec : List Lexeme) (b : LineBreak) (place : ScriptPlace) → words ≡ spec → 0 < length words → LineBreaks state.blocks words (Some b) → place ≡ place_in (record { number = number; end = end; words = words }) b → (lines : List Line) → TextBreak state.last state.blocks (numbered number end spec ++ lines) (Some place)

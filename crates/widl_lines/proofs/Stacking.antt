@@ -1,5 +1,5 @@
 -- A stack of blocks, and its innermost first.
-use Rattle.std.proofs.Common.{◌≡◌, ℕ, zero, suc, ◌+◌, ◌-◌, ◌<◌, List, [], ◌∷◌, ◌++◌, length, get_or, Option, Some, None, refl, sym, ◌∙◌, ap, subst, arith, Bool, true, false}
+use Rattle.std.proofs.Common.{◌≡◌, ℕ, zero, suc, ◌+◌, ◌-◌, ◌<◌, List, [], ◌∷◌, ◌++◌, length, get_or, Option, Some, None, refl, sym, ◌∙◌, ap, subst, arith, Bool, true, false, nat_eq, eqb-true, eq-eqb}
 use Rattle.std.specs.Prelude.{MatchOption, option_to_list, slice_get}
 use Rattle.std.proofs.lemmas.Option.{slice_get-get_or}
 use Rattle.widl_lines.specs.declared.blocks.Block.{Block}
@@ -41,3 +41,9 @@ last_block (x ∷ stack) = slice_get-get_or (x ∷ stack) (suc (length stack) - 
 pub none_open : (stack : List Block) → length stack ≡ 0 → blocks_of stack ≡ []
 none_open [] e = refl
 none_open (x ∷ stack) e = absurd (omega arith)
+
+pub closed_stack : (stack : List Block) (n : ℕ) → n ≡ length stack → true ≡ nat_eq n 0 → blocks_of stack ≡ []
+closed_stack stack n count empty = none_open stack (sym count ∙ eqb-true n 0 (sym empty))
+
+pub open_stack : (stack : List Block) (n : ℕ) → n ≡ length stack → false ≡ nat_eq n 0 → blocks_of stack ≡ [] → ⊥
+open_stack stack n count some none = let l : length stack ≡ 0 = sym (same_length stack) ∙ ap length none in let z : nat_eq n 0 ≡ true = eq-eqb n 0 (count ∙ l) in let e : false ≡ true = some ∙ z in cc

@@ -93,7 +93,7 @@ fn first_words_that_fit_no_form(rt: HostRuntime) -> Result<(), Fail> {
 }
 
 /// The head, the body that many times, and the tail.
-fn repeated(alloc: Global, head: &[u8], body: &[u8], count: usize, tail: &[u8]) -> Result<Vec<u8>, AllocError> {
+fn script_of(alloc: Global, head: &[u8], body: &[u8], count: usize, tail: &[u8]) -> Result<Vec<u8>, AllocError> {
     let mut script = Vec::new(alloc);
     script.extend_from_slice(head)?;
     for _ in 0..count {
@@ -103,6 +103,7 @@ fn repeated(alloc: Global, head: &[u8], body: &[u8], count: usize, tail: &[u8]) 
     Ok(script)
 }
 
+#[derive(Drop)]
 struct Repeated {
     head: &'static [u8],
     body: &'static [u8],
@@ -123,7 +124,7 @@ fn row(head: &'static [u8], body: &'static [u8], count: usize, tail: &'static [u
 
 fn check_repeated(rt: &impl Abort, alloc: Global, rows: &[Repeated]) -> Result<(), AllocError> {
     for row in rows {
-        let script = repeated(alloc, row.head, row.body, row.count, row.tail)?;
+        let script = script_of(alloc, row.head, row.body, row.count, row.tail)?;
         let found = answer(alloc, &script)?;
         assert_eq!(rt; found.as_str(), row.wanted);
     }
@@ -147,25 +148,41 @@ fn limits(rt: HostRuntime) -> Result<(), Fail> {
 }
 
 #[test]
-fn hostile_scripts(rt: HostRuntime) -> Result<(), Fail> {
+fn hostile_lines(rt: HostRuntime) -> Result<(), Fail> {
     let rows = [
         row(b"", b"do 1\n", 209_715, b"", "fits 209715"),
         row(b"", b"\n", 1_048_576, b"", "fits 0"),
         row(b"", b"\r", 1_048_576, b"", "fits 0"),
         row(b"", b" ", 1_048_576, b"", "fits 0"),
         row(b"", b"#", 1_048_576, b"", "fits 0"),
+        row(b"if 1 is 1\n", b"do 1\n", 200_000, b"end", "fits 200002"),
+    ];
+    check_repeated(&rt, rt.alloc(), &rows)?;
+    Ok(())
+}
+
+#[test]
+fn hostile_words(rt: HostRuntime) -> Result<(), Fail> {
+    let rows = [
         row(b"", b"a", 1_048_576, b"", "S2 1 1"),
         row(b"", b"-", 1_048_576, b"", "S2 1 1"),
         row(b"", b"@", 1_048_576, b"", "S2 1 1"),
         row(b"", b"\"", 1_048_576, b"", "S2 1 1"),
         row(b"", b"\"a\"", 349_525, b"", "S2 1 1"),
         row(b"", b"(", 1_048_576, b"", "S2 1 1"),
+    ];
+    check_repeated(&rt, rt.alloc(), &rows)?;
+    Ok(())
+}
+
+#[test]
+fn hostile_expressions(rt: HostRuntime) -> Result<(), Fail> {
+    let rows = [
         row(b"do f(1", b",1", 524_284, b")", "fits 1"),
         row(b"do o", b".a", 524_286, b"", "fits 1"),
         row(b"do o", b"[1]", 349_524, b"", "fits 1"),
         row(b"do ", b"9", 1_048_573, b"", "S4 1 4"),
         row(b"do \"", b"\\u0000", 174_761, b"\"", "S4 1 4"),
-        row(b"if 1 is 1\n", b"do 1\n", 200_000, b"end", "fits 200002"),
     ];
     check_repeated(&rt, rt.alloc(), &rows)?;
     Ok(())

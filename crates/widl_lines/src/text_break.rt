@@ -1,16 +1,25 @@
 //! One line further in a script: what it breaks first, or the blocks that it leaves open.
 
-ghost use Rattle.std.specs.Prelude.{◌≡◌, map, get_or, IfOk, MatchOption, Some, None};
+ghost use Rattle.std.specs.Prelude.{◌≡◌, map, IfOk, OnOk, MatchOption};
 ghost use Rattle.widl_lines.specs.WordTerms.{lexeme_of};
 ghost use Rattle.widl_lines.specs.Stacks.{blocks_of};
-ghost use Rattle.widl_lines.specs.Blocks.{blocks_after};
+ghost use Rattle.widl_lines.specs.Blocks.{after_change, blocks_after};
 ghost use Rattle.widl_lines.specs.Breaks.{LineBreaks};
 ghost use Rattle.widl_lines.specs.TextBreaks.{column_of};
 
 use crate::Word;
-use crate::blocks::{Block, apply};
+use crate::blocks::{Block, Change, apply};
 use crate::line_break::{LineBreak, change_by, line_break};
 use std::alloc::{AllocError, Global};
+
+fn apply_change(blocks: &mut Vec<Block>, change: Option<Change>) -> Result<(), AllocError>
+    ensures { OnOk result (blocks_of blocks.new.items ≡ after_change change (blocks_of blocks.old.items)) }
+{
+    match change {
+        Some(change) => apply(blocks, change),
+        None => Ok(()),
+    }
+}
 
 /// What a line breaks first; where it breaks nothing, the open blocks become those after it.
 pub fn pass_line(
@@ -25,9 +34,8 @@ pub fn pass_line(
     if found.is_some() {
         return Ok(found);
     }
-    if let Some(change) = change_by(words, blocks) {
-        apply(blocks, change)?;
-    }
+    let change = change_by(words, blocks);
+    apply_change(blocks, change)?;
     Ok(None)
 }
 

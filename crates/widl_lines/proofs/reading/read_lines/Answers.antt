@@ -1,9 +1,9 @@
 use Rattle.std.proofs.Common.{◌+◌, ◌≡◌, ◌<◌, ◌++◌, arith, length}
 use Rattle.widl_lines.specs.Words.{words_of}
 use Rattle.widl_lines.specs.TextBreaks.{numbered}
-use Rattle.widl_lines.specs.LineTerms.{state_of}
+use Rattle.widl_lines.specs.LineTerms.{state_of, IsRefusedBy}
 use Rattle.widl_lines.proofs.Leaving.{left_lines, left_bytes, lines_next, bytes_next, line_short, all_read}
-use Rattle.widl_lines.proofs.Passing.{refused_by, breaks_further, placed_further}
+use Rattle.widl_lines.proofs.Passing.{handed_on, refused_by, breaks_further, placed_further}
 use Rattle.widl_lines.proofs.reading.read_lines.Goals as goal
 
 pub loop-left-preserved : goal.loop-left-preserved
@@ -25,7 +25,7 @@ read_line-requires c = omega (arith, c.requires, c.loop-left.invariant.within, l
 pub returns-in_err-read_line-clause-refused : goal.returns-in_err-read_line-clause-refused
 returns-in_err-read_line-clause-refused c =
     let next = lines_next (c.loop-left.number + 1) c.loop-left.left c.first_line-first.result.rest c.in-Some.rest c.first_line-first.result.line.now c.in-Some.is c.first_line-first.ensures.lines in
-    refused_by c.args.text.now (state_of c.loop-left.reading) _ _ _ _ next c.loop-left.invariant.breaks c.in_err-read_line.ensures.refused
+    handed_on (IsRefusedBy c.args.text.now) c.from_residual.result c.in_err-read_line.field-0.0 c.from_residual.ensures.1 (refused_by c.args.text.now (state_of c.loop-left.reading) _ _ _ _ next c.loop-left.invariant.breaks c.in_err-read_line.ensures.refused)
 
 pub returns-clause-ok : goal.returns-clause-ok
-returns-clause-ok c = ?
+returns-clause-ok c = all_read c.args.text.now (state_of c.loop-left.reading) (c.loop-left.number + 1) c.loop-left.left c.in_default.is c.loop-left.invariant.breaks c.loop-left.invariant.placed_are
