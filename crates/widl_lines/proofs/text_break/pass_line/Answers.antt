@@ -1,4 +1,5 @@
-use Rattle.std.proofs.Common.{sym}
+use Rattle.std.proofs.Common.{sym, map}
+use Rattle.widl_lines.specs.WordTerms.{lexeme_of}
 use Rattle.widl_lines.proofs.Leaving.{told, seen_broken, none_broken, blocks_changed}
 use Rattle.widl_lines.proofs.text_break.pass_line.Goals as goal
 
@@ -12,4 +13,4 @@ pub returns-clause-broken : goal.returns-clause-broken
 returns-clause-broken c = none_broken c.args.blocks.now.items c.deref.result.now _ c.in_ok-found.found c.deref.ensures.value (sym c.if-is_some.ensures) c.in_ok-found.ensures
 
 pub returns-clause-blocks : goal.returns-clause-blocks
-returns-clause-blocks c = blocks_changed c.args.blocks.now.items c.apply_change.new.blocks.items c.deref-2.result.now _ c.change_by-change.result c.deref-2.ensures.value c.change_by-change.ensures c.in_ok-apply_change.ensures
+returns-clause-blocks c = blocks_changed c.args.blocks.now.items c.apply_change.new.blocks.items c.deref-2.result.now (map lexeme_of c.args.words.now) c.change_by-change.result c.deref-2.ensures.value c.change_by-change.ensures c.in_ok-apply_change.ensures
