@@ -48,7 +48,6 @@ word_further line text word others c next column b shape old new plain shape_is 
         ∙ ap (λ x. lexeme shape.form column word ∷ missing shape.form (column + length word) ++ words_from x (column + length word) 0 (drop shape.more text)) (sym next_is)
         ∙ ap (λ x. lexeme shape.form column word ∷ missing shape.form (column + length word) ++ words_from next (column + length word) 0 x) (sym others_are)
 
-
 take_enough : (xs : List ℕ) (k : ℕ) → length xs ≤ k → take k xs ≡ xs
 take_enough [] zero le = refl
 take_enough [] (suc k) le = refl

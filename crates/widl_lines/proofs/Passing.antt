@@ -36,10 +36,10 @@ passed_line old new number end inside (word ∷ words) spec same some none insid
     (record {
       breaks = λ more p h. later none (subst (λ x. TextBreak x (blocks_after (word ∷ words) old.blocks) more p) last (subst (λ x. TextBreak new.last x more p) blocks h));
       placed_are = λ more.
-        ap (λ x. old.lines ++ record { inside = x; line = record { number = number; end = end; words = word ∷ words } } ∷ placed (blocks_after (word ∷ words) old.blocks) more) (sym inside_is)
-        ∙ ap (λ x. old.lines ++ record { inside = inside; line = record { number = number; end = end; words = word ∷ words } } ∷ placed x more) (sym blocks)
-        ∙ sym (append_assoc old.lines _ _)
-        ∙ ap (λ x. x ++ placed new.blocks more) (sym lines);
+          ap (λ x. old.lines ++ record { inside = x; line = record { number = number; end = end; words = word ∷ words } } ∷ placed (blocks_after (word ∷ words) old.blocks) more) (sym inside_is)
+          ∙ ap (λ x. old.lines ++ record { inside = inside; line = record { number = number; end = end; words = word ∷ words } } ∷ placed x more) (sym blocks)
+          ∙ sym (append_assoc old.lines _ _)
+          ∙ ap (λ x. x ++ placed new.blocks more) (sym lines);
     })
 
 -- no words, no line

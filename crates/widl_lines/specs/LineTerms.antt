@@ -20,7 +20,7 @@ pub record State : Type 0 where
   pub lines : List PlacedLine
 
 abbrev pub state_of : Reading → State
-state_of reading = record { last = reading.last; blocks = blocks_of reading.blocks.items; lines = map line_of reading.lines.items }
+state_of reading = record { last = reading.last; blocks = blocks_of reading.open_blocks.items; lines = map line_of reading.lines.items }
 
 -- from one state to another lines were read that break nothing
 pub record Reads (old new : State) (read : List Line) : Type 0 where

@@ -10,8 +10,7 @@ ghost use Rattle.widl_lines.specs.Blocks.{first_word, change_by};
 ghost use Rattle.widl_lines.specs.Breaks.{number, terminals_of, large_of, no_later, first_of, IsFirst, ByWords, ByBlocks, LineBreaks, NoneLarge};
 
 use crate::blocks::{Block, Change, change_of, innermost, is_opening, start_of};
-use crate::is_large;
-use crate::{Rule, Terminal, Word};
+use crate::{Rule, Terminal, Word, is_large};
 use std::alloc::{AllocError, Global};
 use widl_predictive::{Fault, read_sentence};
 
@@ -67,13 +66,7 @@ fn first_of(a: Option<LineBreak>, b: Option<LineBreak>) -> Option<LineBreak>
     match (a, b) {
         (None, b) => b,
         (Some(a), None) => Some(a),
-        (Some(a), Some(b)) => {
-            if no_later(a, b) {
-                Some(a)
-            } else {
-                Some(b)
-            }
-        }
+        (Some(a), Some(b)) => { if no_later(a, b) { Some(a) } else { Some(b) } }
     }
 }
 
@@ -109,7 +102,11 @@ fn terminals(alloc: Global, words: &[Word<'_>]) -> Result<Vec<Terminal>, AllocEr
 }
 
 /// The first rule that a line's words break by themselves.
-fn break_by_words(alloc: Global, start: Rule, words: &[Word<'_>]) -> Result<Option<LineBreak>, AllocError>
+fn break_by_words(
+    alloc: Global,
+    start: Rule,
+    words: &[Word<'_>],
+) -> Result<Option<LineBreak>, AllocError>
     requires { grammar.starts start ≡ true }
     ensures { IfOk result (IsFirst (ByWords start (map lexeme_of words.now))) }
 {
@@ -163,7 +160,11 @@ fn break_by_blocks(blocks: &[Block], words: &[Word<'_>]) -> Option<LineBreak>
 
 /// The first rule that a line breaks: by word, then rule. Of these are a word that no line of a form goes on
 /// with, brackets of level 33, a 33rd block, a too large integer or text, and a block that isn't there.
-pub fn line_break(alloc: Global, blocks: &[Block], words: &[Word<'_>]) -> Result<Option<LineBreak>, AllocError>
+pub fn line_break(
+    alloc: Global,
+    blocks: &[Block],
+    words: &[Word<'_>],
+) -> Result<Option<LineBreak>, AllocError>
     ensures { IfOk result (LineBreaks (blocks_of blocks.now) (map lexeme_of words.now)) }
 {
     let own = break_by_words(alloc, start_of(innermost(blocks)), words)?;

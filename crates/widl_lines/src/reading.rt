@@ -31,7 +31,7 @@ pub struct LineWords<'a> {
 #[derive(Drop)]
 pub struct Reading<'a> {
     /// The open blocks, the innermost last.
-    pub blocks: Vec<Block>,
+    pub open_blocks: Vec<Block>,
     /// The lines that have words.
     pub lines: Vec<LineWords<'a>>,
     /// The number of the last of them.
@@ -60,8 +60,8 @@ impl<'a> Reading<'a> {
             return Ok(());
         }
         let end = line.len() as u32 + 1;
-        let inside = innermost(&self.blocks);
-        if let Some(found) = pass_line(alloc, &mut self.blocks, &words)? {
+        let inside = innermost(&self.open_blocks);
+        if let Some(found) = pass_line(alloc, &mut self.open_blocks, &words)? {
             return Err(ScriptFault::Refused(place_in(number, end, &words, found)));
         }
         self.last = number;
@@ -82,7 +82,7 @@ pub fn read_lines<'a>(alloc: Global, text: &'a [u8]) -> Result<Reading<'a>, Scri
     ensures refused { IfErr result (IsRefusedBy text.now) }
 {
     let mut reading = Reading {
-        blocks: Vec::new(alloc),
+        open_blocks: Vec::new(alloc),
         lines: Vec::new(alloc),
         last: 1,
     };

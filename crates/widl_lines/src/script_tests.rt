@@ -70,7 +70,10 @@ fn first_words_that_fit_no_form(rt: HostRuntime) -> Result<(), Fail> {
         (b"steps N.f#0\ndo 1\nend", "S2 2 1"),
         (b"steps N.f#0-1\nend", "S2 1 11"),
         (b"steps _N.f#0\nend", "S2 1 7"),
-        (b"steps N-a . f-b # 0\nappend arg 0 literal \"\\q\"\nreturn slot a-b\nend", "fits 4"),
+        (
+            b"steps N-a . f-b # 0\nappend arg 0 literal \"\\q\"\nreturn slot a-b\nend",
+            "fits 4",
+        ),
         (b"steps N.f#0\nreturn literal 1.5\nend", "S2 2 16"),
         (b"steps N.f#0\nreturn literal 0x1F.5\nend", "S2 2 20"),
         (b"steps N.f#0\nreturn literal true.5\nend", "S2 2 20"),
@@ -86,14 +89,23 @@ fn first_words_that_fit_no_form(rt: HostRuntime) -> Result<(), Fail> {
     let more: [(&[u8], &str); 3] = [
         (b"steps N.f#0\ncatch e", "S6 2 1"),
         (b"if 1 is 1\nelse\nelse", "S6 3 1"),
-        (b"function f(a, b)\ntry\nreturn a\ncatch e\nif e is 1\nelse\nend\nend\nend", "fits 9"),
+        (
+            b"function f(a, b)\ntry\nreturn a\ncatch e\nif e is 1\nelse\nend\nend\nend",
+            "fits 9",
+        ),
     ];
     check(&rt, rt.alloc(), &more)?;
     Ok(())
 }
 
 /// The head, the body that many times, and the tail.
-fn script_of(alloc: Global, head: &[u8], body: &[u8], count: usize, tail: &[u8]) -> Result<Vec<u8>, AllocError> {
+fn script_of(
+    alloc: Global,
+    head: &[u8],
+    body: &[u8],
+    count: usize,
+    tail: &[u8],
+) -> Result<Vec<u8>, AllocError> {
     let mut script = Vec::new(alloc);
     script.extend_from_slice(head)?;
     for _ in 0..count {
@@ -112,7 +124,13 @@ struct Repeated {
     wanted: &'static str,
 }
 
-fn row(head: &'static [u8], body: &'static [u8], count: usize, tail: &'static [u8], wanted: &'static str) -> Repeated {
+fn row(
+    head: &'static [u8],
+    body: &'static [u8],
+    count: usize,
+    tail: &'static [u8],
+    wanted: &'static str,
+) -> Repeated {
     Repeated {
         head,
         body,

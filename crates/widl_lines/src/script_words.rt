@@ -38,7 +38,7 @@ fn read_text<'a>(alloc: Global, text: &'a [u8]) -> Result<ScriptWords<'a>, Scrip
     ensures refused { IfErr result (IsRefusal text.now) }
 {
     let reading = read_lines(alloc, text)?;
-    if reading.blocks.is_empty() {
+    if reading.open_blocks.is_empty() {
         return Ok(ScriptWords {
             lines: reading.lines,
         });

@@ -121,7 +121,11 @@ fn quoted(context: Context, text: &[u8]) -> Shape
             more: text.len(),
         },
         Some(more) => {
-            let form = if is_literal(context) { WordForm::RawText } else { WordForm::Text };
+            let form = if is_literal(context) {
+                WordForm::RawText
+            } else {
+                WordForm::Text
+            };
             Shape { form, more }
         }
     }

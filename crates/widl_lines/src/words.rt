@@ -56,10 +56,7 @@ fn push_cut<'a>(
     Ok(())
 }
 
-fn cut_words<'a>(
-    alloc: Global,
-    line: &'a [u8],
-) -> Result<Vec<Word<'a>>, AllocFailed<Word<'a>>>
+fn cut_words<'a>(alloc: Global, line: &'a [u8]) -> Result<Vec<Word<'a>>, AllocFailed<Word<'a>>>
     requires { length line.now + 1 < 2 ^ 32 }
     ensures { IfOk result (λ words. map lexeme_of words.items ≡ words_from First 1 0 line.now) }
 {
@@ -94,10 +91,7 @@ fn is_comment(line: &[u8]) -> bool
 
 /// The words of a line. A line whose first byte is `#` has none.
 #[tactic(auto, using(crate::proofs::Cutting::comment, crate::proofs::Cutting::no_comment))]
-pub fn words_of<'a>(
-    alloc: Global,
-    line: &'a [u8],
-) -> Result<Vec<Word<'a>>, AllocFailed<Word<'a>>>
+pub fn words_of<'a>(alloc: Global, line: &'a [u8]) -> Result<Vec<Word<'a>>, AllocFailed<Word<'a>>>
     requires { length line.now + 1 < 2 ^ 32 }
     ensures { IfOk result (λ words. map lexeme_of words.items ≡ words_of line.now) }
 {
