@@ -1,5 +1,5 @@
 -- The order of breaks in a line, and the first of two sorts of breaks.
-use Rattle.std.proofs.Common.{◌≡◌, ℕ, ◌<◌, ◌≤◌, ◌⊎◌, inl, inr, Bool, true, false, cond, ◌||◌, ◌&&◌, nat_lt, nat_eq, Option, Some, None, refl, sym, ◌∙◌, ap, subst, arith, ltb-true, ltb-false, lt-ltb, eqb-true, eq-eqb}
+use Rattle.std.proofs.Common.{◌≡◌, ℕ, ◌<◌, ◌≤◌, ◌⊎◌, inl, inr, Bool, true, false, cond, ◌||◌, ◌&&◌, nat_lt, nat_eq, Option, Some, None, refl, sym, ◌∙◌, ap, arith, ltb-true, ltb-false, lt-ltb, eqb-true, eq-eqb}
 use Rattle.widl_lines.specs.declared.line_break.LineRule.{LineRule}
 use Rattle.widl_lines.specs.declared.line_break.LineRule.TheVariants.{NoForm, TooDeep, TooLarge, NoBlock}
 use Rattle.widl_lines.specs.declared.line_break.LineBreak.{LineBreak}

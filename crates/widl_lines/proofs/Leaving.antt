@@ -1,5 +1,5 @@
 -- The lines that are left of a text, and what reading one of them does.
-use Rattle.std.proofs.Common.{◌≡◌, ℕ, zero, suc, ◌+◌, ◌<◌, ◌≤◌, Bool, true, false, List, [], ◌∷◌, ◌++◌, length, map, Option, Some, None, nat_eq, refl, sym, ◌∙◌, ap, subst, arith, append_assoc, append-nil, eq-eqb, Bor}
+use Rattle.std.proofs.Common.{◌≡◌, ℕ, suc, ◌+◌, ◌<◌, ◌≤◌, true, false, List, [], ◌∷◌, ◌++◌, length, map, Option, Some, None, nat_eq, refl, sym, ◌∙◌, ap, subst, arith, append-nil, eq-eqb, Bor}
 use Rattle.std.specs.Prelude.{MatchOption, is_some}
 use Rattle.widl_lines.specs.declared.blocks.Change.{Change}
 use Rattle.widl_lines.specs.declared.blocks.Block.{Block}

@@ -1,10 +1,9 @@
 -- The first rule that a line breaks, from what the machine answers.
-use Rattle.std.proofs.Common.{◌≡◌, ℕ, zero, suc, ◌+◌, ◌<◌, ◌≤◌, ◌⊎◌, inl, inr, Bool, true, false, List, [], ◌∷◌, length, map, get_or, Option, Some, None, refl, sym, ◌∙◌, ap, subst, arith, lit≤}
+use Rattle.std.proofs.Common.{◌≡◌, ℕ, zero, suc, ◌<◌, ◌≤◌, ◌⊎◌, inl, inr, Bool, true, false, List, [], ◌∷◌, length, get_or, Option, Some, None, refl, sym, ◌∙◌, ap, arith, lit≤}
 use Rattle.std.specs.Prelude.{is_some, not}
 use Rattle.widl_predictive.specs.Grammar.{SyntaxPlace, DeepPlace, IsFault, IsAccepted}
-use Rattle.widl_predictive.specs.declared.fault.Fault.{Fault}
 use Rattle.widl_predictive.specs.declared.fault.Fault.TheVariants.{Syntax, TooDeep as Deep}
-use Rattle.widl_predictive.proofs.Unique.{one_place, no_place, deep_place_before}
+use Rattle.widl_predictive.proofs.Unique.{one_place, no_place}
 use Rattle.widl_lines.specs.declared.grammar.Rule.{Rule}
 use Rattle.widl_lines.specs.declared.line_break.LineRule.{LineRule}
 use Rattle.widl_lines.specs.declared.line_break.LineRule.TheVariants.{NoForm, TooDeep, TooLarge, NoBlock}
@@ -14,7 +13,7 @@ use Rattle.widl_lines.specs.declared.blocks.Change.{Change}
 use Rattle.widl_lines.specs.Grammar.{grammar}
 use Rattle.widl_lines.specs.Words.{Lexeme}
 use Rattle.widl_lines.specs.Blocks.{innermost, start_of, change_by, is_opening}
-use Rattle.widl_lines.specs.Breaks.{number, terminals_of, large_of, NoneLarge, first_of, no_later, IsFirst, Breaks, ByWords, ByBlocks, LineBreaks, OpensTooDeep, WordsAt, BlocksAt, BreaksAt}
+use Rattle.widl_lines.specs.Breaks.{number, terminals_of, large_of, NoneLarge, first_of, no_later, IsFirst, Breaks, ByWords, ByBlocks, LineBreaks, WordsAt, BlocksAt, BreaksAt}
 use Rattle.widl_lines.proofs.BreakOrder.{NoLater, is_no_later, order, Order, less, same, more, first_either, first_same}
 
 abbrev pub broken_at : LineRule → ℕ → LineBreak

@@ -1,8 +1,8 @@
 -- The first line of a text.
-use Rattle.std.proofs.Common.{◌≡◌, ◌≢◌, ℕ, zero, suc, ◌+◌, ◌-◌, ◌<◌, ◌≤◌, Bool, true, false, cond, List, [], ◌∷◌, ◌++◌, length, get_or, take, drop, refl, sym, ◌∙◌, ap, subst, arith, nat_eq, eqb-true, eq-eqb}
+use Rattle.std.proofs.Common.{◌≡◌, ℕ, zero, suc, ◌+◌, ◌-◌, ◌<◌, ◌≤◌, Bool, true, false, cond, List, [], ◌∷◌, ◌++◌, length, get_or, take, drop, refl, sym, ◌∙◌, ap, arith, nat_eq, eqb-true, eq-eqb}
 use Rattle.std.proofs.lemmas.List.{take_more}
 use Rattle.std.proofs.lemmas.List.Sums.{count_by_more_yes, count_by_more_no}
-use Rattle.widl_lines.specs.Lines.{put_before, pieces_of, without_return, lines_of_pieces, lines_of, IsLineEnd, NoLineEnd, line_number, column_after, column_number}
+use Rattle.widl_lines.specs.Lines.{put_before, pieces_of, without_return, lines_of_pieces, lines_of, IsLineEnd, line_number, column_after, column_number}
 
 -- what no LF stands in is one piece
 whole : (text : List ℕ) → ((k : ℕ) → k < length text → get_or text k 0 ≡ 10 → ⊥) → pieces_of text ≡ text ∷ []

@@ -1,6 +1,6 @@
 -- A script has at most one first break.
-use Rattle.std.proofs.Common.{◌≡◌, ℕ, zero, suc, ◌+◌, ◌<◌, ◌≤◌, Bool, true, false, List, [], ◌∷◌, ◌++◌, length, take, Option, Some, None, refl, sym, ◌∙◌, ap, subst, arith, append_assoc, append-nil, inl, inr}
-use Rattle.std.specs.Prelude.{IsUtf8, ◌⊎◌, Result, Ok, Err, IfErr, OnOk, IsOkUnless}
+use Rattle.std.proofs.Common.{◌≡◌, ℕ, zero, suc, ◌+◌, ◌<◌, ◌≤◌, List, [], ◌∷◌, ◌++◌, length, take, Option, Some, None, refl, sym, ◌∙◌, ap, subst, arith, append_assoc, append-nil, inl, inr}
+use Rattle.std.specs.Prelude.{IsUtf8, Result, Ok, Err, IfErr, OnOk, IsOkUnless}
 use Rattle.widl_lex.specs.Utf8.{IsUtf8Fault, BeginsUtf8}
 use Rattle.widl_lines.specs.declared.blocks.Block.{Block}
 use Rattle.widl_lines.specs.declared.line_break.LineBreak.{LineBreak}
@@ -10,7 +10,7 @@ use Rattle.widl_lines.specs.declared.script_place.ScriptFault.TheVariants.{Refus
 use Rattle.widl_lines.specs.Refusals.{IsRefusal, IsErrWith}
 use Rattle.widl_lines.specs.Blocks.{blocks_after}
 use Rattle.widl_lines.specs.Breaks.{Breaks, LineBreaks}
-use Rattle.widl_lines.specs.TextBreaks.{Line, place_in, TextBreak, here, later, unclosed, closed, unclosed_at, ScriptBreak, not_utf8, in_lines, utf8_place}
+use Rattle.widl_lines.specs.TextBreaks.{Line, place_in, TextBreak, here, later, unclosed, closed, ScriptBreak, not_utf8, in_lines, utf8_place}
 use Rattle.widl_lines.proofs.BreakOrder.{one_first, order, Order, less, same, more}
 
 nothing : (k : ℕ) → take {A = ℕ} k [] ≡ []

@@ -1,5 +1,5 @@
 -- One line further in a script.
-use Rattle.std.proofs.Common.{◌≡◌, ℕ, zero, suc, ◌+◌, ◌<◌, ◌≤◌, Bool, true, false, List, [], ◌∷◌, ◌++◌, length, map, Option, Some, None, refl, sym, ◌∙◌, ap, subst, arith, append_assoc, append-nil}
+use Rattle.std.proofs.Common.{◌≡◌, ℕ, ◌<◌, List, [], ◌∷◌, ◌++◌, length, Option, Some, None, refl, sym, ◌∙◌, ap, subst, arith, append_assoc}
 use Rattle.std.specs.Prelude.{IsUtf8, Result, IfErr}
 use Rattle.std.specs.Result.{IsErrAnd}
 use Rattle.std.proofs.lemmas.Result.{err_from_is_err_and}
@@ -9,11 +9,10 @@ use Rattle.widl_lines.specs.declared.line_break.LineBreak.{LineBreak}
 use Rattle.widl_lines.specs.declared.script_place.ScriptPlace.{ScriptPlace}
 use Rattle.widl_lines.specs.declared.script_place.ScriptFault.{ScriptFault}
 use Rattle.widl_lines.specs.declared.script_place.ScriptFault.TheVariants.{Refused, Memory}
-use Rattle.widl_lines.specs.Lines.{lines_of}
-use Rattle.widl_lines.specs.Words.{Lexeme, words_of}
+use Rattle.widl_lines.specs.Words.{Lexeme}
 use Rattle.widl_lines.specs.Blocks.{innermost, blocks_after}
 use Rattle.widl_lines.specs.Breaks.{LineBreaks}
-use Rattle.widl_lines.specs.TextBreaks.{Line, numbered, place_in, TextBreak, here, later, unclosed, closed, unclosed_at, lines_from, script_lines, PlacedLine, placed, ScriptBreak, not_utf8, in_lines, IsScript, utf8_place}
+use Rattle.widl_lines.specs.TextBreaks.{Line, numbered, place_in, TextBreak, here, later, unclosed, closed, unclosed_at, script_lines, placed, ScriptBreak, not_utf8, in_lines, IsScript, utf8_place}
 use Rattle.widl_lines.specs.LineTerms.{State, Reads, RefusedIn, IsRead, IsRefusedBy}
 use Rattle.widl_lines.specs.Refusals.{IsRefusal}
 

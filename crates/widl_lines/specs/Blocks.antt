@@ -1,5 +1,5 @@
 -- The open blocks of a script, and what a line's first word does to them.
-use Rattle.std.specs.Prelude.{ℕ, List, [], ◌∷◌, Bool, true, false, Option, Some, None}
+use Rattle.std.specs.Prelude.{List, [], ◌∷◌, Bool, true, false, Option, Some, None}
 use Rattle.widl_lines.specs.declared.grammar.Terminal.{Terminal}
 use Rattle.widl_lines.specs.declared.grammar.Terminal.TheVariants as terminal
 use Rattle.widl_lines.specs.declared.grammar.Rule.{Rule}

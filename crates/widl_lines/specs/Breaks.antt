@@ -1,5 +1,5 @@
 -- The first rule that a line breaks, among open blocks.
-use Rattle.std.specs.Prelude.{◌≡◌, ℕ, ◌+◌, ◌<◌, ◌≤◌, ◌⊎◌, ◌||◌, ◌&&◌, nat_lt, nat_eq, if◌then◌else◌, List, [], ◌∷◌, length, map, get_or, Bool, true, false, Option, Some, None}
+use Rattle.std.specs.Prelude.{◌≡◌, ℕ, ◌<◌, ◌≤◌, ◌⊎◌, ◌||◌, ◌&&◌, nat_lt, nat_eq, if◌then◌else◌, List, length, map, get_or, Bool, true, false, Option, Some, None}
 use Rattle.widl_predictive.specs.Grammar.{SyntaxPlace, DeepPlace}
 use Rattle.widl_lines.specs.declared.grammar.Terminal.{Terminal}
 use Rattle.widl_lines.specs.declared.grammar.Rule.{Rule}

@@ -1,5 +1,5 @@
 -- The words of a line: at each byte that is no blank a word begins, and goes on as far as its form allows.
-use Rattle.std.specs.Prelude.{ℕ, zero, suc, ◌+◌, ◌-◌, List, [], ◌∷◌, ◌++◌, length, take, drop, map, codes, Bool, true, false, not, ◌||◌, ◌&&◌, nat_eq, if◌then◌else◌, bytes_eq, Option, Some, None, option_map}
+use Rattle.std.specs.Prelude.{ℕ, zero, suc, ◌+◌, List, [], ◌∷◌, ◌++◌, length, take, codes, Bool, true, false, not, ◌||◌, ◌&&◌, nat_eq, if◌then◌else◌, bytes_eq, Option, Some, None, option_map}
 use Rattle.std.specs.Char.{is_ascii_alphanumeric, is_ascii_digit}
 use Rattle.widl_lines.specs.declared.grammar.Terminal.{Terminal}
 use Rattle.widl_lines.specs.declared.word_form.WordForm.{WordForm}

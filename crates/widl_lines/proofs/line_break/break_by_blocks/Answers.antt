@@ -1,4 +1,4 @@
-use Rattle.std.proofs.Common.{◌≡◌, ◌∙◌, ap, sym, subst, map, arith, length, inl, inr}
+use Rattle.std.proofs.Common.{◌∙◌, ap, sym, subst, map, arith, inl, inr}
 use Rattle.widl_lines.specs.WordTerms.{lexeme_of}
 use Rattle.widl_lines.specs.Stacks.{blocks_of}
 use Rattle.widl_lines.specs.Blocks.{is_opening}

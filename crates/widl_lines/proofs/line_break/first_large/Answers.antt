@@ -3,7 +3,7 @@ use Rattle.widl_lines.specs.declared.words.Word.{Word}
 use Rattle.widl_lines.specs.declared.grammar.Terminal.TheVariants.{Name}
 use Rattle.widl_lines.specs.declared.word_form.WordForm.TheVariants.{Bare}
 use Rattle.widl_lines.specs.WordTerms.{lexeme_of}
-use Rattle.widl_lines.specs.Breaks.{large_of, NoneLarge}
+use Rattle.widl_lines.specs.Breaks.{large_of}
 use Rattle.widl_lines.proofs.FromMachine.{large_at}
 use Rattle.widl_lines.proofs.line_break.first_large.Goals as goal
 

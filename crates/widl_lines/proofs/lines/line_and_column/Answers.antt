@@ -1,4 +1,4 @@
-use Rattle.std.proofs.Common.{◌≡◌, ◌∙◌, ◌<◌, ap, sym, arith, length, take}
+use Rattle.std.proofs.Common.{◌∙◌, sym, arith}
 use Rattle.widl_lines.proofs.LineCuts.{next_line, same_line, first_column, next_column, in_prefix}
 use Rattle.widl_lines.proofs.lines.line_and_column.Goals as goal
 use Rattle.widl_lines.proofs.lines.line_and_column.Goals.{then-byte-eq10, else-byte-eq10}

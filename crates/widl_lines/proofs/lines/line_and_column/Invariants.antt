@@ -1,6 +1,5 @@
-use Rattle.std.proofs.Common.{◌≡◌, ◌+◌, ◌≤◌, take, drop, length}
-use Rattle.std.specs.Prelude.{count_by, nat_eq}
-use Rattle.widl_lines.specs.Lines.{line_number, column_number, column_after}
+use Rattle.std.proofs.Common.{◌≡◌, ◌+◌, ◌≤◌}
+use Rattle.widl_lines.specs.Lines.{line_number, column_number}
 use Rattle.widl_lines.proofs.lines.line_and_column.Given as goal
 
 abbrev pub invariant-loop-byte : goal.invariant-loop-byte

@@ -1,8 +1,6 @@
-use Rattle.std.proofs.Common.{◌+◌, ◌≡◌, ◌<◌, ◌++◌, arith, length}
-use Rattle.widl_lines.specs.Words.{words_of}
-use Rattle.widl_lines.specs.TextBreaks.{numbered}
+use Rattle.std.proofs.Common.{◌+◌, arith}
 use Rattle.widl_lines.specs.LineTerms.{state_of, IsRefusedBy}
-use Rattle.widl_lines.proofs.Leaving.{left_lines, left_bytes, lines_next, bytes_next, line_short, all_read}
+use Rattle.widl_lines.proofs.Leaving.{lines_next, bytes_next, line_short, all_read}
 use Rattle.widl_lines.proofs.Passing.{handed_on, refused_by, breaks_further, placed_further}
 use Rattle.widl_lines.proofs.reading.read_lines.Goals as goal
 

@@ -1,4 +1,4 @@
-use Rattle.std.proofs.Common.{◌≡◌, ◌∙◌, ◌+◌, ◌-◌, sym, refl, arith, length, take, drop, map}
+use Rattle.std.proofs.Common.{◌∙◌, ◌-◌, sym, refl, arith, length, take, drop, map}
 use Rattle.widl_lines.specs.WordTerms.{lexeme_of}
 use Rattle.widl_lines.proofs.Cutting.{word_step}
 use Rattle.widl_lines.proofs.words.cut_words.Goals as goal

@@ -1,4 +1,4 @@
-use Rattle.std.proofs.Common.{◌≡◌, ◌≤◌, ◌++◌, ◌+◌, length, map}
+use Rattle.std.proofs.Common.{◌≡◌, ◌++◌, ◌+◌, length, map}
 use Rattle.widl_lines.specs.declared.shape.Context.TheVariants.{First}
 use Rattle.widl_lines.specs.Words.{words_from}
 use Rattle.widl_lines.specs.WordTerms.{lexeme_of}
