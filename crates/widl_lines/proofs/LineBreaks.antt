@@ -13,7 +13,7 @@ use Rattle.widl_lines.specs.declared.blocks.Change.{Change}
 use Rattle.widl_lines.specs.Grammar.{grammar}
 use Rattle.widl_lines.specs.Words.{Lexeme}
 use Rattle.widl_lines.specs.Blocks.{innermost, start_of, change_by, is_opening}
-use Rattle.widl_lines.specs.Breaks.{number, terminals_of, large_of, NoneLarge, first_of, no_later, IsFirst, Breaks, ByWords, ByBlocks, LineBreaks, WordsAt, BlocksAt, BreaksAt}
+use Rattle.widl_lines.specs.Breaks.{number, terminals_of, large_of, NoneLarge, first_of, no_later, IsFirst, Breaks, ByWords, ByBlocks, WordsAt, BlocksAt, BreaksAt}
 use Rattle.widl_lines.proofs.BreakOrder.{NoLater, is_no_later, order, Order, less, same, more, first_either, first_same}
 
 abbrev pub broken_at : LineRule → ℕ → LineBreak
@@ -113,7 +113,7 @@ module _ (blocks : List Block) (words : List Lexeme) where
   back NoBlock k h = inr h
 
   -- what a line breaks by its words, and what among blocks
-  pub both : (a b : Option LineBreak) → IsFirst (ByWords (start_of (innermost blocks)) words) a → IsFirst (ByBlocks blocks words) b → LineBreaks blocks words (first_of a b)
+  pub both : (a b : Option LineBreak) → IsFirst (ByWords (start_of (innermost blocks)) words) a → IsFirst (ByBlocks blocks words) b → IsFirst (Breaks blocks words) (first_of a b)
   both a b f g = first_same (λ x. ByWords (start_of (innermost blocks)) words x ⊎ ByBlocks blocks words x) (Breaks blocks words) (first_of a b) (λ x h. there x.rule x.word h) (λ x h. back x.rule x.word h) (first_either (ByWords (start_of (innermost blocks)) words) (ByBlocks blocks words) a b f g)
 
   pub no_block : change_by words blocks ≡ None → IsFirst (ByBlocks blocks words) (Some (broken_at NoBlock 0))

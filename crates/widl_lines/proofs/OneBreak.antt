@@ -9,7 +9,7 @@ use Rattle.widl_lines.specs.declared.script_place.ScriptFault.{ScriptFault}
 use Rattle.widl_lines.specs.declared.script_place.ScriptFault.TheVariants.{Refused, Memory}
 use Rattle.widl_lines.specs.Refusals.{IsRefusal, IsErrWith}
 use Rattle.widl_lines.specs.Blocks.{blocks_after}
-use Rattle.widl_lines.specs.Breaks.{Breaks, LineBreaks}
+use Rattle.widl_lines.specs.Breaks.{Breaks, IsFirst, LineBreaks}
 use Rattle.widl_lines.specs.TextBreaks.{Line, place_in, TextBreak, here, later, unclosed, closed, ScriptBreak, not_utf8, in_lines, utf8_place}
 use Rattle.widl_lines.proofs.BreakOrder.{one_first, order, Order, less, same, more}
 
@@ -52,8 +52,12 @@ no_fault text k utf8 f = by (order k (length text))
     by (same x) = f.at_end x utf8
     by (more x) = let le : k ≤ length text = f.within in omega (arith, x, le)
 
+as_first : (blocks : List Block) (line : Line) (found : Option LineBreak) → LineBreaks blocks line.words found → IsFirst (Breaks blocks line.words) found
+as_first blocks line None h = h.0
+as_first blocks line (Some b) h = h
+
 one_line_break : (blocks : List Block) (line : Line) (a b : Option LineBreak) → LineBreaks blocks line.words a → LineBreaks blocks line.words b → a ≡ b
-one_line_break blocks line a b f g = one_first (Breaks blocks line.words) a b f g
+one_line_break blocks line a b f g = one_first (Breaks blocks line.words) a b (as_first blocks line a f) (as_first blocks line b g)
 
 pub one_text_break : (last : ℕ) (blocks : List Block) (lines : List Line) (p q : Option ScriptPlace) → TextBreak last blocks lines p → TextBreak last blocks lines q → p ≡ q
 one_text_break last blocks (line ∷ lines) p q (here b f) (here c g) = let e : Some b ≡ Some c = one_line_break blocks line (Some b) (Some c) f g in let d : b ≡ c = cc in ap (λ x. Some (place_in line x)) d

@@ -1,6 +1,6 @@
 -- The first rule that a line breaks, among open blocks.
 use Rattle.std.specs.Prelude.{◌≡◌, ℕ, ◌<◌, ◌≤◌, ◌⊎◌, ◌||◌, ◌&&◌, nat_lt, nat_eq, if◌then◌else◌, List, length, map, get_or, Bool, true, false, Option, Some, None}
-use Rattle.widl_predictive.specs.Grammar.{SyntaxPlace, DeepPlace}
+use Rattle.widl_predictive.specs.Grammar.{SyntaxPlace, DeepPlace, IsAccepted}
 use Rattle.widl_lines.specs.declared.grammar.Terminal.{Terminal}
 use Rattle.widl_lines.specs.declared.grammar.Rule.{Rule}
 use Rattle.widl_lines.specs.declared.line_break.LineRule.{LineRule}
@@ -59,8 +59,10 @@ abbrev pub IsFirst : (LineBreak → Type 0) → Option LineBreak → Type 0
 IsFirst P None = (b : LineBreak) → P b → ⊥
 IsFirst P (Some a) = P a × ((b : LineBreak) → P b → no_later a b ≡ true)
 
+-- what a line breaks first; a line that breaks nothing is a line of the grammar
 abbrev pub LineBreaks : List Block → List Lexeme → Option LineBreak → Type 0
-LineBreaks blocks words found = IsFirst (Breaks blocks words) found
+LineBreaks blocks words None = IsFirst (Breaks blocks words) None × IsAccepted grammar (start_of (innermost blocks)) (terminals_of words)
+LineBreaks blocks words (Some b) = IsFirst (Breaks blocks words) (Some b)
 
 abbrev pub WordsAt : Rule → List Lexeme → LineRule → ℕ → Type 0
 WordsAt start words NoForm k = SyntaxPlace grammar start (terminals_of words) k
@@ -83,3 +85,7 @@ ByBlocks blocks words b = BlocksAt blocks words b.rule b.word
 
 abbrev pub NoneLarge : List Lexeme → ℕ → Type 0
 NoneLarge words k = (j : ℕ) → j < k → get_or (large_of words) j false ≡ true → ⊥
+
+abbrev pub WordBreaks : Rule → List Lexeme → Option LineBreak → Type 0
+WordBreaks start words None = IsFirst (ByWords start words) None × IsAccepted grammar start (terminals_of words)
+WordBreaks start words (Some b) = IsFirst (ByWords start words) (Some b)

@@ -7,7 +7,7 @@ ghost use Rattle.widl_lines.specs.Terminals.{is_large};
 ghost use Rattle.widl_lines.specs.WordTerms.{lexeme_of};
 ghost use Rattle.widl_lines.specs.Stacks.{blocks_of};
 ghost use Rattle.widl_lines.specs.Blocks.{first_word, change_by};
-ghost use Rattle.widl_lines.specs.Breaks.{number, terminals_of, large_of, no_later, first_of, IsFirst, ByWords, ByBlocks, LineBreaks, NoneLarge};
+ghost use Rattle.widl_lines.specs.Breaks.{number, terminals_of, large_of, no_later, first_of, IsFirst, WordBreaks, ByBlocks, LineBreaks, NoneLarge};
 
 use crate::blocks::{Block, Change, change_of, innermost, is_opening, start_of};
 use crate::{Rule, Terminal, Word, is_large};
@@ -108,7 +108,7 @@ fn break_by_words(
     words: &[Word<'_>],
 ) -> Result<Option<LineBreak>, AllocError>
     requires { grammar.starts start ≡ true }
-    ensures { IfOk result (IsFirst (ByWords start (map lexeme_of words.now))) }
+    ensures { IfOk result (WordBreaks start (map lexeme_of words.now)) }
 {
     let terminals = terminals(alloc, words)?;
     match read_sentence(alloc, start, &terminals) {
