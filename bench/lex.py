@@ -1,7 +1,7 @@
 #!/usr/bin/env python3
 """Measures the tokens of realistic and of hostile files.
 
-Run at the top of the repository, after `rt run` in crates/widl_bench_lex has built the program:
+Run at the top of the repository, after `rt run` in crates/widl_bench has built the program:
 
     python3 bench/lex.py
 
@@ -17,7 +17,7 @@ import sys
 import tempfile
 
 MIB = 1 << 20
-PROGRAM = "crates/widl_bench_lex/out/widl_bench_lex"
+PROGRAM = "crates/widl_bench/out/widl_bench"
 HOSTILE = {
     "points": b".",
     "comments that open, in a row": b"/*",
@@ -34,7 +34,7 @@ HOSTILE = {
 
 def run(files):
     """The user and system seconds and the peak memory in MiB of one run."""
-    child = subprocess.Popen([PROGRAM, *files], stdout=subprocess.PIPE)
+    child = subprocess.Popen([PROGRAM, "tokens", *files], stdout=subprocess.PIPE)
     child.stdout.read()
     _, status, usage = os.wait4(child.pid, 0)
     child.returncode = status

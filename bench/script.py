@@ -1,7 +1,7 @@
 #!/usr/bin/env python3
 """Measures the words and the check of form of realistic and of hostile scripts.
 
-Run at the top of the repository, after `rt run` in crates/widl_bench_script has built the program:
+Run at the top of the repository, after `rt run` in crates/widl_bench has built the program:
 
     python3 bench/script.py
 
@@ -16,7 +16,7 @@ import sys
 import tempfile
 
 MIB = 1 << 20
-PROGRAM = "crates/widl_bench_script/out/widl_bench_script"
+PROGRAM = "crates/widl_bench/out/widl_bench"
 HOSTILE = {
     "do 1, each on a line": (b"", b"do 1\n", b""),
     "line feeds": (b"", b"\n", b""),
@@ -71,7 +71,7 @@ def filled(head, body, tail):
 
 def run(names):
     """The seconds and the peak memory in bytes of one run."""
-    child = subprocess.Popen([PROGRAM, *names], stdout=subprocess.PIPE)
+    child = subprocess.Popen([PROGRAM, "script", *names], stdout=subprocess.PIPE)
     child.stdout.read()
     _, status, usage = os.wait4(child.pid, 0)
     child.returncode = status

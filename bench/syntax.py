@@ -1,8 +1,7 @@
 #!/usr/bin/env python3
 """Measures the check of syntax beside the tokens that it stands on.
 
-Run at the top of the repository, after `rt run` in crates/widl_bench_lex and crates/widl_bench_syntax has
-built the programs:
+Run at the top of the repository, after `rt run` in crates/widl_bench has built the program:
 
     python3 bench/syntax.py
 
@@ -16,7 +15,8 @@ import sys
 import tempfile
 
 MIB = 1 << 20
-PROGRAMS = {name: f"crates/{name}/out/{name}" for name in ("widl_bench_lex", "widl_bench_syntax")}
+PROGRAM = "crates/widl_bench/out/widl_bench"
+PHASES = ("tokens", "syntax")
 NESTED = {
     "extended attributes in arguments": b"[A(",
     "definitions": b"typedef long T;",
@@ -25,24 +25,24 @@ NESTED = {
 }
 
 
-def run(program, files):
-    child = subprocess.Popen([PROGRAMS[program], *files], stdout=subprocess.PIPE)
+def run(phase, files):
+    child = subprocess.Popen([PROGRAM, phase, *files], stdout=subprocess.PIPE)
     child.stdout.read()
     _, status, usage = os.wait4(child.pid, 0)
     child.returncode = status
     if status != 0:
-        sys.exit(f"{program} failed on {files[:1]}")
+        sys.exit(f"{PROGRAM} {phase} failed on {files[:1]}")
     return usage.ru_utime + usage.ru_stime
 
 
-def least(program, files, runs):
-    return min(run(program, files) for _ in range(runs))
+def least(phase, files, runs):
+    return min(run(phase, files) for _ in range(runs))
 
 
 def line(title, files):
     size = sum(os.path.getsize(name) for name in files)
-    cost = {p: (least(p, files, 5) - least(p, [], 10)) / size * MIB * 1e3 for p in PROGRAMS}
-    tokens, both = cost["widl_bench_lex"], cost["widl_bench_syntax"]
+    cost = {p: (least(p, files, 5) - least(p, [], 10)) / size * MIB * 1e3 for p in PHASES}
+    tokens, both = cost["tokens"], cost["syntax"]
     print(f"| {title} | {tokens:.1f} | {both - tokens:.1f} | {(both - tokens) / tokens:.2f} |")
 
 

@@ -1,7 +1,7 @@
 #!/usr/bin/env python3
 """Measures the memory of a file's tokens and tree.
 
-Run at the top of the repository, after `rt run` in crates/widl_bench_tree has built the program:
+Run at the top of the repository, after `rt run` in crates/widl_bench has built the program:
 
     python3 bench/tree.py
 
@@ -16,7 +16,7 @@ import sys
 import tempfile
 
 MIB = 1 << 20
-PROGRAM = "crates/widl_bench_tree/out/widl_bench_tree"
+PROGRAM = "crates/widl_bench/out/widl_bench"
 LISTS = {
     "arguments": (b"callback F = A(", b"A b,", b"A b);"),
     "a union": (b"typedef (", b"A or ", b"A) T;"),
@@ -26,7 +26,7 @@ LISTS = {
 
 
 def peak(name):
-    child = subprocess.Popen([PROGRAM, name], stdout=subprocess.PIPE)
+    child = subprocess.Popen([PROGRAM, "tree", name], stdout=subprocess.PIPE)
     child.stdout.read()
     _, status, usage = os.wait4(child.pid, 0)
     child.returncode = status

@@ -1,20 +1,21 @@
--- Lemmas on the output of the words.
+-- Lemmas on the output of the arguments.
 use Rattle.std.proofs.Common.{◌≡◌, ℕ, List, subst, inl, inr}
 use Rattle.std.specs.Prelude.{◌⊎◌, ◌≢◌, Option}
-use Rattle.widl_trace.specs.Growth.{GrewByPrefix}
+use Rattle.widl_sink.specs.Growth.{GrewByPrefix}
 use Rattle.widl_cli.specs.Causes.{fault_of}
-use Rattle.widl_cli.specs.Outputs.{Output, Answers, Writes, WritesPart, IsRequestOutput, IsOutput}
+use Rattle.widl_cli.specs.Answers.{Answers}
+use Rattle.widl_cli.specs.Outputs.{Output, Writes, WritesPart, IsRequestOutput, IsOutput}
 use Rattle.widl_cli.specs.Readings.{read_in_order}
 use Rattle.widl_cli.specs.Requests.{request_of, names_of}
 use Rattle.widl_cli.specs.declared.request.Request.{Request}
 use Rattle.widl_cli.specs.declared.status.Status.{Status}
 use Rattle.widl_cli.specs.declared.status.Status.TheVariants as ends
 
--- the output of a request of the words
+-- the output of a request of the arguments
 abbrev pub IsAsked : List (List ℕ) → Option Request → List (List ℕ × List ℕ) → Output → Type 0
 IsAsked words request told output = IsRequestOutput request (read_in_order told (names_of request words)) output
 
--- is the output of the words
+-- is the output of the arguments
 asked : (words : List (List ℕ)) (request : Option Request) (told : List (List ℕ × List ℕ)) (output : Output) → request ≡ request_of words → IsAsked words request told output → IsOutput words told output
 unfolding IsOutput
 asked words request told output is p = subst (λ r. IsAsked words r told output) is p

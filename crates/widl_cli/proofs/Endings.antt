@@ -1,28 +1,33 @@
 -- Lemmas on how a call ends.
-use Rattle.std.proofs.Common.{◌≡◌, ℕ, ◌-◌, ◌<◌, ◌≤◌, List, [], ◌∷◌, length, refl, sym, ap, ◌∙◌, subst, arith, inl, inr, cond, true, false}
+use Rattle.std.proofs.Common.{◌≡◌, ℕ, ◌+◌, ◌-◌, ◌<◌, ◌≤◌, List, [], ◌∷◌, length, drop, refl, sym, ap, ◌∙◌, subst, arith, inl, inr, cond, true, false}
 use Rattle.std.specs.Prelude.{◌≢◌, ◌⊎◌, ◌==◌, ◌&&◌, Option, Some, None, nat_lt, codes}
 use Rattle.std.specs.Io.KnownBytes.{append_known}
-use Rattle.widl_trace.specs.Growth.{GrewByPrefix}
-use Rattle.widl_trace.specs.Lines.{ended}
+use Rattle.widl_sink.specs.Growth.{GrewByPrefix}
+use Rattle.widl_sink.specs.Lines.{ended}
 use Rattle.widl_folder.specs.Folders.{Counts}
 use Rattle.widl_folder.specs.declared.whole_file.FetchError.{FetchError}
 use Rattle.widl_folder.specs.declared.whole_file.FetchError.TheVariants.{Memory, Missing, Failed, TooLong}
 use Rattle.widl_first_form.specs.declared.planned.Plan.{Plan}
-use Rattle.widl_first_form.specs.declared.planned.Plan.TheVariants.{Unserved, NotScript, Run}
+use Rattle.widl_first_form.specs.declared.planned.Plan.TheVariants.{Unsupported, NotScript, Run}
 use Rattle.widl_first_form.specs.declared.step.Step.{Step}
 use Rattle.widl_first_form.specs.Plans.{plan_of}
 use Rattle.widl_idl.specs.MergedSets.{MergedSet}
+use Rattle.widl_cli.specs.declared.request.Command.{Command}
+use Rattle.widl_cli.specs.declared.request.Command.TheVariants.{Check, Sets}
+use Rattle.widl_cli.specs.declared.request.Command.TheVariants as commands
 use Rattle.widl_cli.specs.declared.status.Status.{Status}
 use Rattle.widl_cli.specs.declared.status.Status.TheVariants as ends
-use Rattle.widl_cli.specs.declared.verdict.Verdict.{Verdict}
-use Rattle.widl_cli.specs.declared.verdict.Verdict.TheVariants.{Fault, Broken, Accepted}
+use Rattle.widl_front.specs.declared.verdict.Verdict.{Verdict}
+use Rattle.widl_front.specs.declared.verdict.Verdict.TheVariants.{Fault, Broken, Accepted}
 use Rattle.widl_cli.specs.Causes.{Outside, Ends, CountsStarts, last_fault}
-use Rattle.widl_cli.specs.Outputs.{Output, Answers, Answered, accepted_output, plan_output, run_output, sets_output, verdict_output, IsRunOutput, IsCheckOutput, IsSetsOutput, IsReadingOutput, unread_output, fault_line}
+use Rattle.widl_cli.specs.Answers.{Answers, Answered, unread_output}
+use Rattle.widl_cli.specs.Outputs.{Output, accepted_output, plan_output, run_output, sets_output, verdict_output, IsCommandOutput, IsVerdictOutput, IsReadingOutput, fault_line}
 use Rattle.widl_cli.specs.Readings.{Reading, StopsFor, IsMemory}
 use Rattle.widl_cli.specs.Runs.{end_of}
-use Rattle.widl_cli.specs.Texts.{named}
+use Rattle.widl_front.specs.Texts.{named}
+use Rattle.widl_text.specs.Limits.{most_file_bytes}
 
--- a status that no failure has, and that is no answer to the words alone
+-- a status that no failure has, and that is no answer to the arguments alone
 abbrev pub IsPlain : Status → Type 0
 IsPlain ends.ReadFault = ⊥
 IsPlain ends.Missing = ⊥
@@ -43,27 +48,26 @@ plain_end units (step ∷ steps) =
     elim (nat_lt units step.units) as (λ v. IsPlain (cond v ends.Stopped (end_of (units - step.units) steps))) [ true ↦ tt | false ↦ plain_end (units - step.units) steps ]
 
 plain_plan : (budget : ℕ) (plan : Plan) → IsPlain (plan_output budget plan).status
-plain_plan budget Unserved = tt
+plain_plan budget Unsupported = tt
 plain_plan budget NotScript = tt
 plain_plan budget (Run steps) = plain_end budget steps
 
-plain_run : (budget : ℕ) (texts : List (List ℕ)) → IsPlain (run_output budget texts).status
+plain_run : (budget : ℕ) (script : List ℕ) (fragments : List (List ℕ)) (set : MergedSet) → IsPlain (run_output budget script fragments set).status
 unfolding run_output
-plain_run budget texts = plain_plan budget (plan_of (named texts 1) (named texts 0))
+plain_run budget script fragments set = plain_plan budget (plan_of (named fragments 0) script)
 
 plain_verdict : (verdict : Verdict) (others : MergedSet → Output) → ((set : MergedSet) → IsPlain (others set).status) → IsPlain (verdict_output verdict others).status
 plain_verdict (Fault finding) others plain = tt
 plain_verdict (Broken refusal) others plain = tt
 plain_verdict (Accepted set) others plain = plain set
 
-pub plain_run_output : (budget : ℕ) (texts : List (List ℕ)) (output : Output) → IsRunOutput budget texts output → IsPlain output.status
-plain_run_output budget texts output p = subst (λ o. IsPlain o.status) (sym p.output_is) (plain_verdict p.verdict (λ set. run_output budget texts) (λ set. plain_run budget texts))
+plain_fragments : (fragments : List (List ℕ)) (others : MergedSet → Output) (output : Output) → ((set : MergedSet) → IsPlain (others set).status) → IsVerdictOutput fragments others output → IsPlain output.status
+plain_fragments fragments others output plain p = subst (λ o. IsPlain o.status) (sym p.output_is) (plain_verdict p.verdict others plain)
 
-pub plain_check_output : (texts : List (List ℕ)) (output : Output) → IsCheckOutput texts output → IsPlain output.status
-plain_check_output texts output p = subst (λ o. IsPlain o.status) (sym p.output_is) (plain_verdict p.verdict accepted_output (λ set. tt))
-
-pub plain_sets_output : (texts : List (List ℕ)) (output : Output) → IsSetsOutput texts output → IsPlain output.status
-plain_sets_output texts output p = subst (λ o. IsPlain o.status) (sym p.output_is) (plain_verdict p.verdict sets_output (λ set. tt))
+pub plain_command : (command : Command) (texts : List (List ℕ)) (output : Output) → IsCommandOutput command texts output → IsPlain output.status
+plain_command Check texts output p = plain_fragments texts accepted_output output (λ set. tt) p
+plain_command Sets texts output p = plain_fragments texts sets_output output (λ set. tt) p
+plain_command (commands.Run budget) texts output p = plain_fragments (drop 1 texts) (run_output budget (named texts 0) (drop 1 texts)) output (plain_run budget (named texts 0) (drop 1 texts)) p
 
 pub never : (bad result : Status) → (IsPlain bad → ⊥) → IsPlain result → result ≡ bad → ⊥
 never bad result h p e = h (subst IsPlain e p)
@@ -118,7 +122,7 @@ memory_ends files IsIt names old new result is held kept = record {
 one_ends : (files : Option (List (List ℕ × List ℕ))) (IsIt : List (List ℕ × List ℕ) → Output → Type 0) (names : List (List ℕ)) (old new : Outside) (result : Status) (real : Output)
     → Answers real old.held new.held old.sink_faults new.sink_faults result → IsPlain real.status
     → ((told : List (List ℕ × List ℕ)) → files ≡ Some told → IsIt told real)
-    → new.faults ≡ old.faults → new.misses ≡ old.misses → new.given ≤ 1048576 → Ends files IsIt names old new result
+    → new.faults ≡ old.faults → new.misses ≡ old.misses → new.given ≤ most_file_bytes → Ends files IsIt names old new result
 one_ends files IsIt names old new result real p plain same faults misses given = record {
   written = λ told is m r w. record { output = real; is = same told is; status = p.status m w; bytes = p.wrote m w };
   short = p.short;
@@ -138,7 +142,7 @@ one_ends files IsIt names old new result real p plain same faults misses given =
 pub read_ends : (files : Option (List (List ℕ × List ℕ))) (IsIt : List (List ℕ × List ℕ) → Output → Type 0) (names : List (List ℕ)) (old new : Outside) (result : Status) (IsReal : Output → Type 0)
     → Answered IsReal old.held new.held old.sink_faults new.sink_faults result → ((output : Output) → IsReal output → IsPlain output.status)
     → ((told : List (List ℕ × List ℕ)) → files ≡ Some told → (output : Output) → IsReal output → IsIt told output)
-    → new.faults ≡ old.faults → new.misses ≡ old.misses → new.given ≤ 1048576 → Ends files IsIt names old new result
+    → new.faults ≡ old.faults → new.misses ≡ old.misses → new.given ≤ most_file_bytes → Ends files IsIt names old new result
 read_ends files IsIt names old new result IsReal (inl p) plain same faults misses given = memory_ends files IsIt names old new result p.0 p.1 p.2
 read_ends files IsIt names old new result IsReal (inr p) plain same faults misses given =
     one_ends files IsIt names old new result p.0 p.2 (plain p.0 p.1) (λ told is. same told is p.0 p.1) faults misses given
@@ -156,9 +160,9 @@ pub record Stopped (files : Option (List (List ℕ × List ℕ))) (reading : Lis
   pub stops : (told : List (List ℕ × List ℕ)) → files ≡ Some told → StopsFor cause name (reading told)
   pub faults : Counts (cause ≡ Failed) old.faults new.faults
   pub misses : Counts (cause ≡ Missing) old.misses new.misses
-  pub long : cause ≡ TooLong → new.given ≡ 1048577
-  pub not_missing : cause ≡ Missing → new.given ≤ 1048576
-  pub not_failed : cause ≡ Failed → new.given ≤ 1048576
+  pub long : cause ≡ TooLong → new.given ≡ most_file_bytes + 1
+  pub not_missing : cause ≡ Missing → new.given ≤ most_file_bytes
+  pub not_failed : cause ≡ Failed → new.given ≤ most_file_bytes
   pub named : CountsStarts old → named names (new.starts - old.starts - 1) ≡ name
 
 fault_at : (names : List (List ℕ)) (old new : Outside) (name : List ℕ) → named names (new.starts - old.starts - 1) ≡ name → ended (fault_line name) ≡ last_fault names old new

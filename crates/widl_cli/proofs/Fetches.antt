@@ -11,9 +11,10 @@ use Rattle.widl_folder.specs.declared.whole_file.FetchError.{FetchError}
 use Rattle.widl_folder.specs.declared.whole_file.FetchError.TheVariants.{Memory, Missing, Failed, TooLong}
 use Rattle.std.specs.Prelude.{IsNone, IsSome, IfSome}
 use Rattle.widl_cli.specs.Readings.{Reading, AllRead, MissingFile, LongFile, with_texts, file_then, read_in_order, StopsFor, Reads, starts_after}
-use Rattle.widl_cli.specs.Texts.{named, AreShort}
+use Rattle.widl_text.specs.Limits.{most_file_bytes}
+use Rattle.widl_front.specs.Texts.{named, AreShort}
 
--- the word at a place is its name
+-- the argument at a place is its name
 pub named_here : (words : List (List ℕ)) (i : ℕ) (word : List ℕ) → slice_get words i ≡ Some word → named words i ≡ word
 named_here words i word is = get_or_from_slice_get words i word [] is
 
@@ -22,7 +23,7 @@ if_told P files told is h = subst (λ o. IfSome o P) is h
 
 -- ---- one file
 
-pub short_file : (name bytes : List ℕ) (file : Option (List ℕ)) (others : Reading) → file ≡ Some bytes → length bytes ≤ 1048576 → file_then name file others ≡ with_texts (bytes ∷ []) others
+pub short_file : (name bytes : List ℕ) (file : Option (List ℕ)) (others : Reading) → file ≡ Some bytes → length bytes ≤ most_file_bytes → file_then name file others ≡ with_texts (bytes ∷ []) others
 short_file name bytes file others is short = ap (λ f. file_then name f others) is ∙ grind (arith, nat_tests)
 
 pub missing_file : (name : List ℕ) (file : Option (List ℕ)) (others : Reading) → IsNone file → file_then name file others ≡ MissingFile name
@@ -45,7 +46,7 @@ with_none (AllRead rest) = refl
 with_none (MissingFile name) = refl
 with_none (LongFile name) = refl
 
--- the files from a place on are the one at the place and those behind it
+-- the files from a place on are the one at the place and those after it
 pub next_file : (told : List (List ℕ × List ℕ)) (words : List (List ℕ)) (i : ℕ) → i < length words
     → read_in_order told (drop i words) ≡ file_then (named words i) (file_at told (named words i)) (read_in_order told (drop (i + 1) words))
 next_file told words i below = rw add-one (ap (read_in_order told) (drop-cons words i [] below))
@@ -62,15 +63,15 @@ pub one_more_counted : (old new : List (List ℕ)) (bytes : List ℕ) (i first :
 one_more_counted old new bytes i first from added counted = let one = ap length added ∙ length_push old bytes in omega (arith, one, counted)
 
 pub short_none : (texts : List (List ℕ)) → texts ≡ [] → AreShort texts
-short_none texts none j = subst (λ l. length (named l j) ≤ 1048576) (sym none) (omega arith)
+short_none texts none j = subst (λ l. length (named l j) ≤ most_file_bytes) (sym none) (omega arith)
 
-short_pushed : (old : List (List ℕ)) (bytes : List ℕ) → AreShort old → length bytes ≤ 1048576 → AreShort (old ++ bytes ∷ [])
+short_pushed : (old : List (List ℕ)) (bytes : List ℕ) → AreShort old → length bytes ≤ most_file_bytes → AreShort (old ++ bytes ∷ [])
 short_pushed [] bytes so_far short zero = short
 short_pushed [] bytes so_far short (suc j) = omega arith
 short_pushed (text ∷ texts) bytes so_far short zero = so_far zero
 short_pushed (text ∷ texts) bytes so_far short (suc j) = short_pushed texts bytes (λ k. so_far (suc k)) short j
 
-pub short_more : (old new : List (List ℕ)) (bytes : List ℕ) → new ≡ old ++ bytes ∷ [] → AreShort old → length bytes ≤ 1048576 → AreShort new
+pub short_more : (old new : List (List ℕ)) (bytes : List ℕ) → new ≡ old ++ bytes ∷ [] → AreShort old → length bytes ≤ most_file_bytes → AreShort new
 short_more old new bytes added so_far short = subst AreShort (sym added) (short_pushed old bytes so_far short)
 
 -- all were read

@@ -2,9 +2,7 @@ mod Asked
 mod Budgets
 mod Endings
 mod Fetches
-mod Found
-mod OneFinding
+mod Names
 mod OneOutput
 mod Runs
-pub mod Trees
-mod OneVerdict
+mod OneText

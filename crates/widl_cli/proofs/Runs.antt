@@ -6,9 +6,9 @@ use Rattle.std.proofs.Math.Seq.{drop-cons}
 use Rattle.std.proofs.lemmas.Bool.Decides.{nat_tests}
 use Rattle.std.specs.declared.option.Option.{Option}
 use Rattle.std.specs.Io.KnownBytes.{append_known}
-use Rattle.widl_trace.specs.Lines.{ended}
-use Rattle.widl_trace.specs.Growth.{Sends, GrewByPrefix}
-use Rattle.widl_trace.proofs.Grows.{prefix_longer, sends_prefix, sends_then}
+use Rattle.widl_sink.specs.Lines.{ended}
+use Rattle.widl_sink.specs.Growth.{Sends, GrewByPrefix}
+use Rattle.widl_sink.proofs.Grows.{prefix_longer, sends_prefix, sends_then}
 use Rattle.widl_first_form.specs.declared.step.Step.{Step}
 use Rattle.widl_cli.specs.declared.status.Status.TheVariants.{Done, Stopped}
 use Rattle.widl_cli.specs.Runs.{bytes_of, written, end_of}

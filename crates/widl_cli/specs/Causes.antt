@@ -1,11 +1,12 @@
 -- How a call ends, by what the folder and the sink counted.
-use Rattle.std.specs.Prelude.{◌≡◌, ◌≢◌, ℕ, ◌-◌, ◌<◌, ◌⊎◌, List, Option, Some}
+use Rattle.std.specs.Prelude.{◌≡◌, ◌≢◌, ℕ, ◌+◌, ◌-◌, ◌<◌, ◌⊎◌, List, Option, Some}
 use Rattle.std.specs.Io.KnownBytes.{append_known}
-use Rattle.widl_trace.specs.Causes.{Rose}
-use Rattle.widl_trace.specs.Growth.{GrewByPrefix}
-use Rattle.widl_trace.specs.Lines.{ended}
+use Rattle.widl_sink.specs.Causes.{Rose}
+use Rattle.widl_sink.specs.Growth.{GrewByPrefix}
+use Rattle.widl_sink.specs.Lines.{ended}
 use Rattle.widl_cli.specs.Outputs.{Output, Writes, WritesPart, fault_line}
-use Rattle.widl_cli.specs.Texts.{named}
+use Rattle.widl_text.specs.Limits.{most_file_bytes}
+use Rattle.widl_front.specs.Texts.{named}
 use Rattle.widl_cli.specs.declared.status.Status.{Status}
 use Rattle.widl_cli.specs.declared.status.Status.TheVariants as ends
 
@@ -41,9 +42,9 @@ pub record Ends (files : Option (List (List ℕ × List ℕ))) (IsIt : List (Lis
   pub fault_written : CountsStarts old → result ≡ ends.ReadFault → new.held ≡ append_known old.held (last_fault names old new)
   pub read_fault : result ≡ ends.ReadFault → Rose old.faults new.faults
   pub missing : result ≡ ends.Missing → Rose old.misses new.misses
-  pub too_long : result ≡ ends.TooLong → new.given ≡ 1048577
+  pub too_long : result ≡ ends.TooLong → new.given ≡ most_file_bytes + 1
   pub write_fault : result ≡ ends.WriteFault → Rose old.sink_faults new.sink_faults
   pub write_always : old.sink_faults < new.sink_faults → result ≡ ends.WriteFault
   pub fault_always : old.faults < new.faults → (result ≡ ends.WriteFault) ⊎ ((result ≡ ends.ReadFault) ⊎ (result ≡ ends.Memory))
   pub miss_always : old.misses < new.misses → (result ≡ ends.WriteFault) ⊎ ((result ≡ ends.Missing) ⊎ (result ≡ ends.Memory))
-  pub long_always : new.given ≡ 1048577 → (result ≡ ends.WriteFault) ⊎ ((result ≡ ends.TooLong) ⊎ (result ≡ ends.Memory))
+  pub long_always : new.given ≡ most_file_bytes + 1 → (result ≡ ends.WriteFault) ⊎ ((result ≡ ends.TooLong) ⊎ (result ≡ ends.Memory))

@@ -1,9 +1,7 @@
+pub mod Answers
 pub mod Causes
-pub mod Findings
 pub mod Outputs
 pub mod Readings
 pub mod Requests
 pub mod Runs
 pub mod Statuses
-pub mod Texts
-pub mod Verdicts

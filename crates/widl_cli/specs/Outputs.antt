@@ -1,29 +1,28 @@
--- What is written for the words of a command line over given files, and the status.
-use Rattle.std.specs.Prelude.{◌≡◌, ◌≢◌, ◌⊎◌, ℕ, ◌≤◌, ◌-◌, ◌==◌, ◌&&◌, Bool, true, false, if◌then◌else◌, length, List, [], ◌++◌, Option, Some, None, codes}
+-- What is written for the arguments of a command line over given files, and the status.
+use Rattle.std.specs.Prelude.{◌≡◌, ℕ, List, ◌++◌, drop, Option, Some, None, codes}
 use Rattle.std.specs.Io.KnownBytes.{append_known}
-use Rattle.widl_trace.specs.Causes.{Rose}
-use Rattle.widl_trace.specs.Growth.{GrewByPrefix}
-use Rattle.widl_trace.specs.Lines.{ended}
-use Rattle.widl_folder.specs.declared.whole_file.FetchError.{FetchError}
-use Rattle.widl_folder.specs.declared.whole_file.FetchError.TheVariants.{Memory, Missing, Failed, TooLong}
+use Rattle.widl_sink.specs.Growth.{GrewByPrefix}
+use Rattle.widl_sink.specs.Lines.{ended}
 use Rattle.widl_first_form.specs.Plans.{plan_of}
 use Rattle.widl_first_form.specs.declared.planned.Plan as plans
 use Rattle.widl_first_form.specs.declared.planned.Plan.TheVariants as plan
 use Rattle.widl_idl.specs.MergedSets.{MergedSet}
 use Rattle.widl_sets.specs.Listing.{all_lines}
-use Rattle.widl_cli.specs.Findings.{finding_line}
+use Rattle.widl_front.specs.Findings.{finding_line}
 use Rattle.widl_cli.specs.Readings.{Reading, AllRead, MissingFile, LongFile, read_in_order}
-use Rattle.widl_cli.specs.Texts.{named}
+use Rattle.widl_front.specs.Texts.{named}
 use Rattle.widl_cli.specs.Requests.{request_of, names_of}
 use Rattle.widl_cli.specs.Runs.{written, end_of}
 use Rattle.widl_cli.specs.declared.help.TheConstants.{HELP, VERSION}
 use Rattle.widl_cli.specs.declared.request.Request as requests
-use Rattle.widl_cli.specs.declared.request.Request.TheVariants.{Help, Version, Check, Sets, Run}
+use Rattle.widl_cli.specs.declared.request.Request.TheVariants.{Help, Version, OverFiles}
+use Rattle.widl_cli.specs.declared.request.Command.{Command}
+use Rattle.widl_cli.specs.declared.request.Command.TheVariants.{Check, Sets, Run}
 use Rattle.widl_cli.specs.declared.status.Status.{Status}
 use Rattle.widl_cli.specs.declared.status.Status.TheVariants as ends
-use Rattle.widl_cli.specs.declared.verdict.Verdict.{Verdict}
-use Rattle.widl_cli.specs.declared.verdict.Verdict.TheVariants.{Fault, Broken, Accepted}
-use Rattle.widl_cli.specs.Verdicts.{IsVerdict, refusal_line}
+use Rattle.widl_front.specs.declared.verdict.Verdict.{Verdict}
+use Rattle.widl_front.specs.declared.verdict.Verdict.TheVariants.{Fault, Broken, Accepted}
+use Rattle.widl_front.specs.Verdicts.{IsVerdict, refusal_line}
 
 -- the bytes and the status
 pub record Output : Type 0 where
@@ -36,13 +35,9 @@ last line status = record { bytes = ended line; status = status }
 
 -- what is written for a plan: the refusal of the fragment or of the script, or the trace
 abbrev pub plan_output : ℕ → plans.Plan → Output
-plan_output budget plan.Unserved = last (codes "refused later 0 0") ends.Refused
+plan_output budget plan.Unsupported = last (codes "refused later 0 0") ends.Refused
 plan_output budget plan.NotScript = last (codes "script S90 1 1") ends.ScriptRefused
 plan_output budget (plan.Run steps) = record { bytes = written budget steps; status = end_of budget steps }
-
--- the script's text is the first, the fragment's the second
-unfoldable pub run_output : ℕ → List (List ℕ) → Output
-run_output budget texts = plan_output budget (plan_of (named texts 1) (named texts 0))
 
 unfoldable pub missing_line : List ℕ → List ℕ
 missing_line name = codes "missing " ++ name
@@ -60,28 +55,27 @@ accepted_output set = last (codes "accepted") ends.Done
 abbrev pub sets_output : MergedSet → Output
 sets_output set = record { bytes = all_lines set.defs; status = ends.Done }
 
+-- what is written for an accepted set by `run` with a budget, a script and fragments; the first form of scripts looks at the first fragment's bytes
+unfoldable pub run_output : ℕ → List ℕ → List (List ℕ) → MergedSet → Output
+run_output budget script fragments set = plan_output budget (plan_of (named fragments 0) script)
+
 -- what is found is named; of an accepted set other things are written
 abbrev pub verdict_output : Verdict → (MergedSet → Output) → Output
 verdict_output (Fault finding) others = last (finding_line finding) ends.Refused
 verdict_output (Broken refusal) others = last (refusal_line refusal) ends.Refused
 verdict_output (Accepted set) others = others set
 
--- what is written for texts of which those from a place on are the fragments
-pub record IsVerdictOutput (texts : List (List ℕ)) (first : ℕ) (others : MergedSet → Output) (output : Output) : Type 0 where
+-- what is written for fragments, with what is written for each accepted set
+pub record IsVerdictOutput (fragments : List (List ℕ)) (others : MergedSet → Output) (output : Output) : Type 0 where
   pub verdict : Verdict
-  pub verdict_is : IsVerdict texts first (length texts - first) verdict
+  pub verdict_is : IsVerdict fragments verdict
   pub output_is : output ≡ verdict_output verdict others
 
--- the fragments are all texts
-abbrev pub IsCheckOutput : List (List ℕ) → Output → Type 0
-IsCheckOutput texts output = IsVerdictOutput texts 0 accepted_output output
-
-abbrev pub IsSetsOutput : List (List ℕ) → Output → Type 0
-IsSetsOutput texts output = IsVerdictOutput texts 0 sets_output output
-
--- the first text is the script, the others are the fragments
-abbrev pub IsRunOutput : ℕ → List (List ℕ) → Output → Type 0
-IsRunOutput budget texts output = IsVerdictOutput texts 1 (λ set. run_output budget texts) output
+-- the fragments are all texts; for `run` the first text is the script, and the others are the fragments
+abbrev pub IsCommandOutput : Command → List (List ℕ) → Output → Type 0
+IsCommandOutput Check texts output = IsVerdictOutput texts accepted_output output
+IsCommandOutput Sets texts output = IsVerdictOutput texts sets_output output
+IsCommandOutput (Run budget) texts output = IsVerdictOutput (drop 1 texts) (run_output budget (named texts 0) (drop 1 texts)) output
 
 -- the first file that isn't there or is too long is named
 abbrev pub IsReadingOutput : (List (List ℕ) → Output → Type 0) → Reading → Output → Type 0
@@ -93,11 +87,9 @@ abbrev pub IsRequestOutput : Option requests.Request → Reading → Output → 
 IsRequestOutput None reading output = output ≡ last (codes "usage") ends.Usage
 IsRequestOutput (Some Help) reading output = output ≡ last HELP.now ends.Done
 IsRequestOutput (Some Version) reading output = output ≡ last VERSION.now ends.Done
-IsRequestOutput (Some Check) reading output = IsReadingOutput IsCheckOutput reading output
-IsRequestOutput (Some Sets) reading output = IsReadingOutput IsSetsOutput reading output
-IsRequestOutput (Some (Run budget)) reading output = IsReadingOutput (IsRunOutput budget) reading output
+IsRequestOutput (Some (OverFiles command)) reading output = IsReadingOutput (IsCommandOutput command) reading output
 
--- the order of causes: the words; the files in the order of reading; the encoding of the fragments; their
+-- the order of causes: the arguments; the files in the order of reading; the encoding of the fragments; their
 -- grammar; the rules of the profile, of merging and of validity; the fragment's form; the script's form; the run
 unfoldable pub IsOutput : List (List ℕ) → List (List ℕ × List ℕ) → Output → Type 0
 IsOutput words files output = IsRequestOutput (request_of words) (read_in_order files (names_of (request_of words) words)) output
@@ -114,25 +106,3 @@ pub record WritesPart (IsIt : Output → Type 0) (old new : Option (List ℕ)) :
   pub output : Output
   pub is : IsIt output
   pub part : GrewByPrefix old new output.bytes
-
--- what is written where a file wasn't read
-abbrev pub unread_output : FetchError → List ℕ → Output
-unread_output (Memory e) name = record { bytes = []; status = ends.Memory }
-unread_output Missing name = last (missing_line name) ends.Missing
-unread_output Failed name = last (fault_line name) ends.ReadFault
-unread_output TooLong name = last (long_line name) ends.TooLong
-
--- the output was written whole, or a write failed or memory was short
-pub record Answers (output : Output) (old new : Option (List ℕ)) (before now : ℕ) (result : Status) : Type 0 where
-  pub later : before ≤ now
-  pub status : result ≢ ends.Memory → result ≢ ends.WriteFault → result ≡ output.status
-  pub wrote : result ≢ ends.Memory → result ≢ ends.WriteFault → new ≡ append_known old output.bytes
-  pub rose : result ≡ ends.WriteFault → Rose before now
-  pub kept : result ≢ ends.WriteFault → now ≡ before
-  pub torn : result ≡ ends.WriteFault → GrewByPrefix old new output.bytes
-  pub short : result ≡ ends.Memory → new ≡ old
-
--- the same for some output, or memory was short before there was one
-abbrev pub Answered : (Output → Type 0) → (old new : Option (List ℕ)) → (before now : ℕ) → Status → Type 0
-Answered IsIt old new before now result =
-    ((result ≡ ends.Memory) × (new ≡ old) × (now ≡ before)) ⊎ ((output : Output) × IsIt output × Answers output old new before now result)

@@ -4,7 +4,8 @@ use Rattle.widl_folder.specs.Files.{file_at}
 use Rattle.widl_folder.specs.Folders.{next_count}
 use Rattle.widl_folder.specs.declared.whole_file.FetchError.{FetchError}
 use Rattle.widl_folder.specs.declared.whole_file.FetchError.TheVariants.{Memory, Missing, Failed, TooLong}
-use Rattle.widl_cli.specs.Texts.{named}
+use Rattle.widl_text.specs.Limits.{most_file_bytes}
+use Rattle.widl_front.specs.Texts.{named}
 use Rattle.widl_cli.specs.declared.unread.Unread.{Unread}
 
 -- the bytes of all files, or the name of the first one that isn't there or is too long
@@ -19,16 +20,16 @@ with_texts texts (AllRead more) = AllRead (texts ++ more)
 with_texts texts (MissingFile name) = MissingFile name
 with_texts texts (LongFile name) = LongFile name
 
--- a file of at most 1,048,576 bytes is read, and then come the others
+-- a file that is not too long is read, and then come the others
 abbrev pub file_then : List ℕ → Option (List ℕ) → Reading → Reading
 file_then name None others = MissingFile name
-file_then name (Some bytes) others = if nat_lt 1048576 (length bytes) then LongFile name else with_texts (bytes ∷ []) others
+file_then name (Some bytes) others = if nat_lt most_file_bytes (length bytes) then LongFile name else with_texts (bytes ∷ []) others
 
 abbrev pub read_in_order : List (List ℕ × List ℕ) → List (List ℕ) → Reading
 read_in_order files [] = AllRead []
 read_in_order files (name ∷ names) = file_then name (file_at files name) (read_in_order files names)
 
--- reading stopped at the file that a word names
+-- reading stopped at the file that an argument names
 abbrev pub StopsFor : FetchError → List ℕ → Reading → Type 0
 StopsFor (Memory e) name reading = Unit {0}
 StopsFor Failed name reading = Unit {0}
@@ -47,7 +48,7 @@ starts_after before (suc more) = next_count (starts_after before more)
 pub record Reads (files : Option (List (List ℕ × List ℕ))) (name : List ℕ) (old new : List (List ℕ)) : Type 0 where
   pub bytes : List ℕ
   pub added : new ≡ old ++ bytes ∷ []
-  pub short : length bytes ≤ 1048576
+  pub short : length bytes ≤ most_file_bytes
   pub told : (told : List (List ℕ × List ℕ)) → files ≡ Some told → (others : Reading) → file_then name (file_at told name) others ≡ with_texts (bytes ∷ []) others
 
 -- one file was not read

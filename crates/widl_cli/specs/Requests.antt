@@ -1,20 +1,23 @@
--- The shapes that the words of a command line can have.
-use Rattle.std.specs.Prelude.{◌≡◌, ℕ, ◌<◌, ◌≤◌, nat_lt, nat_le, List, [], ◌∷◌, Option, Some, None, ◌&&◌, if◌then◌else◌, option_and_then, codes, drop, length}
+-- The forms that the arguments of a command line can have.
+use Rattle.std.specs.Prelude.{◌≡◌, ℕ, ◌+◌, ◌<◌, ◌≤◌, nat_lt, nat_le, List, [], ◌∷◌, Option, Some, None, ◌&&◌, if◌then◌else◌, option_and_then, codes, drop, length}
 use Rattle.std.specs.Fmt.{decimal}
 use Rattle.std.specs.Str.Parse.{digits_value}
 use Rattle.std.specs.Str.{bytes_eq}
+use Rattle.widl_text.specs.Limits.{most_files, most_units}
 use Rattle.widl_cli.specs.declared.request.Request as the
-use Rattle.widl_cli.specs.declared.request.Request.TheVariants.{Help, Version, Check, Sets, Run}
+use Rattle.widl_cli.specs.declared.request.Request.TheVariants.{Help, Version, OverFiles}
+use Rattle.widl_cli.specs.declared.request.Command.{Command}
+use Rattle.widl_cli.specs.declared.request.Command.TheVariants.{Check, Sets, Run}
 
--- the word is the decimal text of a number from 1 to 2,000,000
+-- the argument is the decimal text of a number from 1 to the most units
 pub record IsBudget (word : List ℕ) (units : ℕ) : Type 0 where
   pub text : word ≡ decimal units
-  pub least : 0 < units
-  pub most : units ≤ 2000000
+  pub earliest : 0 < units
+  pub most : units ≤ most_units
 
--- the same as a function: the value of the word's digits, where the word is its decimal text
+-- the same as a function: the value of the argument's digits, where the argument is its decimal text
 abbrev pub budget_from : List ℕ → ℕ → Option ℕ
-budget_from word units = if bytes_eq word (decimal units) && (nat_lt 0 units && nat_le units 2000000) then Some units else None
+budget_from word units = if bytes_eq word (decimal units) && (nat_lt 0 units && nat_le units most_units) then Some units else None
 
 unfoldable pub budget_of : List ℕ → Option ℕ
 budget_of word = budget_from word (digits_value 10 word)
@@ -24,12 +27,12 @@ option_of word = if bytes_eq word (codes "--help") then Some Help else if bytes_
 
 -- `run`, then a budget, the name of a script and the name of a fragment
 abbrev pub run_of : List (List ℕ) → Option the.Request
-run_of (budget ∷ script ∷ fragment ∷ []) = option_and_then (λ units. Some (Run units)) (budget_of budget)
+run_of (budget ∷ script ∷ fragment ∷ []) = option_and_then (λ units. Some (OverFiles (Run units))) (budget_of budget)
 run_of words = None
 
--- `check` or `sets`, then 1 to 64 names
-abbrev pub with_files : the.Request → List (List ℕ) → Option the.Request
-with_files request names = if nat_le (length names) 64 then Some request else None
+-- `check` or `sets`, then a name at least, and at most as many as a set may have files
+abbrev pub with_files : Command → List (List ℕ) → Option the.Request
+with_files command names = if nat_le (length names) most_files then Some (OverFiles command) else None
 
 abbrev pub command_of : List ℕ → List (List ℕ) → Option the.Request
 command_of command [] = option_of command
@@ -42,19 +45,26 @@ unfoldable pub request_of : List (List ℕ) → Option the.Request
 request_of [] = None
 request_of (command ∷ words) = command_of command words
 
+-- the place of the first file's name among the arguments
+abbrev pub first_name : Command → ℕ
+first_name Check = 1
+first_name Sets = 1
+first_name (Run budget) = 2
+
 -- the names of the files that are read, in this order
 abbrev pub names_of : Option the.Request → List (List ℕ) → List (List ℕ)
 names_of None words = []
 names_of (Some Help) words = []
 names_of (Some Version) words = []
-names_of (Some Check) words = drop 1 words
-names_of (Some Sets) words = drop 1 words
-names_of (Some (Run budget)) words = drop 2 words
+names_of (Some (OverFiles command)) words = drop (first_name command) words
 
--- these words are of a shape that names files
+-- these are as many arguments as the command can have
+abbrev pub HasNames : Command → ℕ → Type 0
+HasNames Check count = (1 < count) × (count ≤ most_files + 1)
+HasNames Sets count = (1 < count) × (count ≤ most_files + 1)
+HasNames (Run budget) count = count ≡ 4
+
 abbrev pub HasFiles : the.Request → ℕ → Type 0
 HasFiles Help count = Unit {0}
 HasFiles Version count = Unit {0}
-HasFiles Check count = (1 < count) × (count ≤ 65)
-HasFiles Sets count = (1 < count) × (count ≤ 65)
-HasFiles (Run budget) count = count ≡ 4
+HasFiles (OverFiles command) count = HasNames command count

@@ -1,6 +1,6 @@
 -- A run of some steps with a budget: what is written before the units run out, and how it ends.
 use Rattle.std.specs.Prelude.{ℕ, ◌-◌, List, [], ◌∷◌, ◌++◌, nat_lt, Option, Some, None, if◌then◌else◌, codes}
-use Rattle.widl_trace.specs.Lines.{ended}
+use Rattle.widl_sink.specs.Lines.{ended}
 use Rattle.widl_first_form.specs.declared.step.Step.{Step}
 use Rattle.widl_cli.specs.declared.status.Status.{Status}
 use Rattle.widl_cli.specs.declared.status.Status.TheVariants.{Done, Stopped}

@@ -1,50 +1,94 @@
-//! Writing the answer of a request.
+//! Writing the answer of a command.
 
-ghost use Rattle.std.specs.Prelude.{◌≡◌, ◌≢◌, ◌≤◌, ◌++◌, IfOk, OnOk, OnErr, codes, length};
+ghost use Rattle.std.specs.Prelude.{◌≡◌, ◌≢◌, ◌<◌, ◌≤◌, ◌++◌, IfOk, OnOk, OnErr, codes, length};
 ghost use Rattle.std.specs.Io.KnownBytes.{append_known};
-ghost use Rattle.widl_trace.specs.Causes.{HasCause};
-ghost use Rattle.widl_trace.specs.Growth.{GrewByPrefix};
-ghost use Rattle.widl_trace.specs.Lines.{ended};
-ghost use Rattle.widl_cli.specs.Outputs.{plan_output, run_output, sets_output, unread_output, last, Answers, Answered, IsCheckOutput, IsSetsOutput, IsRunOutput};
-ghost use Rattle.widl_cli.specs.Findings.{finding_line};
-ghost use Rattle.widl_cli.specs.Verdicts.{refusal_line};
-ghost use Rattle.widl_cli.specs.Texts.{named, AreShort};
-ghost use Rattle.widl_cli.specs.declared.status.Status.TheVariants as ends;
+ghost use Rattle.widl_text.specs.Limits.{most_files};
+ghost use Rattle.widl_sink.specs.Causes.{HasCause};
+ghost use Rattle.widl_sink.specs.Growth.{GrewByPrefix};
+ghost use Rattle.widl_sink.specs.Lines.{ended};
+ghost use Rattle.widl_front.specs.Findings.{finding_line};
+ghost use Rattle.widl_front.specs.Texts.{AreShort};
+ghost use Rattle.widl_front.specs.Verdicts.{refusal_line};
+ghost use Rattle.widl_cli.specs.Answers.{Answered, Answers, task_output, unread_output};
+ghost use Rattle.widl_cli.specs.Outputs.{plan_output, run_output, sets_output, last, IsCommandOutput, IsVerdictOutput};
 ghost use Rattle.widl_cli.specs.Readings.{IsMemory};
-ghost use Rattle.widl_first_form.specs.Plans.{plan_of};
+ghost use Rattle.widl_cli.specs.declared.request.Command.TheVariants as commands;
+ghost use Rattle.widl_cli.specs.declared.status.Status.TheVariants as ends;
 ghost use Rattle.widl_first_form.specs.declared.planned.Plan.TheVariants as plans;
 ghost use Rattle.widl_folder.specs.declared.whole_file.FetchError.TheVariants as causes;
 
 use crate::Status;
-use crate::checking::judge;
-use crate::finding::Finding;
-use crate::finding_line::{line_of, line_of_refusal};
 use crate::perform::perform_steps;
-use crate::texts::Texts;
-use crate::verdict::Verdict;
+use crate::request::Command;
+use crate::task::Task;
 use std::alloc::{AllocError, Global};
 use std::mem;
 use widl_first_form::{Plan, Steps, make_plan};
 use widl_folder::FetchError;
+use widl_front::{Finding, Texts, Verdict, judge, line_of_finding, line_of_refusal};
 use widl_idl::Refusal;
 use widl_overload::Accepted;
 use widl_sets::set_lines;
-use widl_trace::{Line, Sink, WriteFailed, Writer, write_all};
+use widl_sink::{Line, Sink, WriteFailed, Writer, write_all};
 
-/// Says of some fragments whether they are a valid set.
-pub fn answer_check<K: Sink>(alloc: Global, texts: &Texts, out: &mut K) -> Status
-    requires few { length texts.now ≤ 64 }
-    requires short { AreShort texts.now }
-    ensures { Answered (IsCheckOutput texts.now) (K.held out.old) (K.held out.new) (K.faults out.old) (K.faults out.new) result }
+/// Answers a command over the texts of its files: for a run the first text is the script, and the others are
+/// the fragments; for the other commands all are fragments.
+pub fn answer_texts<K: Sink>(alloc: Global, command: Command, texts: Texts, out: &mut K) -> Status
+    requires some { 0 < length texts }
+    requires few { length texts ≤ most_files }
+    requires short { AreShort texts }
+    ensures { Answered (IsCommandOutput command texts) (K.held out.old) (K.held out.new) (K.faults out.old) (K.faults out.new) result }
 {
-    match judge(alloc, texts, 0) {
+    match command {
+        Command::Check => answer_fragments(alloc, &Task::Check, &texts, out),
+        Command::Sets => answer_fragments(alloc, &Task::Sets, &texts, out),
+        Command::Run(budget) => answer_run(alloc, budget, texts, out),
+    }
+}
+
+/// Takes the script off the texts, and runs it over the others.
+fn answer_run<K: Sink>(alloc: Global, budget: u64, texts: Texts, out: &mut K) -> Status
+    requires some { 0 < length texts }
+    requires few { length texts ≤ most_files }
+    requires short { AreShort texts }
+    ensures { Answered (IsCommandOutput (commands.Run budget) texts) (K.held out.old) (K.held out.new) (K.faults out.old) (K.faults out.new) result }
+{
+    let mut fragments = texts;
+    let script = fragments.take_first();
+    answer_fragments(alloc, &Task::Run(budget, script), &fragments, out)
+}
+
+/// Names what is found in some fragments, or does a task with their accepted set.
+fn answer_fragments<K: Sink>(alloc: Global, task: &Task, fragments: &Texts, out: &mut K) -> Status
+    requires few { length fragments.now ≤ most_files }
+    requires short { AreShort fragments.now }
+    ensures { Answered (IsVerdictOutput fragments.now (task_output task.now fragments.now)) (K.held out.old) (K.held out.new) (K.faults out.old) (K.faults out.new) result }
+{
+    match judge(alloc, fragments) {
         Err(AllocError) => Status::Memory,
         Ok(Verdict::Fault(finding)) => answer_finding(alloc, finding, out),
         Ok(Verdict::Broken(refusal)) => answer_refusal(alloc, refusal, out),
-        Ok(Verdict::Accepted(accepted)) => {
+        Ok(Verdict::Accepted(accepted)) => do_task(alloc, task, fragments, accepted, out),
+    }
+}
+
+/// Does a task with the accepted set of some fragments.
+fn do_task<K: Sink>(
+    alloc: Global,
+    task: &Task,
+    fragments: &Texts,
+    accepted: Accepted,
+    out: &mut K,
+) -> Status
+    ensures { Answers (task_output task.now fragments.now accepted) (K.held out.old) (K.held out.new) (K.faults out.old) (K.faults out.new) result }
+{
+    match task {
+        Task::Check => {
             leave_to_the_end(accepted);
             answer_accepted(alloc, out)
         }
+        Task::Sets => answer_lines(alloc, &accepted, out),
+        Task::Run(budget, script) => run_script(alloc, *budget, script, fragments, &accepted, out),
     }
 }
 
@@ -54,52 +98,17 @@ fn leave_to_the_end(accepted: Accepted) {
     mem::forget(accepted);
 }
 
-/// Writes the effective overload sets of some fragments, if they are a valid set.
-pub fn answer_sets<K: Sink>(alloc: Global, texts: &Texts, out: &mut K) -> Status
-    requires few { length texts.now ≤ 64 }
-    requires short { AreShort texts.now }
-    ensures { Answered (IsSetsOutput texts.now) (K.held out.old) (K.held out.new) (K.faults out.old) (K.faults out.new) result }
-{
-    match judge(alloc, texts, 0) {
-        Err(AllocError) => Status::Memory,
-        Ok(Verdict::Fault(finding)) => answer_finding(alloc, finding, out),
-        Ok(Verdict::Broken(refusal)) => answer_refusal(alloc, refusal, out),
-        Ok(Verdict::Accepted(accepted)) => answer_lines(alloc, &accepted, out),
-    }
-}
-
-/// Runs a script over a fragment: the first text is the script's, the second the fragment's.
-pub fn answer_run<K: Sink>(alloc: Global, budget: u64, texts: &Texts, out: &mut K) -> Status
-    requires few { length texts.now ≤ 65 }
-    requires short { AreShort texts.now }
-    ensures { Answered (IsRunOutput budget texts.now) (K.held out.old) (K.held out.new) (K.faults out.old) (K.faults out.new) result }
-{
-    match judge(alloc, texts, 1) {
-        Err(AllocError) => Status::Memory,
-        Ok(Verdict::Fault(finding)) => answer_finding(alloc, finding, out),
-        Ok(Verdict::Broken(refusal)) => answer_refusal(alloc, refusal, out),
-        Ok(Verdict::Accepted(_)) => answer_script(alloc, budget, texts, out),
-    }
-}
-
-#[tactic(auto, unfolding(crate::specs::Outputs::run_output))]
-fn answer_script<K: Sink>(alloc: Global, budget: u64, texts: &Texts, out: &mut K) -> Status
-    ensures { Answers (run_output budget texts.now) (K.held out.old) (K.held out.new) (K.faults out.old) (K.faults out.new) result }
-{
-    answer_texts(alloc, budget, texts.named(0), texts.named(1), out)
-}
-
 /// Names the first fault of the files.
 fn answer_finding<K: Sink>(alloc: Global, finding: Finding, out: &mut K) -> Status
     ensures { Answers (last (finding_line finding) ends.Refused) (K.held out.old) (K.held out.new) (K.faults out.old) (K.faults out.new) result }
 {
-    match line_of(alloc, finding) {
+    match line_of_finding(alloc, finding) {
         Err(AllocError) => Status::Memory,
         Ok(line) => last_line(alloc, &line, b"", Status::Refused, out),
     }
 }
 
-/// Names the least refusal of the files by a rule.
+/// Names the first refusal of the files by a rule.
 fn answer_refusal<K: Sink>(alloc: Global, refusal: Refusal, out: &mut K) -> Status
     ensures { Answers (last (refusal_line refusal) ends.Refused) (K.held out.old) (K.held out.new) (K.faults out.old) (K.faults out.new) result }
 {
@@ -136,18 +145,22 @@ fn write_lines<K: Sink>(lines: &[u8], out: &mut K) -> Status
     }
 }
 
-fn answer_texts<K: Sink>(
+/// Runs a script over an accepted set of fragments: the first form of scripts looks at the first fragment's
+/// bytes.
+#[tactic(auto, unfolding(crate::specs::Outputs::run_output))]
+fn run_script<K: Sink>(
     alloc: Global,
     budget: u64,
     script: &[u8],
-    fragment: &[u8],
+    fragments: &Texts,
+    accepted: &Accepted,
     out: &mut K,
 ) -> Status
-    ensures { Answers (plan_output budget (plan_of fragment.now script.now)) (K.held out.old) (K.held out.new) (K.faults out.old) (K.faults out.new) result }
+    ensures { Answers (run_output budget script.now fragments.now accepted.now) (K.held out.old) (K.held out.new) (K.faults out.old) (K.faults out.new) result }
 {
-    match make_plan(alloc, fragment, script) {
+    match make_plan(alloc, fragments.named(0), script) {
         Err(AllocError) => Status::Memory,
-        Ok(Plan::Unserved) => last_line(alloc, b"refused later 0 0", b"", Status::Refused, out),
+        Ok(Plan::Unsupported) => last_line(alloc, b"refused later 0 0", b"", Status::Refused, out),
         Ok(Plan::NotScript) => {
             last_line(alloc, b"script S90 1 1", b"", Status::ScriptRefused, out)
         }
@@ -155,6 +168,7 @@ fn answer_texts<K: Sink>(
     }
 }
 
+/// Does the steps of a run.
 fn run_steps<K: Sink>(alloc: Global, budget: u64, steps: &Steps, out: &mut K) -> Status
     ensures { Answers (plan_output budget (plans.Run steps.now)) (K.held out.old) (K.held out.new) (K.faults out.old) (K.faults out.new) result }
 {
@@ -183,6 +197,7 @@ pub fn answer_unread<K: Sink>(alloc: Global, cause: FetchError, name: &str, out:
     }
 }
 
+/// Says that a file is not there.
 #[tactic(auto, unfolding(crate::specs::Outputs::missing_line))]
 fn missing_line<K: Sink>(alloc: Global, name: &str, out: &mut K) -> Status
     ensures { Answers (unread_output causes.Missing name.now) (K.held out.old) (K.held out.new) (K.faults out.old) (K.faults out.new) result }
@@ -190,6 +205,7 @@ fn missing_line<K: Sink>(alloc: Global, name: &str, out: &mut K) -> Status
     last_line(alloc, b"missing ", name.as_bytes(), Status::Missing, out)
 }
 
+/// Says that a file could not be read.
 #[tactic(auto, unfolding(crate::specs::Outputs::fault_line))]
 fn fault_line<K: Sink>(alloc: Global, name: &str, out: &mut K) -> Status
     ensures { Answers (unread_output causes.Failed name.now) (K.held out.old) (K.held out.new) (K.faults out.old) (K.faults out.new) result }
@@ -203,6 +219,7 @@ fn fault_line<K: Sink>(alloc: Global, name: &str, out: &mut K) -> Status
     )
 }
 
+/// Says that a file is too long.
 #[tactic(auto, unfolding(crate::specs::Outputs::long_line))]
 fn long_line<K: Sink>(alloc: Global, name: &str, out: &mut K) -> Status
     ensures { Answers (unread_output causes.TooLong name.now) (K.held out.old) (K.held out.new) (K.faults out.old) (K.faults out.new) result }
@@ -234,6 +251,11 @@ pub fn last_line<K: Sink>(
     }
 }
 
+/// Writes a line, and what the writer holds, to the sink.
+///
+/// # Errors
+///
+/// `WriteFailed` where the sink failed.
 fn write_line<K: Sink>(line: &Line, writer: &mut Writer, out: &mut K) -> Result<(), WriteFailed>
     ensures wrote { OnOk result (K.held out.new ≡ append_known (K.held out.old) (writer.old ++ ended line.now)) }
     ensures torn { OnErr result (GrewByPrefix (K.held out.old) (K.held out.new) (writer.old ++ ended line.now)) }
@@ -243,6 +265,11 @@ fn write_line<K: Sink>(line: &Line, writer: &mut Writer, out: &mut K) -> Result<
     writer.flush(out)
 }
 
+/// The line of two texts, one after the other.
+///
+/// # Errors
+///
+/// `AllocError` where there is no memory.
 fn joined_line(alloc: Global, front: &[u8], name: &[u8]) -> Result<Line, AllocError>
     ensures { IfOk result (λ line. line ≡ front.now ++ name.now) }
 {

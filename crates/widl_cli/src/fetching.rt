@@ -1,18 +1,19 @@
-//! Reading the files that the words name.
+//! Reading the files that the arguments name.
 
 ghost use Rattle.std.specs.Prelude.{◌≡◌, ℕ, ◌+◌, ◌-◌, ◌<◌, ◌≤◌, List, length, drop, Some, IfOk, IfErr, OnOk, IsErrAnd};
 ghost use Rattle.widl_folder.specs.Folders.{Counts, next_count};
 ghost use Rattle.widl_cli.specs.Readings.{read_in_order, AllRead, StopsAt, StopsHere, Reads, starts_after};
-ghost use Rattle.widl_cli.specs.Texts.{named, AreShort};
+ghost use Rattle.widl_front.specs.Texts.{named, AreShort};
+ghost use Rattle.widl_text.specs.Limits.{most_file_bytes};
 ghost use Rattle.widl_folder.specs.declared.whole_file.FetchError.TheVariants as causes;
 
 use crate::Words;
-use crate::texts::Texts;
 use crate::unread::Unread;
 use std::alloc::{AllocError, Global};
 use widl_folder::{FetchError, Folder, fetch};
+use widl_front::Texts;
 
-/// The bytes of the files that the words name from a place on, in their order.
+/// The bytes of the files that the arguments name from a place on, in their order.
 ///
 /// # Errors
 ///
@@ -32,10 +33,10 @@ pub fn fetch_all<F: Folder>(
     ensures place { IfErr result (λ unread. (first ≤ unread.place) × (unread.place < length words.now)) }
 
     // The bytes that were given, and the counts.
-    ensures given_ok { IfOk result (λ _. F.given folder.new ≤ 1048576) }
-    ensures given_long { IsErrAnd result (λ unread. unread.cause ≡ causes.TooLong) → F.given folder.new ≡ 1048577 }
-    ensures given_missing { IsErrAnd result (λ unread. unread.cause ≡ causes.Missing) → F.given folder.new ≤ 1048576 }
-    ensures given_failed { IsErrAnd result (λ unread. unread.cause ≡ causes.Failed) → F.given folder.new ≤ 1048576 }
+    ensures given_ok { IfOk result (λ _. F.given folder.new ≤ most_file_bytes) }
+    ensures given_long { IsErrAnd result (λ unread. unread.cause ≡ causes.TooLong) → F.given folder.new ≡ most_file_bytes + 1 }
+    ensures given_missing { IsErrAnd result (λ unread. unread.cause ≡ causes.Missing) → F.given folder.new ≤ most_file_bytes }
+    ensures given_failed { IsErrAnd result (λ unread. unread.cause ≡ causes.Failed) → F.given folder.new ≤ most_file_bytes }
     ensures missing { Counts (IsErrAnd result (λ unread. unread.cause ≡ causes.Missing)) (F.misses folder.old) (F.misses folder.new) }
     ensures failed { Counts (IsErrAnd result (λ unread. unread.cause ≡ causes.Failed)) (F.faults folder.old) (F.faults folder.new) }
     ensures starts { IfErr result (λ unread. F.starts folder.new ≡ starts_after (F.starts folder.old) (unread.place - first + 1)) }
@@ -47,7 +48,11 @@ pub fn fetch_all<F: Folder>(
     Ok(texts)
 }
 
-/// Reads the file that the word at a place names, and adds its bytes.
+/// Reads the file that the argument at a place names, and adds its bytes.
+///
+/// # Errors
+///
+/// The file, where it was not read whole, and why.
 fn fetch_one<F: Folder>(
     alloc: Global,
     folder: &mut F,
@@ -59,10 +64,10 @@ fn fetch_one<F: Folder>(
     ensures reads { OnOk result (Reads (F.files folder.old) (named words.now place) texts.old texts.new) }
     ensures stops { IfErr result (λ unread. StopsHere (F.files folder.old) (named words.now place) unread.cause) }
     ensures place { IfErr result (λ unread. unread.place ≡ place) }
-    ensures given_ok { OnOk result (F.given folder.new ≤ 1048576) }
-    ensures given_long { IsErrAnd result (λ unread. unread.cause ≡ causes.TooLong) → F.given folder.new ≡ 1048577 }
-    ensures given_missing { IsErrAnd result (λ unread. unread.cause ≡ causes.Missing) → F.given folder.new ≤ 1048576 }
-    ensures given_failed { IsErrAnd result (λ unread. unread.cause ≡ causes.Failed) → F.given folder.new ≤ 1048576 }
+    ensures given_ok { OnOk result (F.given folder.new ≤ most_file_bytes) }
+    ensures given_long { IsErrAnd result (λ unread. unread.cause ≡ causes.TooLong) → F.given folder.new ≡ most_file_bytes + 1 }
+    ensures given_missing { IsErrAnd result (λ unread. unread.cause ≡ causes.Missing) → F.given folder.new ≤ most_file_bytes }
+    ensures given_failed { IsErrAnd result (λ unread. unread.cause ≡ causes.Failed) → F.given folder.new ≤ most_file_bytes }
     ensures missing { Counts (IsErrAnd result (λ unread. unread.cause ≡ causes.Missing)) (F.misses folder.old) (F.misses folder.new) }
     ensures failed { Counts (IsErrAnd result (λ unread. unread.cause ≡ causes.Failed)) (F.faults folder.old) (F.faults folder.new) }
     ensures starts { F.starts folder.new ≡ next_count (F.starts folder.old) }

@@ -1,6 +1,6 @@
 //! The texts of `--help` and `--version`.
 
-/// The help text, without its last line feed: each shape of words, and the statuses.
+/// The help text, without its last line feed: each form of the command line, and the statuses.
 pub const HELP: &[u8] =
     b"widl reads Web IDL files and a call script, and writes the trace of the calls.
 

@@ -1,14 +1,12 @@
-//! The program `widl`: it answers the words of a command line over a folder of files, and writes to a
-//! sink. It stands on all other crates. The one contract that counts is that of [`widl`], which the
-//! program calls with the disk and standard output: what is written is the defined output of the words
-//! and the files, and each failure is tied to its cause.
+//! The program `widl`: it answers the arguments of a command line over a folder of files, and writes to a
+//! sink. It stands on the verdict of `widl_front`, on what is written for an accepted set (`widl_sets`,
+//! `widl_first_form`), and on folders and sinks (`widl_folder`, `widl_sink`). The main contract is that of
+//! [`widl`], which the program calls with the disk and standard output: what is written is the defined
+//! output of the arguments and the files, and each failure is tied to its cause.
 #![tactic(auto)]
 
 mod answer;
-mod checking;
 mod fetching;
-mod finding;
-mod finding_line;
 mod help;
 pub mod laws;
 mod perform;
@@ -16,12 +14,11 @@ mod reader;
 mod request;
 mod status;
 mod sure;
+mod task;
 #[cfg(test)]
 mod tests;
-mod texts;
 mod top;
 mod unread;
-mod verdict;
 mod words;
 
 pub use status::Status;
@@ -32,7 +29,7 @@ pub use top::widl;
 pub use widl_folder::{
     DiskFolder, Files, Folder, MemoryFolder, NamedFile, ReadFailed, Started, SureFolder,
 };
-use widl_trace::StdoutSink;
+use widl_sink::StdoutSink;
 pub use words::Words;
 
 fn main(rt: HostRuntime) -> ExitCode {
@@ -46,7 +43,7 @@ fn main(rt: HostRuntime) -> ExitCode {
     ExitCode::from(status.number())
 }
 
-/// The words after the program's own name.
+/// The arguments after the program's own name.
 ///
 /// # Errors
 ///

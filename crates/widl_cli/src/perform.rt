@@ -2,13 +2,13 @@
 
 ghost use Rattle.std.specs.Prelude.{◌≡◌, ◌++◌, codes, IfOk, OnOk, OnErr};
 ghost use Rattle.std.specs.Io.KnownBytes.{append_known};
-ghost use Rattle.widl_trace.specs.Causes.{HasCause};
-ghost use Rattle.widl_trace.specs.Growth.{Sends, GrewByPrefix};
+ghost use Rattle.widl_sink.specs.Causes.{HasCause};
+ghost use Rattle.widl_sink.specs.Growth.{Sends, GrewByPrefix};
 ghost use Rattle.widl_cli.specs.Runs.{bytes_of, written, end_of};
 
 use crate::Status;
 use widl_first_form::{Step, Steps};
-use widl_trace::{Line, Sink, WriteFailed, Writer};
+use widl_sink::{Line, Sink, WriteFailed, Writer};
 
 /// Does steps until the units of the budget run out, and says how it ended. Where fewer units are left
 /// than a step takes, nothing is taken and the line `stop` is written.
@@ -34,6 +34,11 @@ pub fn perform_steps<K: Sink>(
     Ok(status)
 }
 
+/// The same, without what the writer still holds at the end.
+///
+/// # Errors
+///
+/// `WriteFailed` where the sink failed.
 fn perform_all<K: Sink>(
     steps: &Steps,
     budget: u64,
@@ -61,6 +66,10 @@ fn perform_all<K: Sink>(
 }
 
 /// Writes the line of a step, if it has one.
+///
+/// # Errors
+///
+/// `WriteFailed` where the sink failed.
 fn write_line<K: Sink>(step: &Step, writer: &mut Writer, out: &mut K) -> Result<(), WriteFailed>
     ensures wrote { OnOk result (Sends (K.held out.old) (K.held out.new) writer.old (bytes_of step.now.line) writer.new) }
     ensures torn { OnErr result (GrewByPrefix (K.held out.old) (K.held out.new) (writer.old ++ bytes_of step.now.line)) }

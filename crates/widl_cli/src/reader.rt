@@ -1,19 +1,14 @@
-//! Reading the words of a command line.
+//! Reading the arguments of a command line.
 
 ghost use Rattle.std.specs.Prelude.{◌≡◌, ℕ, ◌<◌, ◌≤◌, IfSome, IfNone, length};
 ghost use Rattle.widl_cli.specs.Requests.{request_of, option_of, budget_of, IsBudget, HasFiles};
 
 use crate::Words;
-use crate::request::Request;
+use crate::request::{Command, Request};
 use itoa::Buffer;
+use widl_text::limits::{MOST_FILES, MOST_UNITS};
 
-/// The most units of a budget.
-const MOST_UNITS: u64 = 2_000_000;
-
-/// The most fragments that are read at once.
-const MOST_FILES: usize = 64;
-
-/// What the words ask for, if they have one of the shapes.
+/// What the arguments ask for, if they have one of the forms.
 #[tactic(auto, unfolding(crate::specs::Requests::request_of))]
 pub fn read_request(words: &Words) -> Option<Request>
     ensures request { result ≡ request_of words.now }
@@ -26,7 +21,7 @@ pub fn read_request(words: &Words) -> Option<Request>
     }
 }
 
-/// What the words ask for that name files.
+/// What the arguments ask for that name files.
 #[tactic(auto, unfolding(crate::specs::Requests::request_of))]
 fn read_command(words: &Words) -> Option<Request>
     requires { 1 < length words.now }
@@ -34,25 +29,28 @@ fn read_command(words: &Words) -> Option<Request>
     ensures files { IfSome result (λ request. HasFiles request (length words.now)) }
 {
     let command = words.at(0).as_str();
+    let few = words.len() <= MOST_FILES + 1;
     if command == "check" {
-        if words.len() <= MOST_FILES + 1 {
-            Some(Request::Check)
+        if few {
+            Some(Request::OverFiles(Command::Check))
         } else {
             None
         }
     } else if command == "sets" {
-        if words.len() <= MOST_FILES + 1 {
-            Some(Request::Sets)
+        if few {
+            Some(Request::OverFiles(Command::Sets))
         } else {
             None
         }
     } else if command == "run" && words.len() == 4 {
-        Some(Request::Run(read_budget(words.at(1).as_str())?))
+        let budget = read_budget(words.at(1).as_str())?;
+        Some(Request::OverFiles(Command::Run(budget)))
     } else {
         None
     }
 }
 
+/// What a single argument asks for.
 fn read_option(word: &str) -> Option<Request>
     ensures request { result ≡ option_of word.now }
     ensures files { IfSome result (λ request. (count : ℕ) → HasFiles request count) }
@@ -66,7 +64,7 @@ fn read_option(word: &str) -> Option<Request>
     }
 }
 
-/// The budget that a word is the decimal text of, without a sign or a leading zero.
+/// The budget that an argument is the decimal text of, without a sign or a leading zero.
 fn read_budget(word: &str) -> Option<u64>
     ensures some { IfSome result (IsBudget word.now) }
     ensures none { IfNone result ((units : ℕ) → IsBudget word.now units → ⊥) }
@@ -78,7 +76,7 @@ fn read_budget(word: &str) -> Option<u64>
     }
 }
 
-/// The number, if the word is its text as a budget.
+/// The number, if the argument is its text as a budget.
 fn if_budget(word: &str, units: u64) -> Option<u64>
     ensures some { IfSome result (λ budget. (budget ≡ units) × IsBudget word.now units) }
     ensures none { IfNone result (IsBudget word.now units → ⊥) }

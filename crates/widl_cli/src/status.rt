@@ -10,7 +10,7 @@ pub enum Status {
     Done,
     /// 1: there was no memory.
     Memory,
-    /// 2: the words have no known shape.
+    /// 2: the arguments have no known form.
     Usage,
     /// 3: the set of fragments was refused.
     Refused,

@@ -5,9 +5,9 @@ ghost use Rattle.widl_cli.specs.Outputs.{Output, IsOutput};
 
 use crate::{Folder, Status, SureFolder, Words, widl};
 use std::alloc::Global;
-use widl_trace::SureSink;
+use widl_sink::SureSink;
 
-/// Over a folder and a sink that never fail, only want of memory keeps the status of the output back.
+/// Over a folder and a sink that never fail, only out of memory keeps the status of the output back.
 pub fn widl_surely(
     alloc: Global,
     words: &Words,

@@ -10,13 +10,14 @@ use std::alloc::{AllocError, Global};
 use std::fs;
 use std::process::Abort;
 use std::test::Fail;
-use widl_trace::{MemorySink, Numbers, SureSink};
+use widl_sink::{MemorySink, Numbers, SureSink};
 
 mod fragments;
 mod inheritance;
 mod merging;
 mod overloads;
 mod profile;
+mod served;
 mod validity;
 
 const FRAGMENT: &str = "namespace N { undefined f(octet a); };";
@@ -115,7 +116,7 @@ fn a_budget_that_runs_out_stops_the_run(rt: HostRuntime) -> Result<(), Fail> {
 }
 
 #[test]
-fn an_empty_namespace_is_not_served(rt: HostRuntime) -> Result<(), Fail> {
+fn an_empty_namespace_is_not_supported(rt: HostRuntime) -> Result<(), Fail> {
     expect_run(
         &rt,
         rt.alloc(),
@@ -189,14 +190,14 @@ fn a_file_of_one_byte_too_many_is_too_long(rt: HostRuntime) -> Result<(), Fail> 
 }
 
 #[test]
-fn the_help_names_each_shape_of_words(rt: HostRuntime) -> Result<(), Fail> {
+fn the_help_names_each_form_of_the_command_line(rt: HostRuntime) -> Result<(), Fail> {
     let alloc = rt.alloc();
     let mut folder = SureFolder::new(Files::new(alloc));
     let mut out = MemorySink::new(alloc, 10_000, 10_000, Numbers::new(alloc))?;
     let words = words_of(alloc, &["--help"])?;
     assert_eq!(rt; widl(alloc, &words, &mut folder, &mut out), Status::Done);
     let text = std::str::from_utf8(out.held())?;
-    for shape in [
+    for form in [
         "widl run BUDGET SCRIPT IDL ",
         "widl check FILE.. ",
         "widl sets FILE.. ",
@@ -204,7 +205,7 @@ fn the_help_names_each_shape_of_words(rt: HostRuntime) -> Result<(), Fail> {
         "widl --version ",
         "status 0 done",
     ] {
-        assert!(rt; text.contains(shape));
+        assert!(rt; text.contains(form));
     }
     let words = words_of(alloc, &["--version"])?;
     let mut out = SureSink::new();
@@ -216,7 +217,7 @@ fn the_help_names_each_shape_of_words(rt: HostRuntime) -> Result<(), Fail> {
 }
 
 /// Hands fragments to a command, and compares the status and the bytes.
-fn expect_words(
+fn expect_command(
     rt: &impl Abort,
     alloc: Global,
     command: &str,
@@ -246,7 +247,7 @@ fn expect_check(
     status: Status,
     text: &str,
 ) -> Result<(), Fail> {
-    expect_words(rt, alloc, "check", fragments, status, text)
+    expect_command(rt, alloc, "check", fragments, status, text)
 }
 
 /// Checks sets of one fragment that break no rule.

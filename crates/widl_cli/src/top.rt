@@ -1,31 +1,32 @@
 //! The top call.
 
-ghost use Rattle.std.specs.Prelude.{◌≡◌, ◌≢◌, [], ◌-◌, ◌<◌, ◌≤◌, ◌⊎◌, ℕ, List, Some, None, length, drop};
+ghost use Rattle.std.specs.Prelude.{◌≡◌, ◌≢◌, [], ◌+◌, ◌-◌, ◌<◌, ◌⊎◌, ℕ, List, Some, None, length, drop};
 ghost use Rattle.std.specs.Io.KnownBytes.{append_known};
-ghost use Rattle.widl_trace.specs.Causes.{Rose};
-ghost use Rattle.widl_trace.specs.Growth.{GrewByPrefix};
-ghost use Rattle.widl_cli.specs.Outputs.{IsOutput, IsReadingOutput, IsCheckOutput, IsSetsOutput, IsRunOutput, Writes, WritesPart};
-ghost use Rattle.widl_cli.specs.Requests.{request_of, names_of};
+ghost use Rattle.widl_text.specs.Limits.{most_file_bytes};
+ghost use Rattle.widl_sink.specs.Causes.{Rose};
+ghost use Rattle.widl_sink.specs.Growth.{GrewByPrefix};
+ghost use Rattle.widl_cli.specs.Outputs.{IsOutput, IsReadingOutput, IsCommandOutput, Writes, WritesPart};
+ghost use Rattle.widl_cli.specs.Requests.{request_of, names_of, first_name, HasNames};
 ghost use Rattle.widl_cli.specs.Readings.{read_in_order};
 ghost use Rattle.widl_cli.specs.Causes.{Ends, fault_of};
 
-use crate::answer::{answer_check, answer_run, answer_sets, answer_unread, last_line};
+use crate::answer::{answer_texts, answer_unread, last_line};
 use crate::fetching::fetch_all;
 use crate::help::{HELP, VERSION};
 use crate::reader::read_request;
-use crate::request::Request;
+use crate::request::{Command, Request};
 use crate::{Folder, Status, Words};
 use std::alloc::Global;
-use widl_trace::Sink;
+use widl_sink::Sink;
 
-/// Answers the words of a command line over a folder, writes the answer to a sink and tells how it
+/// Answers the arguments of a command line over a folder, writes the answer to a sink and tells how it
 /// ended.
 pub fn widl<F: Folder, K: Sink>(alloc: Global, words: &Words, folder: &mut F, out: &mut K) -> Status
     // What is answered and written, where the files are told: the defined output.
     ensures output { (told : List (List ℕ × List ℕ)) → F.files folder.old ≡ Some told → result ≢ Status.Memory → result ≢ Status.ReadFault → result ≢ Status.WriteFault
         → Writes (IsOutput words.now told) (K.held out.old) (K.held out.new) result }
 
-    // `Usage` comes exactly where the words have no shape.
+    // `Usage` comes exactly where the arguments have no form.
     ensures usage { result ≡ Status.Usage → request_of words.now ≡ None }
     ensures usage_always { request_of words.now ≡ None → (result ≡ Status.WriteFault) ⊎ ((result ≡ Status.Usage) ⊎ (result ≡ Status.Memory)) }
 
@@ -37,12 +38,12 @@ pub fn widl<F: Folder, K: Sink>(alloc: Global, words: &Words, folder: &mut F, ou
     ensures missing { result ≡ Status.Missing → Rose (F.misses folder.old) (F.misses folder.new) }
     ensures miss_always { F.misses folder.old < F.misses folder.new → (result ≡ Status.WriteFault) ⊎ ((result ≡ Status.Missing) ⊎ (result ≡ Status.Memory)) }
 
-    // `TooLong` comes exactly where the words name files and the folder gave one byte too many.
-    ensures too_long { result ≡ Status.TooLong → (names_of (request_of words.now) words.now ≢ []) × (F.given folder.new ≡ 1048577) }
-    ensures long_always { names_of (request_of words.now) words.now ≢ [] → F.given folder.new ≡ 1048577
+    // `TooLong` comes exactly where the arguments name files and the folder gave one byte too many.
+    ensures too_long { result ≡ Status.TooLong → (names_of (request_of words.now) words.now ≢ []) × (F.given folder.new ≡ most_file_bytes + 1) }
+    ensures long_always { names_of (request_of words.now) words.now ≢ [] → F.given folder.new ≡ most_file_bytes + 1
         → (result ≡ Status.WriteFault) ⊎ ((result ≡ Status.TooLong) ⊎ (result ≡ Status.Memory)) }
 
-    // What the sink holds after a failure: nothing more after want of memory; else a prefix of the
+    // What the sink holds after a failure: nothing more after out of memory; else a prefix of the
     // defined output, or of the line that names the file that was started last.
     ensures short { result ≡ Status.Memory → K.held out.new ≡ K.held out.old }
     ensures torn { (told : List (List ℕ × List ℕ)) → F.files folder.old ≡ Some told → (Rose (F.faults folder.old) (F.faults folder.new) → ⊥)
@@ -57,77 +58,27 @@ pub fn widl<F: Folder, K: Sink>(alloc: Global, words: &Words, folder: &mut F, ou
         None => last_line(alloc, b"usage", b"", Status::Usage, out),
         Some(Request::Help) => last_line(alloc, HELP, b"", Status::Done, out),
         Some(Request::Version) => last_line(alloc, VERSION, b"", Status::Done, out),
-        Some(Request::Check) => check_files(alloc, words, folder, out),
-        Some(Request::Sets) => list_sets(alloc, words, folder, out),
-        Some(Request::Run(budget)) => run_files(alloc, budget, words, folder, out),
+        Some(Request::OverFiles(command)) => answer_files(alloc, command, words, folder, out),
     }
 }
 
-/// Reads the files of a check, and checks them.
-fn check_files<F: Folder, K: Sink>(
+/// Reads the files of a command, and answers it over them.
+fn answer_files<F: Folder, K: Sink>(
     alloc: Global,
+    command: Command,
     words: &Words,
     folder: &mut F,
     out: &mut K,
 ) -> Status
-    requires some { 1 < length words.now }
-    requires most { length words.now ≤ 65 }
-    ensures ends { Ends (F.files folder.old) (λ told. IsReadingOutput IsCheckOutput (read_in_order told (drop 1 words.now))) (drop 1 words.now)
+    requires { HasNames command (length words.now) }
+    ensures ends { Ends (F.files folder.old) (λ told. IsReadingOutput (IsCommandOutput command) (read_in_order told (drop (first_name command) words.now))) (drop (first_name command) words.now)
         (record { held = K.held out.old; sink_faults = K.faults out.old; faults = F.faults folder.old; misses = F.misses folder.old; given = F.given folder.old; starts = F.starts folder.old })
         (record { held = K.held out.new; sink_faults = K.faults out.new; faults = F.faults folder.new; misses = F.misses folder.new; given = F.given folder.new; starts = F.starts folder.new })
         result }
     ensures usage { result ≡ Status.Usage → ⊥ }
 {
-    match fetch_all(alloc, folder, words, 1) {
-        Ok(texts) => answer_check(alloc, &texts, out),
-        Err(unread) => {
-            let name = words.at(unread.place).as_str();
-            answer_unread(alloc, unread.cause, name, out)
-        }
-    }
-}
-
-/// Reads files, and writes their effective overload sets.
-fn list_sets<F: Folder, K: Sink>(
-    alloc: Global,
-    words: &Words,
-    folder: &mut F,
-    out: &mut K,
-) -> Status
-    requires some { 1 < length words.now }
-    requires most { length words.now ≤ 65 }
-    ensures ends { Ends (F.files folder.old) (λ told. IsReadingOutput IsSetsOutput (read_in_order told (drop 1 words.now))) (drop 1 words.now)
-        (record { held = K.held out.old; sink_faults = K.faults out.old; faults = F.faults folder.old; misses = F.misses folder.old; given = F.given folder.old; starts = F.starts folder.old })
-        (record { held = K.held out.new; sink_faults = K.faults out.new; faults = F.faults folder.new; misses = F.misses folder.new; given = F.given folder.new; starts = F.starts folder.new })
-        result }
-    ensures usage { result ≡ Status.Usage → ⊥ }
-{
-    match fetch_all(alloc, folder, words, 1) {
-        Ok(texts) => answer_sets(alloc, &texts, out),
-        Err(unread) => {
-            let name = words.at(unread.place).as_str();
-            answer_unread(alloc, unread.cause, name, out)
-        }
-    }
-}
-
-/// Reads the files of a run, and runs the script over the fragment.
-fn run_files<F: Folder, K: Sink>(
-    alloc: Global,
-    budget: u64,
-    words: &Words,
-    folder: &mut F,
-    out: &mut K,
-) -> Status
-    requires { length words.now ≡ 4 }
-    ensures ends { Ends (F.files folder.old) (λ told. IsReadingOutput (IsRunOutput budget) (read_in_order told (drop 2 words.now))) (drop 2 words.now)
-        (record { held = K.held out.old; sink_faults = K.faults out.old; faults = F.faults folder.old; misses = F.misses folder.old; given = F.given folder.old; starts = F.starts folder.old })
-        (record { held = K.held out.new; sink_faults = K.faults out.new; faults = F.faults folder.new; misses = F.misses folder.new; given = F.given folder.new; starts = F.starts folder.new })
-        result }
-    ensures usage { result ≡ Status.Usage → ⊥ }
-{
-    match fetch_all(alloc, folder, words, 2) {
-        Ok(texts) => answer_run(alloc, budget, &texts, out),
+    match fetch_all(alloc, folder, words, command.first_name()) {
+        Ok(texts) => answer_texts(alloc, command, texts, out),
         Err(unread) => {
             let name = words.at(unread.place).as_str();
             answer_unread(alloc, unread.cause, name, out)

@@ -1,4 +1,4 @@
-//! The words of a command line.
+//! The arguments of a command line.
 
 ghost use Rattle.std.specs.Prelude.{◌≡◌, ℕ, ◌<◌, List, [], ◌∷◌, ◌++◌, length, map, string_bytes, slice_get, slice_set, Some, OnOk, OnErr};
 
@@ -6,7 +6,7 @@ use std::alloc::{AllocError, Global};
 use std::marker::Model;
 use std::mem;
 
-/// The words of a command line, without the program's own name.
+/// The arguments of a command line, without the program's own name.
 #[derive(Drop)]
 pub struct Words {
     items: Vec<String>,
@@ -19,7 +19,7 @@ impl Model for Words {
 }
 
 impl Words {
-    /// No word.
+    /// No argument.
     pub fn new(alloc: Global) -> Words
         ensures { result ≡ [] }
     {
@@ -28,14 +28,14 @@ impl Words {
         }
     }
 
-    /// How many words there are.
+    /// How many arguments there are.
     pub fn len(&self) -> usize
         ensures { result ≡ length self.now }
     {
         self.items.len()
     }
 
-    /// The word at a place.
+    /// The argument at a place.
     pub fn at(&self, place: usize) -> &String
         requires { place < length self.now }
         ensures { slice_get self.now place ≡ Some (string_bytes result.now) }
@@ -43,7 +43,7 @@ impl Words {
         &self.items[place]
     }
 
-    /// Puts a word at a place, and gives back the former one.
+    /// Puts an argument at a place, and gives back the former one.
     pub fn replace(&mut self, place: usize, item: String) -> String
         requires { place < length self.old }
         ensures list { self.new ≡ slice_set self.old place (string_bytes item) }
@@ -52,7 +52,7 @@ impl Words {
         mem::replace(&mut self.items[place], item)
     }
 
-    /// Adds a word at the end.
+    /// Adds an argument at the end.
     ///
     /// # Errors
     ///

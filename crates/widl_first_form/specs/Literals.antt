@@ -28,7 +28,7 @@ most_exact = 9007199254740991
 abbrev pub negative : ℕ → Option ℤ
 negative value = if value == 0 then None else Some (neg_ℤ (pos value))
 
--- `0`, or digits without a leading zero behind an optional minus sign
+-- `0`, or digits without a leading zero after an optional minus sign
 unfoldable pub literal_of : List ℕ → Option ℤ
 literal_of [] = None
 literal_of (first ∷ digits) =
@@ -36,7 +36,7 @@ literal_of (first ∷ digits) =
     then option_and_then negative (natural_of most_exact digits)
     else option_and_then (λ value. Some (pos value)) (natural_of most_exact (first ∷ digits))
 
--- the literal at a place among those between commas: behind a space, except for the first
+-- the literal at a place among those between commas: after a space, except for the first
 unfoldable pub literal_at_of : ℕ × List ℕ → Option ℤ
 literal_at_of part = if part.0 == 0 then literal_of part.1 else option_and_then literal_of (after_prefix (codes " ") part.1)
 

@@ -3,7 +3,7 @@
 use Rattle.std.specs.Prelude.{ℕ, ◌+◌, List, [], ◌∷◌, ◌++◌, Option, Some, None, codes, map, slice_get, ℤ}
 use Rattle.std.specs.Fmt.{decimal, signed_decimal}
 use Rattle.std.specs.List.{zip}
-use Rattle.widl_trace.specs.Lines.{line_cost}
+use Rattle.widl_sink.specs.Lines.{line_cost}
 use Rattle.widl_scalar.specs.Scalars.{wrapped}
 use Rattle.widl_first_form.specs.declared.namespace.Argument.{Argument}
 use Rattle.widl_first_form.specs.declared.namespace.Operation.{Operation}
@@ -11,7 +11,7 @@ use Rattle.widl_first_form.specs.declared.namespace.Namespace.{Namespace}
 use Rattle.widl_first_form.specs.declared.script.Call.{Call}
 use Rattle.widl_first_form.specs.declared.step.Step.{Step}
 
--- numbers in decimal, the first behind this separator and the others behind a comma and a space
+-- numbers in decimal, the first after this separator and the others after a comma and a space
 abbrev pub listed : List ℕ → List ℤ → List ℕ
 listed separator [] = []
 listed separator (value ∷ values) = separator ++ signed_decimal value ++ listed (codes ", ") values

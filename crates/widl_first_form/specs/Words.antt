@@ -38,7 +38,7 @@ abbrev pub name_in_front : List ℕ → Option (ℕ × List ℕ)
 name_in_front [] = None
 name_in_front (byte ∷ text) = if is_ascii_alphabetic byte && ends_word_of text then Some (byte, text) else None
 
--- a name of one letter behind white space, and what follows it
+-- a name of one letter after white space, and what follows it
 unfoldable pub after_name_of : List ℕ → Option (ℕ × List ℕ)
 after_name_of text = name_in_front (after_spaces_of text)
 
@@ -50,7 +50,7 @@ sign_in_front (byte ∷ text) sign = if byte == sign then Some text else None
 unfoldable pub after_sign_of : List ℕ → ℕ → Option (List ℕ)
 after_sign_of text sign = sign_in_front (after_spaces_of text) sign
 
--- what stands before a sign behind which there is nothing but white space
+-- what stands before a sign after which there is nothing but white space
 unfoldable pub before_end_of : ℕ → List ℕ → Option (List ℕ)
 before_end_of sign [] = None
 before_end_of sign (byte ∷ text) =

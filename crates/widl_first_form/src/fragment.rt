@@ -171,7 +171,7 @@ fn after_kind(text: &[u8]) -> Option<(IntKind, &[u8])>
 
 /// Whether no name stands twice.
 ///
-/// A name is a letter, so a place at which the names behind it are searched in vain comes at most
+/// A name is a letter, so a place at which the names after it are searched in vain comes at most
 /// once for each letter, and the time is linear.
 fn all_differ(names: &[u8]) -> bool
     ensures { result ≡ names_differ names.now }

@@ -1,6 +1,6 @@
 //! The first form of a fragment and of a script, read by hand, and the steps of its run: one namespace
 //! with operations on integers, and a script with a call of one on each line. It stands on `widl_idl`,
-//! `widl_value`, `widl_scalar` and `widl_trace`, and goes away when the parser and the engine serve this
+//! `widl_value`, `widl_scalar` and `widl_sink`, and goes away when the parser and the engine serve this
 //! form. The one contract that is used above: [`make_plan`] answers what the definition `plan_of` makes
 //! of the two texts.
 #![tactic(auto)]

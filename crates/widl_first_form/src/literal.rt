@@ -38,7 +38,7 @@ fn each_literal(alloc: Global, text: &[u8]) -> Result<Option<Sequence<i128>>, Al
     Ok(Some(literals))
 }
 
-/// The literal at a place: behind a space, except for the first.
+/// The literal at a place: after a space, except for the first.
 #[tactic(auto, unfolding(crate::specs::Literals::literal_at_of))]
 fn literal_at(place: usize, text: &[u8]) -> Option<i128>
     ensures { result ≡ literal_at_of (place, text.now) }

@@ -6,7 +6,7 @@ use crate::steps::Steps;
 #[derive(Drop)]
 pub enum Plan {
     /// The fragment is not of the form that is served.
-    Unserved,
+    Unsupported,
     /// The fragment is, and the script is not.
     NotScript,
     /// Both are, and these are the steps of the run.

@@ -19,7 +19,7 @@ pub fn make_plan(alloc: Global, fragment: &[u8], script: &[u8]) -> Result<Plan, 
     ensures { IfOk result (λ plan. plan ≡ plan_of fragment.now script.now) }
 {
     let Some(namespace) = read_fragment(alloc, fragment)? else {
-        return Ok(Plan::Unserved);
+        return Ok(Plan::Unsupported);
     };
     let Some(calls) = read_script(alloc, &namespace, script)? else {
         return Ok(Plan::NotScript);

@@ -14,7 +14,7 @@ use itoa::Buffer;
 use std::alloc::{AllocError, Global};
 use widl_idl::{IntKind, Mode};
 use widl_scalar::to_int;
-use widl_trace::{Line, cost};
+use widl_sink::{Line, cost};
 use widl_value::Number;
 
 /// The steps of calls, and of the end of the run.
@@ -132,7 +132,7 @@ fn extend_with_numbers(bytes: &mut Vec<u8>, values: &[i128]) -> Result<(), Alloc
     Ok(())
 }
 
-/// Adds a number in decimal behind a separator.
+/// Adds a number in decimal after a separator.
 fn extend_with_number(bytes: &mut Vec<u8>, separator: &[u8], value: &i128) -> Result<(), AllocError>
     ensures { OnOk result (bytes.new.items ≡ bytes.old.items ++ (separator.now ++ signed_decimal value.now)) }
 {

@@ -1,6 +1,6 @@
 //! The steps of a run.
 
-use widl_trace::Line;
+use widl_sink::Line;
 
 /// One step of a run: the units that it takes, and the line that it writes, if it writes one.
 #[derive(Drop)]

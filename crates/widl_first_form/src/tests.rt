@@ -7,8 +7,8 @@ use std::test::Fail;
 
 const EXAMPLE: &str = "namespace N { undefined f(octet a, byte b); };";
 
-fn is_unserved(plan: &Plan) -> bool {
-    matches!(plan, Plan::Unserved)
+fn is_unsupported(plan: &Plan) -> bool {
+    matches!(plan, Plan::Unsupported)
 }
 
 fn is_not_script(plan: &Plan) -> bool {
@@ -43,7 +43,7 @@ fn assert_run(
 ) -> Result<(), AllocError> {
     match make_plan(alloc, fragment.as_bytes(), script.as_bytes())? {
         Plan::Run(steps) => assert_steps(rt, &steps, want),
-        Plan::Unserved | Plan::NotScript => assert!(rt; false, "{fragment} with {script}"),
+        Plan::Unsupported | Plan::NotScript => assert!(rt; false, "{fragment} with {script}"),
     }
     Ok(())
 }
@@ -147,7 +147,7 @@ fn other_fragments_are_not_served(rt: HostRuntime) -> Result<(), Fail> {
     for fragment in others {
         for script in ["", "no script"] {
             let plan = make_plan(alloc, fragment.as_bytes(), script.as_bytes())?;
-            assert!(rt; is_unserved(&plan), "{fragment}");
+            assert!(rt; is_unsupported(&plan), "{fragment}");
         }
     }
     Ok(())
@@ -250,7 +250,7 @@ fn large_inputs_take_no_square_time(rt: HostRuntime) -> Result<(), Fail> {
     for (front, part, back) in fragments {
         let fragment = repeated(alloc, front, part, many, back)?;
         let plan = make_plan(alloc, &fragment, b"")?;
-        assert!(rt; is_unserved(&plan));
+        assert!(rt; is_unsupported(&plan));
     }
     let literals = repeated(alloc, b"do N.f(0, 1", b", 1", many, b")")?;
     let plan = make_plan(alloc, EXAMPLE.as_bytes(), &literals)?;
@@ -258,7 +258,7 @@ fn large_inputs_take_no_square_time(rt: HostRuntime) -> Result<(), Fail> {
     let calls = repeated(alloc, b"", b"do N.f(0, 1)\n", many, b"")?;
     match make_plan(alloc, EXAMPLE.as_bytes(), &calls)? {
         Plan::Run(steps) => assert_eq!(rt; steps.len(), 400_001),
-        Plan::Unserved | Plan::NotScript => assert!(rt; false),
+        Plan::Unsupported | Plan::NotScript => assert!(rt; false),
     }
     let ends = repeated(alloc, b"", b"\n", many, b"")?;
     let plan = make_plan(alloc, EXAMPLE.as_bytes(), &ends)?;

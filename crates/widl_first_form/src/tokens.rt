@@ -52,7 +52,7 @@ pub fn after_word<'a>(text: &'a [u8], word: &[u8]) -> Option<&'a [u8]>
     if ends_word(rest) { Some(rest) } else { None }
 }
 
-/// A name of one letter behind white space, and what follows it.
+/// A name of one letter after white space, and what follows it.
 #[tactic(auto, unfolding(crate::specs::Words::after_name_of))]
 pub fn after_name(text: &[u8]) -> Option<(u8, &[u8])>
     ensures { option_map (λ p. (p.0, p.1.now)) result ≡ after_name_of text.now }
@@ -74,9 +74,9 @@ pub fn after_sign(text: &[u8], sign: u8) -> Option<&[u8]>
     }
 }
 
-/// What stands before a sign behind which there is nothing but white space.
+/// What stands before a sign after which there is nothing but white space.
 ///
-/// Behind a sign only the white space that follows is passed, so the time is linear.
+/// After a sign only the white space that follows is passed, so the time is linear.
 #[tactic(auto, unfolding(crate::specs::Words::before_end_of))]
 pub fn before_end(text: &[u8], sign: u8) -> Option<&[u8]>
     ensures { option_copied result ≡ before_end_of sign text.now }

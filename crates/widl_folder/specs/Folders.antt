@@ -1,7 +1,8 @@
 -- What a folder's calls do to its counts and to the file that is read.
 use Rattle.std.specs.Prelude.{◌≡◌, ℕ, ◌+◌, ◌-◌, ◌^◌, ◌<◌, ◌≤◌, ◌++◌, min, List, length, Option, option_and_then, IfSome, IsSome, IsNone}
 use Rattle.std.specs.Io.KnownBytes.{prepend_known}
-use Rattle.widl_trace.specs.Causes.{Rose}
+use Rattle.widl_text.specs.Limits.{most_file_bytes}
+use Rattle.widl_sink.specs.Causes.{Rose}
 use Rattle.widl_folder.specs.Files.{file_at}
 use Rattle.widl_folder.specs.declared.folder.Started.{Started}
 use Rattle.widl_folder.specs.declared.folder.Started.TheVariants.{Ready, Missing}
@@ -28,7 +29,7 @@ IsWhole file bytes = IfSome file (λ told. told ≡ bytes)
 
 -- where the file is told, it has more bytes than are read
 abbrev pub IsTooLong : Option (List ℕ) → Type 0
-IsTooLong file = IfSome file (λ told. 1048576 < length told)
+IsTooLong file = IfSome file (λ told. most_file_bytes < length told)
 
 -- some bytes were read from what was left of a file, and added to those that were there
 pub record Takes (left_old left_new : Option (List ℕ)) (old new : List ℕ) (count : ℕ) : Type 0 where

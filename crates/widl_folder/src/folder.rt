@@ -27,7 +27,7 @@ pub trait Folder {
     ghost use Rattle.std.specs.Prelude.{◌≡◌, ℕ, ◌+◌, ◌^◌, ◌<◌, ◌≤◌, ◌↔◌, Bool, true, List, length, take, IfOk, OnErr, OnOk, IsTrue};
     ghost use Rattle.std.specs.declared.option.Option.{Option};
     ghost use Rattle.std.specs.Io.KnownBytes.{prepend_known, IsAtEnd};
-    ghost use Rattle.widl_trace.specs.Causes.{HasCause};
+    ghost use Rattle.widl_sink.specs.Causes.{HasCause};
     ghost use Rattle.widl_folder.specs.Folders.{TakesUp, Counts, next_count};
 
     /// The files, from name to bytes, if it tells them.

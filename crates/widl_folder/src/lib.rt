@@ -1,5 +1,5 @@
 //! Folders of files that are read from their start to their end, in memory and on the disk. It stands
-//! on `widl_trace` for what a count of faults means. The one contract that the crates above use: what
+//! on `widl_sink` for what a count of faults means. The one contract that the crates above use: what
 //! [`fetch`] answers for a file, by the told files where the folder tells them, and by its counts.
 #![tactic(auto)]
 
@@ -18,4 +18,4 @@ pub use files::{Files, NamedFile};
 pub use folder::{Folder, ReadFailed, Started};
 pub use memory_folder::MemoryFolder;
 pub use sure_folder::SureFolder;
-pub use whole_file::{FetchError, MOST_BYTES, fetch};
+pub use whole_file::{FetchError, fetch};

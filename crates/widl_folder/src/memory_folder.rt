@@ -6,7 +6,7 @@ ghost use Rattle.widl_folder.specs.Readings.{MemoryFolderState};
 use crate::reading::{Reading, find, give};
 use crate::{Files, Folder, ReadFailed, Started};
 use std::marker::Model;
-use widl_trace::Numbers;
+use widl_sink::Numbers;
 
 /// Files in memory. The calls of `start` and `read` are counted together from 1, and those whose
 /// numbers are listed fail.

@@ -42,7 +42,7 @@ pub fn give(files: &Files, reading: Reading, into: &mut [u8]) -> (Reading, u32)
     (next, count as u32)
 }
 
-/// The bytes behind an offset, none past the end.
+/// The bytes after an offset, none past the end.
 fn left_from(bytes: &[u8], offset: usize) -> &[u8]
     ensures { result.now ≡ drop offset bytes.now }
 {

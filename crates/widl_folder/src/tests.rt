@@ -7,7 +7,7 @@ use crate::{
 use std::alloc::{AllocError, Global};
 use std::fs;
 use std::test::Fail;
-use widl_trace::Numbers;
+use widl_sink::Numbers;
 
 fn file_of(alloc: Global, name: &str, text: &str) -> Result<NamedFile, AllocError> {
     let name = String::from_str(alloc, name)?;

@@ -8,9 +8,7 @@ ghost use Rattle.widl_folder.specs.Folders.{Counts, IsWhole, IsTooLong, Takes, n
 use crate::{Folder, Started};
 use std::alloc::{AllocError, Global};
 use thiserror::Error;
-
-/// The most bytes that one file may have.
-pub const MOST_BYTES: usize = 1_048_576;
+use widl_text::limits::MOST_FILE_BYTES;
 
 /// The most bytes that are read in one piece.
 const PIECE: usize = 4_096;
@@ -27,12 +25,12 @@ pub enum FetchError {
     /// The file could not be opened or read.
     #[error("the file could not be read")]
     Failed,
-    /// The file has more than [`MOST_BYTES`] bytes.
+    /// The file has more than [`MOST_FILE_BYTES`] bytes.
     #[error("the file is too long")]
     TooLong,
 }
 
-/// All bytes of a file of at most [`MOST_BYTES`] bytes.
+/// All bytes of a file of at most [`MOST_FILE_BYTES`] bytes.
 ///
 /// # Errors
 ///
@@ -44,7 +42,7 @@ pub fn fetch<F: Folder>(alloc: Global, folder: &mut F, name: &str) -> Result<Vec
     ensures absent { IsErrOf result FetchError.Missing → IfSome (F.files folder.old) (λ told. IsNone (file_at told name.now)) }
     ensures long { IsErrOf result FetchError.TooLong → IfSome (F.files folder.old) (λ told. IsTooLong (file_at told name.now) × IsSome (file_at told name.now)) }
 
-    // How many bytes were given: one too many exactly where the file is too long, want of memory apart.
+    // How many bytes were given: one too many exactly where the file is too long, out of memory apart.
     ensures short { IfOk result (λ v. length v.items ≤ 1048576) }
     ensures given_ok { IfOk result (λ v. F.given folder.new ≡ length v.items) }
     ensures given_long { IsErrOf result FetchError.TooLong → F.given folder.new ≡ 1048577 }
@@ -81,8 +79,8 @@ fn read_all<F: Folder>(alloc: Global, folder: &mut F) -> Result<Vec<u8>, FetchEr
     ensures files { F.files folder.new ≡ F.files folder.old }
 {
     let mut bytes = Vec::new(alloc);
-    while bytes.len() <= MOST_BYTES {
-        let room = PIECE.min(MOST_BYTES + 1 - bytes.len());
+    while bytes.len() <= MOST_FILE_BYTES {
+        let room = PIECE.min(MOST_FILE_BYTES + 1 - bytes.len());
         if read_some(folder, room, &mut bytes)? == 0 {
             return Ok(bytes);
         }

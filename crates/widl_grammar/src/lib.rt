@@ -1,5 +1,6 @@
-//! The syntax of Web IDL: which token lists are sentences, and where exactly the fault of any other
-//! list is.
+//! The grammar of Web IDL as data, made by `tools/grammar.py`: its terminals and rules, the rows of each rule
+//! with their look-ahead tables, the printed grammar with its options and repetitions, and which token lists
+//! are sentences and where exactly the fault of any other list is.
 //!
 //! It stands on the tokens of `widl_lex` and on `widl_predictive`, whose machine reads the grammar of
 //! [`Rule`]. The one contract that the crates above use is that of [`check_syntax`]: `Ok` exactly for the

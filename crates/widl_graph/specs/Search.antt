@@ -1,4 +1,4 @@
--- What holds of a depth-first search under way.
+-- For proofs alone. What holds of a depth-first search under way.
 use Rattle.std.specs.Prelude.{◌≡◌, ◌⊎◌, ℕ, ◌<◌, ◌≤◌, ◌+◌, ◌-◌, ◌*◌, List, [], ◌∷◌, ◌++◌, length, slice_get, slice_set, Option, None, Some, Bool, true, false}
 use Rattle.std.specs.List.{sum_by}
 use Rattle.widl_graph.specs.declared.search.Mark.{Mark}

@@ -13,7 +13,7 @@ use std::marker::Model;
 /// Contracts see it as a list that has, for each node, the list of its successors.
 #[derive(Drop)]
 pub struct Graph {
-    // Where in `successors` those of each node begin. They end where those of the next node begin.
+    /// Where in `successors` those of each node begin. They end where those of the next node begin.
     begins: Vec<usize>,
     successors: Vec<usize>,
 }
@@ -91,7 +91,7 @@ fn all_below(numbers: &[usize], count: usize) -> bool
     numbers.iter().all(|number| *number < count)
 }
 
-// Where the part that begins at the place in `begins` ends.
+/// Where the part that begins at the place in `begins` ends.
 fn end_at(begins: &[usize], place: usize, end: usize) -> usize
     requires begins { Begins begins.now end }
     requires place { place < length begins.now }
@@ -106,7 +106,7 @@ fn end_at(begins: &[usize], place: usize, end: usize) -> usize
     }
 }
 
-// The part of the items that begins at the place in `begins`.
+/// The part of the items that begins at the place in `begins`.
 fn part<'a>(begins: &[usize], items: &'a [usize], place: usize) -> &'a [usize]
     requires begins { Begins begins.now (length items.now) }
     requires place { place < length begins.now }

@@ -92,7 +92,7 @@ fn ends_with(places: &Vec<usize>, place: usize) -> bool
     places.last().copied() == Some(place)
 }
 
-// How many of the groups begin at the place or before it.
+/// How many of the groups begin at the place or before it.
 fn groups_up_to(groups: &[usize], place: usize) -> usize
     requires { Rising groups.now }
     ensures { IsCut groups.now place result }
@@ -104,7 +104,7 @@ fn groups_up_to(groups: &[usize], place: usize) -> usize
     count
 }
 
-// Joins the groups that begin after the place to the one before them.
+/// Joins the groups that begin after the place to the one before them.
 fn join(groups: &mut Vec<usize>, place: usize)
     requires { Rising groups.old.items }
     ensures { AreJoined groups.old.items groups.new.items place }
@@ -113,7 +113,7 @@ fn join(groups: &mut Vec<usize>, place: usize)
     groups.truncate(count);
 }
 
-// Joins the groups from that of the node on, where it is open.
+/// Joins the groups from that of the node on, where it is open.
 fn join_at(groups: &mut Vec<usize>, mark: Mark)
     requires { Rising groups.old.items }
     ensures { AreJoinedAt (Some mark) groups.old.items groups.new.items }
@@ -133,7 +133,7 @@ fn follows_itself(graph: &Graph, node: usize) -> bool
     graph.successors(node).contains(&node)
 }
 
-// The mark of the nodes that are visited from the place on, which are a group.
+/// The mark of the nodes that are visited from the place on, which are a group.
 fn closing_mark(graph: &Graph, visits: &Vec<Visit>, base: usize, rank: usize) -> Mark
     requires base { base < length visits.now.items }
     requires node { (v : VisitOf) → slice_get visits.now.items base ≡ Some v → v.node < length graph.now }
@@ -146,7 +146,7 @@ fn closing_mark(graph: &Graph, visits: &Vec<Visit>, base: usize, rank: usize) ->
     }
 }
 
-// Marks the nodes that are visited from the place on, and puts them at the end of the order.
+/// Marks the nodes that are visited from the place on, and puts them at the end of the order.
 fn close_visits(
     marks: &mut Vec<Mark>,
     order: &mut Vec<usize>,
@@ -199,7 +199,7 @@ impl Search {
         Ok(())
     }
 
-    // Goes on until the path is empty.
+    /// Goes on until the path is empty.
     fn finish(&mut self, graph: &Graph) -> Result<(), AllocError>
         requires nodes { AreNodes graph.now }
         requires under_way { UnderWay graph.now self.old }
@@ -219,7 +219,7 @@ impl Search {
         self.path.last().copied()
     }
 
-    // Enters a new node, or leaves the visit at the place where there is none.
+    /// Enters a new node, or leaves the visit at the place where there is none.
     fn advance(&mut self, graph: &Graph, place: usize) -> Result<(), AllocError>
         requires nodes { AreNodes graph.now }
         requires under_way { UnderWay graph.now self.old }
@@ -234,7 +234,7 @@ impl Search {
         }
     }
 
-    // Begins to visit the node.
+    /// Begins to visit the node.
     fn enter(&mut self, node: usize) -> Result<(), AllocError>
         requires { node < length self.old.marks.items }
         ensures { OnOk result (IsEntered self.old self.new node) }
@@ -247,7 +247,7 @@ impl Search {
         Ok(())
     }
 
-    // The successor that the visit at the place has to look at next.
+    /// The successor that the visit at the place has to look at next.
     fn successor(&self, graph: &Graph, place: usize) -> Option<usize>
         requires place { place < length self.now.visits.items }
         requires node { (v : VisitOf) → slice_get self.now.visits.items place ≡ Some v → v.node < length graph.now }
@@ -263,7 +263,7 @@ impl Search {
         }
     }
 
-    // The next new successor of the node that is visited at the place, after those that are known.
+    /// The next new successor of the node that is visited at the place, after those that are known.
     fn next_new(&mut self, graph: &Graph, place: usize) -> Option<usize>
         requires nodes { AreNodes graph.now }
         requires under_way { UnderWay graph.now self.old }
@@ -282,8 +282,8 @@ impl Search {
         None
     }
 
-    // Counts the successor as looked at. One that is open makes a group of all that is visited from
-    // its group on, since it leads there and is reached from there.
+    /// Counts the successor as looked at. One that is open makes a group of all that is visited from
+    /// its group on, since it leads there and is reached from there.
     fn pass(&mut self, place: usize, target: usize)
         requires place { place < length self.old.visits.items }
         requires target { target < length self.old.marks.items }
@@ -303,7 +303,7 @@ impl Search {
         join_at(&mut self.groups, self.marks[target]);
     }
 
-    // Ends the visit at the place, and closes the group that begins there.
+    /// Ends the visit at the place, and closes the group that begins there.
     fn leave(&mut self, graph: &Graph, place: usize) -> Result<(), AllocError>
         requires nodes { AreNodes graph.now }
         requires under_way { UnderWay graph.now self.old }
@@ -321,7 +321,7 @@ impl Search {
         Ok(())
     }
 
-    // Ends the visit at the place, and closes its group, the last.
+    /// Ends the visit at the place, and closes its group, the last.
     fn close_group(&mut self, graph: &Graph, base: usize) -> Result<(), AllocError>
         requires nodes { AreNodes graph.now }
         requires under_way { UnderWay graph.now self.old }

@@ -4,7 +4,7 @@ use Rattle.std.proofs.lemmas.List.Elements.{All-nil}
 use Rattle.widl_idl.specs.declared.defs.Defs.{Defs}
 use Rattle.widl_idl.specs.declared.merging_rule.MergingRule.{MergingRule}
 use Rattle.widl_idl.specs.declared.merging_rule.MergingRule.TheVariants as rule
-use Rattle.widl_idl.specs.declared.spot.Spot.{Spot}
+use Rattle.widl_idl.specs.declared.violation.Violation.{Violation}
 use Rattle.widl_idl.specs.declared.tree.fragments.Fragment.{Fragment}
 use Rattle.widl_idl.specs.Counts.{IsNumbered}
 use Rattle.widl_idl.specs.MergedSets.{IsMerged}
@@ -13,7 +13,7 @@ use Rattle.widl_idl.specs.MergingRules.{BreaksMerging}
 nothing_there : {X : Type 0} (i : ℕ) (x : X) → slice_get [] i ≡ Some x → ⊥
 nothing_there i x e = absurd (grind arith)
 
-no_breaks : (r : MergingRule) (s : Spot) → BreaksMerging [] r s → ⊥
+no_breaks : (r : MergingRule) (s : Violation) → BreaksMerging [] r s → ⊥
 no_breaks rule.SecondDefinition s h = omega (arith, h.below)
 no_breaks rule.ReservedName s h = omega (arith, h.listed.1)
 no_breaks rule.PartialWithoutMain s h = omega (arith, h.listed.1)

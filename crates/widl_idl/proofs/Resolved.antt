@@ -17,10 +17,10 @@ nullable : resolve [] (note ClampTo 1 ∷ []) (NullableOf long) ≡ NullableType
 unfolding note long
 nullable = refl
 
--- typedef [Clamp] long A; with [EnforceRange] A in front of it, and behind it
-behind : resolve (record { notes = note ClampTo 9 ∷ []; written = long } ∷ []) (note EnforceRange 40 ∷ []) (TypedefName 0) ≡ IntegerType Long Clamp
+-- typedef [Clamp] long A; with [EnforceRange] A in front of it, and after it
+after : resolve (record { notes = note ClampTo 9 ∷ []; written = long } ∷ []) (note EnforceRange 40 ∷ []) (TypedefName 0) ≡ IntegerType Long Clamp
 unfolding note long
-behind = refl
+after = refl
 
 in_front : resolve (record { notes = note ClampTo 39 ∷ []; written = long } ∷ []) (note EnforceRange 4 ∷ []) (TypedefName 0) ≡ IntegerType Long Enforce
 unfolding note long
@@ -32,9 +32,9 @@ unfolding note long
 through_two = refl
 
 -- [Clamp] boolean, and [LegacyNullToEmptyString] on each string type
-left_out : resolve [] (note ClampTo 1 ∷ []) (WithoutParts BooleanType) ≡ BooleanType
+unsupported : resolve [] (note ClampTo 1 ∷ []) (WithoutParts BooleanType) ≡ BooleanType
 unfolding note
-left_out = refl
+unsupported = refl
 
 on_domstring : resolve [] (note LegacyNullToEmptyString 1 ∷ []) (WithoutParts (StringType texts.Dom false)) ≡ StringType texts.Dom true
 unfolding note

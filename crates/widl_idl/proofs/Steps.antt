@@ -2,20 +2,20 @@
 use Rattle.std.proofs.Common.{◌≡◌, ◌⊎◌, inl, inr, ℕ, ◌+◌, ◌<◌, Bool, true, false, cond, List, [], ◌∷◌, length, take, get_or, slice_get, slice_index_or, zero, suc, Option, None, Some, arith, refl, sym, ap, subst, ◌∙◌, nat_lt, nat_eq, ◌&&◌, ◌||◌}
 use Rattle.std.proofs.lemmas.Option.{slice_get_read}
 use Rattle.widl_idl.specs.declared.refusal.Refusal.{Refusal}
-use Rattle.widl_idl.specs.declared.spot.Spot.{Spot}
+use Rattle.widl_idl.specs.declared.violation.Violation.{Violation}
 use Rattle.widl_text.specs.declared.place.Place.{Place}
-use Rattle.widl_idl.specs.Least.{ComesBefore, OtherBefore, SamePlace, is_other_before, lesser, IsLeast, LeastWhere, Upto, AtOne}
-use Rattle.widl_idl.specs.LeastRefusal.{Earlier, LowerBefore, is_earlier, is_lower, refusal_at, spot_of, join, Broken, IsLeastBroken, LeastBroken}
-use Rattle.widl_idl.proofs.Order.{Either, first_of, first_trans, least_either, neither_before, neither_other, not_first, not_other, other_of, other_trans}
+use Rattle.widl_idl.specs.First.{ComesBefore, OtherBefore, SamePlace, is_other_before, earlier, IsFirst, FirstWhere, Upto, AtOne}
+use Rattle.widl_idl.specs.FirstRefusal.{Earlier, LowerBefore, is_earlier, is_lower, refusal_at, violation_of, join, Broken, IsFirstBroken, FirstBroken}
+use Rattle.widl_idl.proofs.Order.{Either, first_of, first_trans, first_either, neither_before, neither_other, not_first, not_other, other_of, other_trans}
 
-module _ {X : Type 0} (P : List X → X → Spot → Type 0) (xs : List X) where
-  pub least_start : LeastWhere (Upto P xs 0) None
-  least_start = λ q u. absurd (let h = u.below in omega arith)
+module _ {X : Type 0} (P : List X → X → Violation → Type 0) (xs : List X) where
+  pub first_start : FirstWhere (Upto P xs 0) None
+  first_start = λ q u. absurd (let h = u.below in omega arith)
 
   some_is : {x y : X} → Some x ≡ Some y → x ≡ y
   some_is e = (cc)
 
-  by_index : (n : ℕ) (x : X) (s : Spot) → slice_get xs n ≡ Some x → (u : Upto P xs (n + 1) s) → (b : Bool) → nat_lt u.index n ≡ b → Upto P xs n s ⊎ P (take n xs) x s
+  by_index : (n : ℕ) (x : X) (s : Violation) → slice_get xs n ≡ Some x → (u : Upto P xs (n + 1) s) → (b : Bool) → nat_lt u.index n ≡ b → Upto P xs n s ⊎ P (take n xs) x s
   by_index n x s is u true h = inl (record { index = u.index; below = grind arith; item = u.item; is = u.is; breaks = u.breaks })
   by_index n x s is u false h = let h2 = u.below in let e : u.index ≡ n = grind arith in inr (subst (λ k. P (take k xs) x s) e (subst (λ y. P (take u.index xs) y s) (some_is (sym u.is ∙ ap (slice_get xs) e ∙ is)) u.breaks))
 
@@ -23,16 +23,16 @@ module _ {X : Type 0} (P : List X → X → Spot → Type 0) (xs : List X) where
   either_item n x is = record { left = λ s u. record { index = u.index; below = (let h = u.below in omega arith); item = u.item; is = u.is; breaks = u.breaks }; right = λ s b. record { index = n; below = omega arith; item = x; is = is; breaks = b }; only = λ s u. by_index n x s is u (nat_lt u.index n) refl }
 
   -- one item more
-  pub least_item : (n : ℕ) (x : X) (best found : Option Spot) → slice_get xs n ≡ Some x → LeastWhere (Upto P xs n) best → LeastWhere (P (take n xs) x) found → LeastWhere (Upto P xs (n + 1)) (lesser best found)
-  least_item n x best found is l m = least_either (Upto P xs n) (P (take n xs) x) (Upto P xs (n + 1)) (either_item n x is) best found l m
+  pub first_item : (n : ℕ) (x : X) (best found : Option Violation) → slice_get xs n ≡ Some x → FirstWhere (Upto P xs n) best → FirstWhere (P (take n xs) x) found → FirstWhere (Upto P xs (n + 1)) (earlier best found)
+  first_item n x best found is l m = first_either (Upto P xs n) (P (take n xs) x) (Upto P xs (n + 1)) (either_item n x is) best found l m
 
   -- the same, as a loop over the items has it
-  pub least_next : (n : ℕ) (x : X) (best found now : Option Spot) → n < length xs → x ≡ get_or xs n x → LeastWhere (Upto P xs n) best → LeastWhere (P (take n xs) x) found → now ≡ lesser best found → LeastWhere (Upto P xs (n + 1)) now
-  least_next n x best found now l is m h e = subst (LeastWhere (Upto P xs (n + 1))) (sym e) (least_item n x best found (slice_get_read xs (length xs) n x refl l is) m h)
+  pub first_next : (n : ℕ) (x : X) (best found now : Option Violation) → n < length xs → x ≡ get_or xs n x → FirstWhere (Upto P xs n) best → FirstWhere (P (take n xs) x) found → now ≡ earlier best found → FirstWhere (Upto P xs (n + 1)) now
+  first_next n x best found now l is m h e = subst (FirstWhere (Upto P xs (n + 1))) (sym e) (first_item n x best found (slice_get_read xs (length xs) n x refl l is) m h)
 
   -- after the last item
-  pub least_all : (n : ℕ) (best : Option Spot) → n ≡ length xs → LeastWhere (Upto P xs n) best → LeastWhere (AtOne P xs) best
-  least_all n best e m = subst (λ k. LeastWhere (Upto P xs k) best) e m
+  pub first_all : (n : ℕ) (best : Option Violation) → n ≡ length xs → FirstWhere (Upto P xs n) best → FirstWhere (AtOne P xs) best
+  first_all n best e m = subst (λ k. FirstWhere (Upto P xs k) best) e m
 
 abbrev refusal_place : Refusal → Place
 refusal_place r = r.at
@@ -88,53 +88,53 @@ neither_earlier r s a b =
     refusal : ℕ → Place → Option Place → Refusal
     refusal rule at other = record { rule = rule; at = at; other = other }
 
-module _ {R : Type 0} (number : R → ℕ) (Breaks : R → Spot → Type 0) where
-  pub no_rules : LeastBroken number Breaks [] None
+module _ {R : Type 0} (number : R → ℕ) (Breaks : R → Violation → Type 0) where
+  pub no_rules : FirstBroken number Breaks [] None
   no_rules = λ s b. absurd (omega (arith, b.listed.1))
 
-  -- there is one least refusal
-  pub same_refusal : (rules : List R) (a b : Option Refusal) → LeastBroken number Breaks rules a → LeastBroken number Breaks rules b → a ≡ b
+  -- there is one first refusal
+  pub same_refusal : (rules : List R) (a b : Option Refusal) → FirstBroken number Breaks rules a → FirstBroken number Breaks rules b → a ≡ b
   same_refusal rules None None l m = refl
   same_refusal rules None (Some s) l m = absurd (l s m.broken)
   same_refusal rules (Some r) None l m = absurd (m r l.broken)
   same_refusal rules (Some r) (Some s) l m = ap Some (neither_earlier r s (m.first r l.broken) (l.first s m.broken))
 
-module _ {R : Type 0} (number : R → ℕ) (Breaks : R → Spot → Type 0) (rule : R) (rules : List R) where
-  pub head_broken : (s : Spot) → Breaks rule s → Broken number Breaks (rule ∷ rules) (refusal_at (number rule) s)
+module _ {R : Type 0} (number : R → ℕ) (Breaks : R → Violation → Type 0) (rule : R) (rules : List R) where
+  pub head_broken : (s : Violation) → Breaks rule s → Broken number Breaks (rule ∷ rules) (refusal_at (number rule) s)
   head_broken s b = record { which = rule; listed = (0, omega arith, refl); numbered = refl; breaks = b }
 
   pub tail_broken : (r : Refusal) → Broken number Breaks rules r → Broken number Breaks (rule ∷ rules) r
   tail_broken r b = record { which = b.which; listed = (suc b.listed.0, omega (arith, b.listed.1), b.listed.2); numbered = b.numbered; breaks = b.breaks }
 
-  pub broken_parts : (r : Refusal) → Broken number Breaks (rule ∷ rules) r → ((number rule ≡ r.rule) × Breaks rule (spot_of r)) ⊎ Broken number Breaks rules r
+  pub broken_parts : (r : Refusal) → Broken number Breaks (rule ∷ rules) r → ((number rule ≡ r.rule) × Breaks rule (violation_of r)) ⊎ Broken number Breaks rules r
   broken_parts r b = by_place b.listed.0 b.listed.1 b.listed.2
     where
-      by_place : (k : ℕ) → k < length (rule ∷ rules) → slice_index_or (rule ∷ rules) k b.which ≡ b.which → ((number rule ≡ r.rule) × Breaks rule (spot_of r)) ⊎ Broken number Breaks rules r
-      by_place zero l e = inl (ap number e ∙ b.numbered, subst (λ n. Breaks n (spot_of r)) (sym e) b.breaks)
+      by_place : (k : ℕ) → k < length (rule ∷ rules) → slice_index_or (rule ∷ rules) k b.which ≡ b.which → ((number rule ≡ r.rule) × Breaks rule (violation_of r)) ⊎ Broken number Breaks rules r
+      by_place zero l e = inl (ap number e ∙ b.numbered, subst (λ n. Breaks n (violation_of r)) (sym e) b.breaks)
       by_place (suc k) l e = inr (record { which = b.which; listed = (k, omega arith, e); numbered = b.numbered; breaks = b.breaks })
 
-  not_same_rule : (s : Spot) (r : Refusal) → number rule ≡ r.rule → Earlier r (refusal_at (number rule) s) → ComesBefore (spot_of r) s
+  not_same_rule : (s : Violation) (r : Refusal) → number rule ≡ r.rule → Earlier r (refusal_at (number rule) s) → ComesBefore (violation_of r) s
   not_same_rule s r e (inl before) = inl before
   not_same_rule s r e (inr h) = elim h.1 [ inl below ↦ absurd (omega (arith, e, below)) | inr o ↦ inr (h.0, o.1) ]
 
-  first_here : (s : Spot) → IsLeast (Breaks rule) s → (r : Refusal) → number rule ≡ r.rule → Breaks rule (spot_of r) → Earlier r (refusal_at (number rule) s) → ⊥
-  first_here s l r e b before = l.first (spot_of r) b (not_same_rule s r e before)
+  first_here : (s : Violation) → IsFirst (Breaks rule) s → (r : Refusal) → number rule ≡ r.rule → Breaks rule (violation_of r) → Earlier r (refusal_at (number rule) s) → ⊥
+  first_here s l r e b before = l.first (violation_of r) b (not_same_rule s r e before)
 
-  joined_one : (s : Spot) (best : Refusal) (b : Bool) → is_earlier (refusal_at (number rule) s) best ≡ b → IsLeast (Breaks rule) s → IsLeastBroken number Breaks rules best → LeastBroken number Breaks (rule ∷ rules) (cond b (Some (refusal_at (number rule) s)) (Some best))
+  joined_one : (s : Violation) (best : Refusal) (b : Bool) → is_earlier (refusal_at (number rule) s) best ≡ b → IsFirst (Breaks rule) s → IsFirstBroken number Breaks rules best → FirstBroken number Breaks (rule ∷ rules) (cond b (Some (refusal_at (number rule) s)) (Some best))
   joined_one s best true is l m = record { broken = head_broken s l.holds; first = λ r b before. elim (broken_parts r b) [ inl h ↦ first_here s l r h.0 h.1 before | inr t ↦ m.first r t (earlier_trans r (refusal_at (number rule) s) best before (earlier_of (refusal_at (number rule) s) best is)) ] }
   joined_one s best false is l m = record { broken = tail_broken best m.broken; first = λ r b before. elim (broken_parts r b) [ inl h ↦ first_here s l r h.0 h.1 (not_earlier best (refusal_at (number rule) s) r is before) | inr t ↦ m.first r t before ] }
 
   -- one rule more: the least of a joined list is the lesser of the least of its parts
-  pub least_joined : (found : Option Spot) (best : Option Refusal) → LeastWhere (Breaks rule) found → LeastBroken number Breaks rules best → LeastBroken number Breaks (rule ∷ rules) (join (number rule) found best)
-  least_joined None None l m = λ r b. elim (broken_parts r b) [ inl h ↦ l (spot_of r) h.1 | inr t ↦ m r t ]
-  least_joined None (Some best) l m = record { broken = tail_broken best m.broken; first = λ r b before. elim (broken_parts r b) [ inl h ↦ absurd (l (spot_of r) h.1) | inr t ↦ m.first r t before ] }
-  least_joined (Some s) None l m = record { broken = head_broken s l.holds; first = λ r b before. elim (broken_parts r b) [ inl h ↦ first_here s l r h.0 h.1 before | inr t ↦ absurd (m r t) ] }
-  least_joined (Some s) (Some best) l m = joined_one s best (is_earlier (refusal_at (number rule) s) best) refl l m
+  pub first_joined : (found : Option Violation) (best : Option Refusal) → FirstWhere (Breaks rule) found → FirstBroken number Breaks rules best → FirstBroken number Breaks (rule ∷ rules) (join (number rule) found best)
+  first_joined None None l m = λ r b. elim (broken_parts r b) [ inl h ↦ l (violation_of r) h.1 | inr t ↦ m r t ]
+  first_joined None (Some best) l m = record { broken = tail_broken best m.broken; first = λ r b before. elim (broken_parts r b) [ inl h ↦ absurd (l (violation_of r) h.1) | inr t ↦ m.first r t before ] }
+  first_joined (Some s) None l m = record { broken = head_broken s l.holds; first = λ r b before. elim (broken_parts r b) [ inl h ↦ first_here s l r h.0 h.1 before | inr t ↦ absurd (m r t) ] }
+  first_joined (Some s) (Some best) l m = joined_one s best (is_earlier (refusal_at (number rule) s) best) refl l m
 
   -- the same, as the joining function has it
-  pub least_rule : (found : Option Spot) (best now : Option Refusal) → LeastWhere (Breaks rule) found → now ≡ join (number rule) found best → LeastBroken number Breaks rules best → LeastBroken number Breaks (rule ∷ rules) now
-  least_rule found best now l e m = subst (LeastBroken number Breaks (rule ∷ rules)) (sym e) (least_joined found best l m)
+  pub first_rule : (found : Option Violation) (best now : Option Refusal) → FirstWhere (Breaks rule) found → now ≡ join (number rule) found best → FirstBroken number Breaks rules best → FirstBroken number Breaks (rule ∷ rules) now
+  first_rule found best now l e m = subst (FirstBroken number Breaks (rule ∷ rules)) (sym e) (first_joined found best l m)
 
   -- the same, where the number of the rule was computed before
-  pub least_rule_by : (printed : ℕ) (found : Option Spot) (best now : Option Refusal) → printed ≡ number rule → LeastWhere (Breaks rule) found → now ≡ join printed found best → LeastBroken number Breaks rules best → LeastBroken number Breaks (rule ∷ rules) now
-  least_rule_by printed found best now is l e m = least_rule found best now l (e ∙ ap (λ n. join n found best) is) m
+  pub first_rule_by : (printed : ℕ) (found : Option Violation) (best now : Option Refusal) → printed ≡ number rule → FirstWhere (Breaks rule) found → now ≡ join printed found best → FirstBroken number Breaks rules best → FirstBroken number Breaks (rule ∷ rules) now
+  first_rule_by printed found best now is l e m = first_rule found best now l (e ∙ ap (λ n. join n found best) is) m

@@ -5,12 +5,12 @@ pub mod Resolution
 pub mod Counts
 pub mod Written
 pub mod TypeTrees
-pub mod Least
-pub mod LeastRefusal
+pub mod First
+pub mod FirstRefusal
 pub mod PlainTypes
 pub mod PlainTrees
 pub mod Meanings
-pub mod Things
+pub mod Nodes
 pub mod Profile
 pub mod Parts
 pub mod Nesting

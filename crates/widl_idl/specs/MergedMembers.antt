@@ -44,9 +44,9 @@ abbrev pub are_overloads : PlainOperation → PlainOperation → Bool
 are_overloads a b = bytes_eq (operation_text a.name) (operation_text b.name) && both_or_none (is_static a.kind) (is_static b.kind)
 
 -- of these operations, which follow others, those that are the first of their name
-abbrev pub firsts_behind : List PlainOperation → List PlainOperation → List PlainOperation
-firsts_behind before [] = []
-firsts_behind before (o ∷ more) = if list_any (are_overloads o) before then firsts_behind before more else o ∷ firsts_behind (before ++ o ∷ []) more
+abbrev pub firsts_after : List PlainOperation → List PlainOperation → List PlainOperation
+firsts_after before [] = []
+firsts_after before (o ∷ more) = if list_any (are_overloads o) before then firsts_after before more else o ∷ firsts_after (before ++ o ∷ []) more
 
 -- the kinds of members
 abbrev pub operation_in : PlainMemberKind → Option PlainOperation
@@ -102,9 +102,9 @@ is_pair_iterable kind = false
 abbrev pub has : (PlainMemberKind → Bool) → List PlainMember → Bool
 has test members = list_any (λ (m : PlainMember). test m.kind) members
 
--- what a member is among its interface's members, behind those that stand before it: operations by the first of their name, and of stringifiers and of pair iterables the first
+-- what a member is among its interface's members, after those that stand before it: operations by the first of their name, and of stringifiers and of pair iterables the first
 abbrev pub slots_of_operation : List PlainOperation → PlainOperation → List Slot
-slots_of_operation before o = if list_any (are_overloads o) before then [] else slot.Op (length (firsts_behind [] before)) ∷ []
+slots_of_operation before o = if list_any (are_overloads o) before then [] else slot.Op (length (firsts_after [] before)) ∷ []
 
 abbrev pub slots_of_stringifier : List PlainMember → Bool → List Slot
 slots_of_stringifier before true = if has is_stringifier before then [] else slot.Stringifier ∷ []
@@ -119,9 +119,9 @@ slots_of_kind before (IterableMember i) = if is_pair i.second then (if has is_pa
 slots_of_kind before kind = []
 
 -- the slots of members that follow others
-abbrev pub slots_behind : List PlainMember → List PlainMember → List Slot
-slots_behind before [] = []
-slots_behind before (m ∷ more) = slots_of_kind before m.kind ++ slots_behind (before ++ m ∷ []) more
+abbrev pub slots_after : List PlainMember → List PlainMember → List Slot
+slots_after before [] = []
+slots_after before (m ∷ more) = slots_of_kind before m.kind ++ slots_after (before ++ m ∷ []) more
 
 -- the first stringifier of members of which the attributes are counted from `number` on
 abbrev pub stringify_kind : ℕ → PlainMemberKind → Stringify → Stringify → Stringify
@@ -150,7 +150,7 @@ module _ (definitions : List PlainDefinition) where
 
   -- operations by their names, in the order in which the names come first
   abbrev pub op_names_of : List PlainOperation → List OpNameTerm
-  op_names_of operations = map (op_name_of operations) (firsts_behind [] operations)
+  op_names_of operations = map (op_name_of operations) (firsts_after [] operations)
 
   abbrev pub attr_of : MemberAttribute → AttrTerm
   attr_of a = record { at = a.attribute.name.at; name = name_units a.attribute.name; ty = meaning_with definitions a.attributes a.attribute.ty; readonly = a.attribute.readonly; fixed = is_static_attribute a.attribute.kind }
@@ -164,7 +164,7 @@ module _ (definitions : List PlainDefinition) where
     ops = op_names_of (operations_in members);
     attrs = map attr_of (attributes_in members);
     consts = map constant_of (constants_in members);
-    order = slots_behind [] members;
+    order = slots_after [] members;
   }
 
   abbrev pub constructor_in : PlainMemberKind → Option SigTerm

@@ -2,22 +2,23 @@
 -- Source: Web IDL, "Names", "Partial definitions", "includes statement", "inherits" and "Typedefs".
 use Rattle.std.specs.Prelude.{◌≡◌, ◌≢◌, ℕ, ◌+◌, ◌<◌, ◌≤◌, Bool, true, false, ◌&&◌, ◌||◌, List, [], ◌∷◌, length, map, sum_by, Option, None, Some, if◌then◌else◌, slice_get, is_some, codes, bytes_eq, nat_eq, ◌++◌}
 use Rattle.std.specs.List.{list_any}
+use Rattle.widl_text.specs.Limits.{most_members, most_type_levels}
 use Rattle.widl_text.specs.declared.place.Place.{Place}
 use Rattle.widl_idl.specs.declared.kind.Kind.{Kind}
 use Rattle.widl_idl.specs.declared.kind.Kind.TheVariants as kinds
 use Rattle.widl_idl.specs.declared.merging_rule.MergingRule.{MergingRule}
 use Rattle.widl_idl.specs.declared.merging_rule.MergingRule.TheVariants as rule
-use Rattle.widl_idl.specs.declared.spot.Spot.{Spot}
+use Rattle.widl_idl.specs.declared.violation.Violation.{Violation}
 use Rattle.widl_idl.specs.declared.tree.operations.OperationKind.{OperationKind}
 use Rattle.widl_idl.specs.declared.tree.operations.OperationKind.TheVariants as operation_kind
 use Rattle.widl_idl.specs.PlainTypes.{PlainName, PlainNamed, plain_type}
 use Rattle.widl_idl.specs.PlainTrees.{PlainDefinition, PlainKind, InterfaceDefinition, NamespaceDefinition, DictionaryDefinition, IncludesStatement, PlainMember, PlainMemberKind, OperationMember}
-use Rattle.widl_idl.specs.Least.{AtOne, Somewhere, spot_at}
+use Rattle.widl_idl.specs.First.{AtOne, Somewhere, violation_at}
 use Rattle.widl_graph.specs.Reaching.{ReachesItself}
 use Rattle.widl_idl.specs.Meanings.{is_text_of, kind_of, same_kind, is_partial, main_name, partial_name, declared_name, meaning, meant_kind}
 use Rattle.widl_idl.specs.Nesting.{depth_of, typedef_links}
 use Rattle.widl_idl.specs.Parts.{own_parts, members_in, is_mixin, parts_of}
-use Rattle.widl_idl.specs.Things.{Thing, NameThing, TypeThing, things_of}
+use Rattle.widl_idl.specs.Nodes.{Node, NameNode, TypeNode, nodes_of}
 
 -- the number of a rule in a refusal
 abbrev pub merging_number : MergingRule → ℕ
@@ -34,17 +35,17 @@ merging_number rule.OperationInTwoParts = 10
 merging_number rule.NestsTooDeep = 11
 merging_number rule.TooManyMembers = 48
 
--- the spot is this place, and speaks of no other
-abbrev pub IsAt : Place → Spot → Type 0
-IsAt place s = spot_at place ≡ s
+-- the violation is this place, and speaks of no other
+abbrev pub IsAt : Place → Violation → Type 0
+IsAt place s = violation_at place ≡ s
 
--- the fact holds of the name, if there is one, and the spot is its place
-abbrev pub AtName : Option PlainName → (PlainName → Type 0) → Spot → Type 0
+-- the fact holds of the name, if there is one, and the violation is its place
+abbrev pub AtName : Option PlainName → (PlainName → Type 0) → Violation → Type 0
 AtName None P s = ⊥
 AtName (Some name) P s = P name × IsAt name.at s
 
--- a name has two main definitions: at the second name
-abbrev pub IsSecondDefinition : List PlainDefinition → PlainDefinition → Spot → Type 0
+-- rule 1: a name has two main definitions: at the second name
+abbrev pub IsSecondDefinition : List PlainDefinition → PlainDefinition → Violation → Type 0
 IsSecondDefinition before d s = AtName (main_name d.kind) (λ name. is_some (meaning before name.text) ≡ true) s
 
 -- whether a text begins with `_`
@@ -56,12 +57,13 @@ begins_with_underscore (c ∷ more) = nat_eq c 0x5F
 abbrev pub is_reserved : List ℕ → Bool
 is_reserved text = bytes_eq text (codes "constructor") || bytes_eq text (codes "toString") || begins_with_underscore text
 
-abbrev pub IsReservedName : Thing → Spot → Type 0
-IsReservedName (NameThing name) s = (is_reserved name.text ≡ true) × IsAt name.at s
-IsReservedName thing s = ⊥
+-- rule 2: a node with such a name: at the name
+abbrev pub IsReservedName : Node → Violation → Type 0
+IsReservedName (NameNode name) s = (is_reserved name.text ≡ true) × IsAt name.at s
+IsReservedName node s = ⊥
 
--- a partial definition, where its name means no definition of its kind: at its name
-abbrev pub IsWithoutMain : List PlainDefinition → PlainDefinition → Spot → Type 0
+-- rule 3: a partial definition, where its name means no definition of its kind: at its name
+abbrev pub IsWithoutMain : List PlainDefinition → PlainDefinition → Violation → Type 0
 IsWithoutMain definitions d s = AtName (partial_name d.kind) (λ name. meant_kind definitions name.text ≢ Some (kind_of d.kind)) s
 
 -- the sides of an includes statement
@@ -73,21 +75,22 @@ abbrev pub included : PlainKind → Option PlainName
 included (IncludesStatement i) = Some i.mixin
 included kind = None
 
--- the left side of an includes statement means no interface, and the right side no mixin: at that side
-abbrev pub IncludesIntoOther : List PlainDefinition → PlainDefinition → Spot → Type 0
+-- rule 4: the left side of an includes statement means no interface: at that side
+abbrev pub IncludesIntoOther : List PlainDefinition → PlainDefinition → Violation → Type 0
 IncludesIntoOther definitions d s = AtName (included_into d.kind) (λ name. meant_kind definitions name.text ≢ Some kinds.Interface) s
 
-abbrev pub IncludesOther : List PlainDefinition → PlainDefinition → Spot → Type 0
+-- rule 5: its right side means no mixin: at that side
+abbrev pub IncludesOther : List PlainDefinition → PlainDefinition → Violation → Type 0
 IncludesOther definitions d s = AtName (included d.kind) (λ name. meant_kind definitions name.text ≢ Some kinds.Mixin) s
 
--- the name behind the colon
+-- the name after the colon
 abbrev pub parent_of : PlainKind → Option PlainName
 parent_of (InterfaceDefinition i) = i.parent
 parent_of (DictionaryDefinition d) = d.parent
 parent_of kind = None
 
--- the parent means no definition of the same kind: at the parent
-abbrev pub HasOtherParent : List PlainDefinition → PlainDefinition → Spot → Type 0
+-- rule 6: the parent means no definition of the same kind: at the parent
+abbrev pub HasOtherParent : List PlainDefinition → PlainDefinition → Violation → Type 0
 HasOtherParent definitions d s = AtName (parent_of d.kind) (λ name. meant_kind definitions name.text ≢ Some (kind_of d.kind)) s
 
 -- the number of the definition of the same kind that a parent means
@@ -103,8 +106,8 @@ parent_numbers definitions kind (Some name) = number_of_kind kind (meant_kind de
 abbrev pub parent_links : List PlainDefinition → List (List ℕ)
 parent_links definitions = map (λ d. parent_numbers definitions (kind_of d.kind) (parent_of d.kind)) definitions
 
--- by these links one of the definitions comes back to itself: at its name
-pub record ComesBack (links : List (List ℕ)) (definitions : List PlainDefinition) (s : Spot) : Type 0 where
+-- rules 7 (by parents) and 9 (by typedefs): by these links one of the definitions comes back to itself: at its name
+pub record ComesBack (links : List (List ℕ)) (definitions : List PlainDefinition) (s : Violation) : Type 0 where
   pub number : ℕ
   pub definition : PlainDefinition
   pub is : slice_get definitions number ≡ Some definition
@@ -118,15 +121,15 @@ is_type_kind (Some kinds.Mixin) = false
 is_type_kind (Some kinds.Namespace) = false
 is_type_kind (Some kind) = true
 
--- a name in a type that is the name of no type: at that name
-abbrev pub IsUnknownType : List PlainDefinition → Thing → Spot → Type 0
-IsUnknownType definitions (TypeThing (plain_type place (PlainNamed name) question)) s = (is_type_kind (meant_kind definitions name.text) ≡ false) × IsAt name.at s
-IsUnknownType definitions thing s = ⊥
+-- rule 8: a name in a type that is the name of no type: at that name
+abbrev pub IsUnknownType : List PlainDefinition → Node → Violation → Type 0
+IsUnknownType definitions (TypeNode (plain_type place (PlainNamed name) question)) s = (is_type_kind (meant_kind definitions name.text) ≡ false) × IsAt name.at s
+IsUnknownType definitions node s = ⊥
 
--- a type nests deeper than 16: at its first token
-abbrev pub NestsDeep : List PlainDefinition → Thing → Spot → Type 0
-NestsDeep definitions (TypeThing (plain_type place form question)) s = ((depth : ℕ) × (depth_of definitions (plain_type place form question) ≡ Some depth) × (16 < depth)) × IsAt place s
-NestsDeep definitions thing s = ⊥
+-- rule 11: a type nests deeper than the limit: at its first token
+abbrev pub NestsDeep : List PlainDefinition → Node → Violation → Type 0
+NestsDeep definitions (TypeNode (plain_type place form question)) s = ((depth : ℕ) × (depth_of definitions (plain_type place form question) ≡ Some depth) × (most_type_levels < depth)) × IsAt place s
+NestsDeep definitions node s = ⊥
 
 abbrev pub is_static : OperationKind → Bool
 is_static operation_kind.Static = true
@@ -148,16 +151,16 @@ abbrev pub has_operation : List ℕ → Bool → PlainKind → Bool
 has_operation text static part = list_any (λ (m : PlainMember). is_operation_of text static m.kind) (members_in part)
 
 -- an operation that an earlier part has too: at its name
-abbrev pub IsInEarlierPart : List PlainKind → PlainMemberKind → Spot → Type 0
+abbrev pub IsInEarlierPart : List PlainKind → PlainMemberKind → Violation → Type 0
 IsInEarlierPart before (OperationMember o) s = AtName o.name (λ name. list_any (has_operation name.text (is_static o.kind)) before ≡ true) s
 IsInEarlierPart before kind s = ⊥
 
 -- of the parts one has an operation that an earlier one has
-abbrev pub RepeatsOperation : List PlainKind → PlainKind → Spot → Type 0
+abbrev pub RepeatsOperation : List PlainKind → PlainKind → Violation → Type 0
 RepeatsOperation before part s = Somewhere (λ (m : PlainMember). IsInEarlierPart before m.kind) (members_in part) s
 
--- the definition that a name means has operations of one name in two of its parts
-pub record HasInTwoParts (definitions : List PlainDefinition) (s : Spot) : Type 0 where
+-- rule 10: the definition that a name means has operations of one name in two of its parts
+pub record HasInTwoParts (definitions : List PlainDefinition) (s : Violation) : Type 0 where
   pub text : List ℕ
   pub kind : Kind
   pub means : meant_kind definitions text ≡ Some kind
@@ -205,24 +208,24 @@ abbrev pub portions_from : List PlainDefinition → ℕ → List PlainDefinition
 portions_from definitions number [] = []
 portions_from definitions number (d ∷ more) = portion_of definitions number d.kind ++ portions_from definitions (number + 1) more
 
--- the sum passes 1,000,000 with this portion
-abbrev pub PassesLimit : List Portion → Portion → Spot → Type 0
+-- rule 48: the sum passes the limit with this portion
+abbrev pub PassesLimit : List Portion → Portion → Violation → Type 0
 PassesLimit before portion s =
-    ((sum_by (λ (p : Portion). p.size) before ≤ 1000000) × (1000000 < sum_by (λ (p : Portion). p.size) before + portion.size)) × IsAt portion.at s
+    ((sum_by (λ (p : Portion). p.size) before ≤ most_members) × (most_members < sum_by (λ (p : Portion). p.size) before + portion.size)) × IsAt portion.at s
 
--- the rule is broken at the spot
-abbrev pub BreaksMerging : List PlainDefinition → MergingRule → Spot → Type 0
+-- the rule is broken at the violation
+abbrev pub BreaksMerging : List PlainDefinition → MergingRule → Violation → Type 0
 BreaksMerging definitions rule.SecondDefinition s = AtOne IsSecondDefinition definitions s
-BreaksMerging definitions rule.ReservedName s = Somewhere IsReservedName (things_of definitions) s
+BreaksMerging definitions rule.ReservedName s = Somewhere IsReservedName (nodes_of definitions) s
 BreaksMerging definitions rule.PartialWithoutMain s = Somewhere (IsWithoutMain definitions) definitions s
 BreaksMerging definitions rule.IncludesIntoNoInterface s = Somewhere (IncludesIntoOther definitions) definitions s
 BreaksMerging definitions rule.IncludesNoMixin s = Somewhere (IncludesOther definitions) definitions s
 BreaksMerging definitions rule.ParentOfOtherKind s = Somewhere (HasOtherParent definitions) definitions s
 BreaksMerging definitions rule.InheritsFromItself s = ComesBack (parent_links definitions) definitions s
-BreaksMerging definitions rule.UnknownType s = Somewhere (IsUnknownType definitions) (things_of definitions) s
+BreaksMerging definitions rule.UnknownType s = Somewhere (IsUnknownType definitions) (nodes_of definitions) s
 BreaksMerging definitions rule.TypedefReachesItself s = ComesBack (typedef_links definitions) definitions s
 BreaksMerging definitions rule.OperationInTwoParts s = HasInTwoParts definitions s
-BreaksMerging definitions rule.NestsTooDeep s = Somewhere (NestsDeep definitions) (things_of definitions) s
+BreaksMerging definitions rule.NestsTooDeep s = Somewhere (NestsDeep definitions) (nodes_of definitions) s
 BreaksMerging definitions rule.TooManyMembers s = AtOne PassesLimit (portions_from definitions 0 definitions) s
 
 -- the rules of merging

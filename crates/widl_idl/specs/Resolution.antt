@@ -5,7 +5,7 @@ use Rattle.widl_idl.specs.declared.int_kind.Mode.{Mode}
 use Rattle.widl_idl.specs.declared.int_kind.Mode.TheVariants.{Wrap, Clamp, Enforce}
 use Rattle.widl_idl.specs.declared.text_kind.TextKind.{TextKind}
 use Rattle.widl_idl.specs.declared.text_kind.TextKind.TheVariants as texts
-use Rattle.widl_idl.specs.Least.{is_before}
+use Rattle.widl_idl.specs.First.{is_before}
 use Rattle.widl_idl.specs.Terms.{TypeTerm, TypeTerms, AnyType, IntegerType, StringType, SequenceType, RecordType, PromiseType, NullableType, UnionType, no_types, more_types}
 
 -- the annotations that change a type

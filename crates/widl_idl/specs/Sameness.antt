@@ -1,4 +1,4 @@
--- A test of terms for equality.
+-- For proofs alone. A test of terms for equality.
 use Rattle.std.specs.Prelude.{Bool, true, false, ◌&&◌, nat_eq}
 use Rattle.widl_idl.specs.declared.int_kind.IntKind.{IntKind}
 use Rattle.widl_idl.specs.declared.int_kind.IntKind.TheVariants.{Byte, Octet, Short, UShort, Long, ULong, LongLong, ULongLong}

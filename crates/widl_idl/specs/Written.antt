@@ -1,4 +1,4 @@
--- The members of a written union.
+-- For proofs alone. The members of a written union.
 use Rattle.std.specs.Prelude.{List}
 use Rattle.widl_idl.specs.declared.tree.types.TypeForm.TheViews.{out-UnionMembers}
 use Rattle.widl_idl.specs.declared.tree.types.AnnotatedType.{AnnotatedType}

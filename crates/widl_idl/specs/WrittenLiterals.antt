@@ -15,7 +15,7 @@ units_of bytes = utf16_of (chars bytes)
 abbrev pub name_units : PlainName → List ℕ
 name_units name = units_of name.text
 
--- the value of a literal; a form that is left out stands as null
+-- the value of a literal; a form that the profile leaves unsupported stands as null
 abbrev pub value_meant : PlainValue → Literal
 value_meant NullValue = the.Null
 value_meant UndefinedValue = the.Undefined

@@ -64,7 +64,7 @@ nullable_if (Some question) t = NullableOf t
 
 module _ (definitions : List PlainDefinition) where
   abbrev mutual
-    -- the type that is written in a tree, in which names are those of definitions by their numbers; a form that is left out stands as `any`
+    -- the type that is written in a tree, in which names are those of definitions by their numbers; a form that the profile leaves unsupported stands as `any`
     pub written_form : PlainForm → WrittenType
     written_form PlainUndefined = WithoutParts UndefinedType
     written_form PlainBoolean = WithoutParts BooleanType

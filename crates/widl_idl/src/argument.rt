@@ -1,9 +1,8 @@
 //! Arguments of operations, constructors and callbacks.
 
-use crate::items::Items;
 use crate::literal::Literal;
 use crate::types::IdlType;
-use widl_text::Units;
+use widl_text::{Items, Units};
 
 /// Whether a call may leave an argument out, or repeat it
 /// (Web IDL, "optionality value").

@@ -1,8 +1,7 @@
 //! Attributes.
 
-use crate::items::Items;
 use crate::types::IdlType;
-use widl_text::{Place, Units};
+use widl_text::{Items, Place, Units};
 
 /// An attribute (Web IDL, "Attributes").
 #[derive(Drop)]

@@ -1,8 +1,7 @@
 //! Callback functions and callback interfaces.
 
-use crate::items::Items;
 use crate::signature::Sig;
-use widl_text::{Place, Units};
+use widl_text::{Items, Place, Units};
 
 /// A callback function, or a callback interface by its one operation (Web IDL, "Callback
 /// functions" and "Callback interfaces").

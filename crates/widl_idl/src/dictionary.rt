@@ -1,9 +1,8 @@
 //! Dictionaries.
 
-use crate::items::Items;
 use crate::literal::Literal;
 use crate::types::IdlType;
-use widl_text::{Place, Units};
+use widl_text::{Items, Place, Units};
 
 /// A member of a dictionary (Web IDL, "Dictionaries").
 #[derive(Drop)]

@@ -1,7 +1,6 @@
 //! Enumerations.
 
-use crate::items::Items;
-use widl_text::{Place, Units};
+use widl_text::{Items, Place, Units};
 
 /// Texts in order.
 pub type Texts = Items<Units>;

@@ -2,11 +2,10 @@
 
 use crate::attribute::Attrs;
 use crate::constant::Constants;
-use crate::items::Items;
 use crate::operation::OpNames;
 use crate::signature::Sigs;
 use crate::types::IdlType;
-use widl_text::{Place, Units};
+use widl_text::{Items, Place, Units};
 
 /// Whether objects of an interface have a text (Web IDL, "Stringifiers").
 #[derive(Clone, Copy, Debug, PartialEq, Eq)]

@@ -7,29 +7,29 @@ ghost use Rattle.widl_idl.specs.MergingRules.{merging_number};
 /// together. Each is stated in `specs/MergingRules.antt`.
 #[derive(Clone, Copy, Debug, PartialEq, Eq)]
 pub enum MergingRule {
-    /// A name has two main definitions.
+    /// Rule 1: A name has two main definitions.
     SecondDefinition,
-    /// A name that nothing may have.
+    /// Rule 2: A name that nothing may have.
     ReservedName,
-    /// A partial definition without a main one of its kind.
+    /// Rule 3: A partial definition without a main one of its kind.
     PartialWithoutMain,
-    /// An includes statement whose left side is no interface.
+    /// Rule 4: An includes statement whose left side is no interface.
     IncludesIntoNoInterface,
-    /// An includes statement whose right side is no mixin.
+    /// Rule 5: An includes statement whose right side is no mixin.
     IncludesNoMixin,
-    /// A parent that is no definition of the same kind.
+    /// Rule 6: A parent that is no definition of the same kind.
     ParentOfOtherKind,
-    /// A definition that inherits from itself.
+    /// Rule 7: A definition that inherits from itself.
     InheritsFromItself,
-    /// A name in a type that names no type.
+    /// Rule 8: A name in a type that names no type.
     UnknownType,
-    /// A typedef that reaches itself through typedefs.
+    /// Rule 9: A typedef that reaches itself through typedefs.
     TypedefReachesItself,
-    /// Operations of one name in two parts.
+    /// Rule 10: Operations of one name in two parts.
     OperationInTwoParts,
-    /// A type that nests too deep after typedefs.
+    /// Rule 11: A type that nests too deep after typedefs.
     NestsTooDeep,
-    /// Too many members.
+    /// Rule 48: Too many members.
     TooManyMembers,
 }
 

@@ -3,9 +3,8 @@
 use crate::attribute::Attrs;
 use crate::constant::Constants;
 use crate::interface::Slots;
-use crate::items::Items;
 use crate::operation::OpNames;
-use widl_text::{Place, Units};
+use widl_text::{Items, Place, Units};
 
 /// A namespace with all its members (Web IDL, "Namespaces").
 #[derive(Drop)]

@@ -1,8 +1,7 @@
 //! Operations by their names.
 
-use crate::items::Items;
 use crate::signature::Sigs;
-use widl_text::Units;
+use widl_text::{Items, Units};
 
 /// The operations of an interface or a namespace that have one name and are all static or all
 /// regular (Web IDL, "Overloading").

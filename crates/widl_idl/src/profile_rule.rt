@@ -1,45 +1,45 @@
-//! The rules on forms of Web IDL that are left out.
+//! The rules on forms of Web IDL that the profile leaves unsupported.
 
 ghost use Rattle.std.specs.Prelude.{◌≡◌};
 ghost use Rattle.widl_idl.specs.Profile.{profile_number};
 
 use widl_text::Place;
 
-/// A rule that refuses a form of Web IDL which is left out. Each is stated as
+/// A rule that refuses a form of Web IDL which the profile leaves unsupported. Each is stated as
 /// `specs/Profile.antt` tells.
 #[derive(Clone, Copy, Debug, PartialEq, Eq)]
 pub enum ProfileRule {
-    /// Floating point types, decimal literals, `Infinity`, `-Infinity` and `NaN`.
+    /// X1: Floating point types, decimal literals, `Infinity`, `-Infinity` and `NaN`.
     FloatingPoint,
-    /// `bigint`.
+    /// X2: `bigint`.
     BigInt,
-    /// Buffers and their views.
+    /// X3: Buffers and their views.
     Buffer,
-    /// The type `symbol`.
+    /// X4: The type `symbol`.
     Symbol,
-    /// Asynchronously iterable declarations and asynchronous sequences.
+    /// X5: Asynchronously iterable declarations and asynchronous sequences.
     Asynchronous,
-    /// `ObservableArray`.
+    /// X6: `ObservableArray`.
     ObservableArray,
-    /// `maplike` and `setlike`.
+    /// X7: `maplike` and `setlike`.
     MapOrSet,
-    /// `iterable` with one type.
+    /// X8: `iterable` with one type.
     ValueIterable,
-    /// `getter`, `setter` and `deleter`.
+    /// X9: `getter`, `setter` and `deleter`.
     SpecialOperation,
-    /// `inherit` before an attribute.
+    /// X10: `inherit` before an attribute.
     InheritedAttribute,
-    /// A constant of a callback interface.
+    /// X11: A constant of a callback interface.
     CallbackInterfaceConstant,
-    /// An extended attribute that isn't listed, or an annotation with an argument.
+    /// X12: An extended attribute that isn't listed, or an annotation with an argument.
     UnlistedAttribute,
-    /// `FrozenArray`.
+    /// X13: `FrozenArray`.
     FrozenArray,
 }
 
-/// A form that is left out: the rule that says so, and where its first word stands.
+/// A form that the profile leaves unsupported: the rule that says so, and where its first word stands.
 #[derive(Clone, Copy, Debug, PartialEq, Eq)]
-pub struct LeftOut {
+pub struct Unsupported {
     /// The rule.
     pub rule: ProfileRule,
     /// The place.

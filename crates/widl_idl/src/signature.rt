@@ -1,9 +1,8 @@
 //! Signatures, each of one overload.
 
 use crate::argument::Args;
-use crate::items::Items;
 use crate::types::IdlType;
-use widl_text::Place;
+use widl_text::{Items, Place};
 
 /// The arguments and the return type of an operation, a callback or a constructor. That of a
 /// constructor returns `undefined`.

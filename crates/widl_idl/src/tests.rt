@@ -5,8 +5,9 @@ ghost use Rattle.widl_idl.specs.Flattened.{IsUnion};
 ghost use Rattle.widl_idl.specs.Terms.{type_term};
 
 use crate::{
-    Defs, Fragments, IdlType, IdlTypes, IntKind, Items, Merged, Mode, Optionality, Refusal, Spot,
-    TextKind, flattened, includes_nullable, joined, lesser_spot, nullable_count, same_type,
+    Defs, Fragments, IdlType, IdlTypes, IntKind, Items, Merged, Mode, Optionality, Refusal,
+    TextKind, Violation, earlier_violation, flattened, includes_nullable, joined, nullable_count,
+    same_type,
 };
 use std::alloc::{AllocError, Global};
 use std::process::Abort;
@@ -186,54 +187,54 @@ fn items_in_a_list(rt: HostRuntime) -> Result<(), Fail> {
     Ok(())
 }
 
-fn spot(file: u16, at: u32) -> Spot {
-    Spot::at(Place { file, at })
+fn violation(file: u16, at: u32) -> Violation {
+    Violation::at(Place { file, at })
 }
 
 #[test]
-fn the_lesser_of_two_spots(rt: HostRuntime) -> Result<(), Fail> {
-    let late_in_first = spot(0, 90);
-    let early_in_second = spot(1, 5);
-    let late_in_second = spot(1, 6);
-    let chosen = lesser_spot(Some(early_in_second), Some(late_in_first));
+fn the_earlier_of_two_violations(rt: HostRuntime) -> Result<(), Fail> {
+    let late_in_first = violation(0, 90);
+    let early_in_second = violation(1, 5);
+    let late_in_second = violation(1, 6);
+    let chosen = earlier_violation(Some(early_in_second), Some(late_in_first));
     assert_eq!(rt; chosen, Some(late_in_first));
-    let chosen = lesser_spot(Some(late_in_second), Some(early_in_second));
+    let chosen = earlier_violation(Some(late_in_second), Some(early_in_second));
     assert_eq!(rt; chosen, Some(early_in_second));
     assert_eq!(rt;
-        lesser_spot(None, Some(late_in_second)),
+        earlier_violation(None, Some(late_in_second)),
         Some(late_in_second)
     );
     assert_eq!(rt;
-        lesser_spot(Some(late_in_second), None),
+        earlier_violation(Some(late_in_second), None),
         Some(late_in_second)
     );
     Ok(())
 }
 
 #[test]
-fn the_lesser_other_place_comes_first_at_one_place(rt: HostRuntime) -> Result<(), Fail> {
-    let early = Spot {
+fn the_earlier_other_place_comes_first_at_one_place(rt: HostRuntime) -> Result<(), Fail> {
+    let early = Violation {
         at: Place { file: 2, at: 7 },
         other: Some(Place { file: 2, at: 3 }),
     };
-    let late = Spot {
+    let late = Violation {
         at: Place { file: 2, at: 7 },
         other: Some(Place { file: 2, at: 4 }),
     };
-    let alone = spot(2, 7);
-    assert_eq!(rt; lesser_spot(Some(late), Some(early)), Some(early));
-    assert_eq!(rt; lesser_spot(Some(early), Some(late)), Some(early));
-    assert_eq!(rt; lesser_spot(Some(early), Some(alone)), Some(alone));
+    let alone = violation(2, 7);
+    assert_eq!(rt; earlier_violation(Some(late), Some(early)), Some(early));
+    assert_eq!(rt; earlier_violation(Some(early), Some(late)), Some(early));
+    assert_eq!(rt; earlier_violation(Some(early), Some(alone)), Some(alone));
     Ok(())
 }
 
 #[test]
 fn the_lower_rule_number_comes_first_at_one_place(rt: HostRuntime) -> Result<(), Fail> {
-    let there = spot(0, 4);
+    let there = violation(0, 4);
     let best = joined(12, Some(there), None);
     let best = joined(9, Some(there), best);
     let best = joined(30, Some(there), best);
-    let best = joined(1, Some(spot(0, 5)), best);
+    let best = joined(1, Some(violation(0, 5)), best);
     let best = joined(2, None, best);
     let expected = Refusal {
         rule: 9,

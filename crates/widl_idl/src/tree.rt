@@ -3,7 +3,7 @@
 //!
 //! Names are owned, so that a tree outlives its source. Beside each name, literal and type, and beside
 //! each other word that a rule of merging or validity points at, stands its [`Place`](widl_text::Place).
-//! What the grammar repeats is an [`Items`](crate::Items).
+//! What the grammar repeats is an [`Items`](widl_text::Items).
 //!
 //! The only parts that hold parts of their own kind are types, and these nest at most 16 levels. That
 //! bounds every recursion over a tree. The arguments of an extended attribute nest without a bound, and

@@ -1,11 +1,11 @@
 -- The rules on iterables over all interfaces, a number at a time.
 use Rattle.std.proofs.Common.{◌≡◌, ◌⊎◌, inl, inr, ℕ, ◌+◌, Bool, true, false, ◌||◌, nat_lt, List, [], length, take, get_or, Option, None, arith, refl, sym, ap, subst, ◌∙◌}
 use Rattle.widl_graph.specs.Reaching.{Reaches}
-use Rattle.widl_idl.specs.declared.spot.Spot.{Spot}
-use Rattle.widl_idl.specs.Least.{AtOne, LeastWhere, Somewhere, lesser}
+use Rattle.widl_idl.specs.declared.violation.Violation.{Violation}
+use Rattle.widl_idl.specs.First.{AtOne, FirstWhere, Somewhere, earlier}
 use Rattle.widl_idl.specs.MergingRules.{parent_links}
 use Rattle.widl_idl.specs.PlainTrees.{PlainDefinition, PlainMember}
-use Rattle.widl_idl.proofs.Order.{Either, least_either, least_same}
+use Rattle.widl_idl.proofs.Order.{Either, first_either, first_same}
 use Rattle.widl_inheritance.specs.InterfaceMembers.{members_at}
 use Rattle.widl_inheritance.specs.Iterations.{BelowCount, FollowsIterable, HasSecondAt, HidesAt, IsHiding, TellsMembers}
 use Rattle.widl_inheritance.specs.ReachedFlags.{TellsReached}
@@ -15,11 +15,11 @@ use Rattle.widl_names.proofs.Pushed.{some_is}
 use Rattle.widl_overload.specs.IterableRules.{AtIterable, HasIterationName, HasSecondIterable, HidesIterationMethod, InheritsFrom, IsInterface, IsSecondIterable, has_iterable, has_iteration_name, members_of_interface}
 
 -- one number more
-module _ (Breaks : ℕ → Spot → Type 0) where
-  pub below_none : LeastWhere (BelowCount Breaks 0) None
+module _ (Breaks : ℕ → Violation → Type 0) where
+  pub below_none : FirstWhere (BelowCount Breaks 0) None
   below_none = λ s u. absurd (let below = u.below in omega arith)
 
-  by_number : (count : ℕ) (s : Spot) (u : BelowCount Breaks (count + 1) s) (b : Bool) → nat_lt u.number count ≡ b → BelowCount Breaks count s ⊎ Breaks count s
+  by_number : (count : ℕ) (s : Violation) (u : BelowCount Breaks (count + 1) s) (b : Bool) → nat_lt u.number count ≡ b → BelowCount Breaks count s ⊎ Breaks count s
   by_number count s u true h = inl (record { number = u.number; below = grind arith; breaks = u.breaks })
   by_number count s u false h = let below = u.below in let last : u.number ≡ count = grind arith in inr (subst (λ n. Breaks n s) last u.breaks)
 
@@ -30,8 +30,8 @@ module _ (Breaks : ℕ → Spot → Type 0) where
     only = λ s u. by_number count s u (nat_lt u.number count) refl;
   }
 
-  pub below_next : (count : ℕ) (best found now : Option Spot) → LeastWhere (BelowCount Breaks count) best → LeastWhere (Breaks count) found → now ≡ lesser best found → LeastWhere (BelowCount Breaks (count + 1)) now
-  below_next count best found now l m e = subst (LeastWhere (BelowCount Breaks (count + 1))) (sym e) (least_either (BelowCount Breaks count) (Breaks count) (BelowCount Breaks (count + 1)) (either_number count) best found l m)
+  pub below_next : (count : ℕ) (best found now : Option Violation) → FirstWhere (BelowCount Breaks count) best → FirstWhere (Breaks count) found → now ≡ earlier best found → FirstWhere (BelowCount Breaks (count + 1)) now
+  below_next count best found now l m e = subst (FirstWhere (BelowCount Breaks (count + 1))) (sym e) (first_either (BelowCount Breaks count) (Breaks count) (BelowCount Breaks (count + 1)) (either_number count) best found l m)
 
 or_true : (a b : Bool) → (a ≡ true) ⊎ (b ≡ true) → (a || b) ≡ true
 or_true true b h = refl
@@ -79,13 +79,13 @@ module _ (definitions : List PlainDefinition) where
         }
 
   module _ (own inherited : List Bool) (tells : TellsMembers has_iterable definitions own) (reached : TellsReached (parent_links definitions) own inherited) where
-    second_of : (text : List ℕ) (number : ℕ) → IsInterface definitions text number → (before : List PlainMember) (m : PlainMember) (s : Spot) → FollowsIterable (get_or inherited number false) before m s → IsSecondIterable definitions text before m s
+    second_of : (text : List ℕ) (number : ℕ) → IsInterface definitions text number → (before : List PlainMember) (m : PlainMember) (s : Violation) → FollowsIterable (get_or inherited number false) before m s → IsSecondIterable definitions text before m s
     second_of text number is before m s h = (elim (or_either (get_or inherited number false) (has_iterable before) h.0) [ inl e ↦ inr (let i = inherited_of has_iterable refl own inherited tells reached text number is e in record { other = i.other; inherits = i.inherits; has = i.passes }) | inr e ↦ inl e ], h.1)
 
-    follows_of : (text : List ℕ) (number : ℕ) → IsInterface definitions text number → (before : List PlainMember) (m : PlainMember) (s : Spot) → IsSecondIterable definitions text before m s → FollowsIterable (get_or inherited number false) before m s
+    follows_of : (text : List ℕ) (number : ℕ) → IsInterface definitions text number → (before : List PlainMember) (m : PlainMember) (s : Violation) → IsSecondIterable definitions text before m s → FollowsIterable (get_or inherited number false) before m s
     follows_of text number is before m s h = (or_true (get_or inherited number false) (has_iterable before) (elim h.0 [ inl e ↦ inr e | inr i ↦ inl (flag_of has_iterable refl own inherited tells reached text i.other number is i.inherits i.has) ]), h.1)
 
-    second_named : (s : Spot) (number : ℕ) → HasSecondAt definitions inherited number s → (members_at definitions number ≡ []) ⊎ NamedAt definitions number → HasSecondIterable definitions s
+    second_named : (s : Violation) (number : ℕ) → HasSecondAt definitions inherited number s → (members_at definitions number ≡ []) ⊎ NamedAt definitions number → HasSecondIterable definitions s
     second_named s number u (inl none) = absurd (let at_none : AtOne (FollowsIterable (get_or inherited number false)) [] s = subst (λ ms. AtOne (FollowsIterable (get_or inherited number false)) ms s) none u in let below = at_none.below in omega arith)
     second_named s number u (inr named) =
         let v = subst (λ ms. AtOne (FollowsIterable (get_or inherited number false)) ms s) named.members u in
@@ -96,7 +96,7 @@ module _ (definitions : List PlainDefinition) where
           second = record { index = v.index; below = v.below; item = v.item; is = v.is; breaks = second_of named.text number named.is (take v.index (members_of_interface definitions named.text)) v.item s v.breaks };
         }
 
-    second_here : (s : Spot) → HasSecondIterable definitions s → BelowCount (HasSecondAt definitions inherited) (length definitions) s
+    second_here : (s : Violation) → HasSecondIterable definitions s → BelowCount (HasSecondAt definitions inherited) (length definitions) s
     second_here s h =
         let v = h.second in
         record {
@@ -107,8 +107,8 @@ module _ (definitions : List PlainDefinition) where
         }
 
     -- the first rule, by the flags
-    pub second_least : (found : Option Spot) → LeastWhere (BelowCount (HasSecondAt definitions inherited) (length definitions)) found → LeastWhere (HasSecondIterable definitions) found
-    second_least found l = least_same (BelowCount (HasSecondAt definitions inherited) (length definitions)) (HasSecondIterable definitions) found (λ s u. second_named s u.number u.breaks (named_at definitions u.number)) second_here l
+    pub second_first : (found : Option Violation) → FirstWhere (BelowCount (HasSecondAt definitions inherited) (length definitions)) found → FirstWhere (HasSecondIterable definitions) found
+    second_first found l = first_same (BelowCount (HasSecondAt definitions inherited) (length definitions)) (HasSecondIterable definitions) found (λ s u. second_named s u.number u.breaks (named_at definitions u.number)) second_here l
 
   module _ (own inherited : List Bool) (tells : TellsMembers has_iteration_name definitions own) (reached : TellsReached (parent_links definitions) own inherited) where
     abbrev flag_at : ℕ → Bool
@@ -120,7 +120,7 @@ module _ (definitions : List PlainDefinition) where
     flag_named : (text : List ℕ) (number : ℕ) → IsInterface definitions text number → HasIterationName definitions text → flag_at number ≡ true
     flag_named text number is h = or_true (get_or own number false) (get_or inherited number false) (elim h.of_line [ inl same ↦ inl (tells.tells number ∙ ap has_iteration_name (members_named_at definitions number text is ∙ ap (members_of_interface definitions) same) ∙ h.has) | inr i ↦ inr (flag_of has_iteration_name refl own inherited tells reached text h.other number is i h.has) ])
 
-    hides_named : (s : Spot) (number : ℕ) → HidesAt definitions own inherited number s → (members_at definitions number ≡ []) ⊎ NamedAt definitions number → HidesIterationMethod definitions s
+    hides_named : (s : Violation) (number : ℕ) → HidesAt definitions own inherited number s → (members_at definitions number ≡ []) ⊎ NamedAt definitions number → HidesIterationMethod definitions s
     hides_named s number u (inl none) = absurd (let nowhere = subst (λ ms. IsHiding (flag_at number) ms s) none u in let below = nowhere.1.listed.1 in omega arith)
     hides_named s number u (inr named) = record {
       text = named.text;
@@ -130,7 +130,7 @@ module _ (definitions : List PlainDefinition) where
       iterable = subst (λ ms. Somewhere (λ (m : PlainMember). AtIterable m.kind) ms s) named.members u.1;
     }
 
-    hides_here : (s : Spot) → HidesIterationMethod definitions s → BelowCount (HidesAt definitions own inherited) (length definitions) s
+    hides_here : (s : Violation) → HidesIterationMethod definitions s → BelowCount (HidesAt definitions own inherited) (length definitions) s
     hides_here s h = record {
       number = h.number;
       below = meaning_below definitions h.number h.text h.is.means;
@@ -138,5 +138,5 @@ module _ (definitions : List PlainDefinition) where
     }
 
     -- the second rule, by the flags
-    pub hides_least : (found : Option Spot) → LeastWhere (BelowCount (HidesAt definitions own inherited) (length definitions)) found → LeastWhere (HidesIterationMethod definitions) found
-    hides_least found l = least_same (BelowCount (HidesAt definitions own inherited) (length definitions)) (HidesIterationMethod definitions) found (λ s u. hides_named s u.number u.breaks (named_at definitions u.number)) hides_here l
+    pub hides_first : (found : Option Violation) → FirstWhere (BelowCount (HidesAt definitions own inherited) (length definitions)) found → FirstWhere (HidesIterationMethod definitions) found
+    hides_first found l = first_same (BelowCount (HidesAt definitions own inherited) (length definitions)) (HidesIterationMethod definitions) found (λ s u. hides_named s u.number u.breaks (named_at definitions u.number)) hides_here l

@@ -6,20 +6,20 @@ use Rattle.widl_idl.specs.DefinitionTerms.{DictTerm}
 use Rattle.widl_inheritance.specs.ChainLengths.{BeginsAt, begun, inside, nothing}
 use Rattle.widl_inheritance.specs.HoldingGraph.{IsHoldingGraph}
 use Rattle.widl_inheritance.proofs.HoldingSteps.{MemberStep, from_members, holds_above, holds_cases, holds_own, to_above, to_inside}
-use Rattle.widl_overload.specs.Dictionaries.{BeginsChain, HoldsIn, alone, behind, dictionaries_of_members}
+use Rattle.widl_overload.specs.Dictionaries.{BeginsChain, HoldsIn, alone, after, dictionaries_of_members}
 
 module _ (dicts : List DictTerm) where
-  -- a chain of one, or one with a shorter chain behind the first
-  record Behind (count n : ℕ) : Type 0 where
+  -- a chain of one, or one with a shorter chain after the first
+  record After (count n : ℕ) : Type 0 where
     shorter : ℕ
     next : ℕ
     longer : count ≡ shorter + 1
     holds : HoldsIn dicts n next
     chain : BeginsChain dicts shorter next
 
-  chain_cases : {count n : ℕ} → BeginsChain dicts count n → (count ≡ 1) ⊎ Behind count n
+  chain_cases : {count n : ℕ} → BeginsChain dicts count n → (count ≡ 1) ⊎ After count n
   chain_cases alone = inl refl
-  chain_cases (behind {count = k} {m = m} h c) = inr (record { shorter = k; next = m; longer = refl; holds = h; chain = c })
+  chain_cases (after {count = k} {m = m} h c) = inr (record { shorter = k; next = m; longer = refl; holds = h; chain = c })
 
   pub one_begins : (count n : ℕ) → count ≡ 1 → BeginsChain dicts count n
   one_begins count n is = subst (λ k. BeginsChain dicts k n) (sym is) alone
@@ -28,7 +28,7 @@ module _ (dicts : List DictTerm) where
   pub with_itself : (count n : ℕ) → n < length dicts → BeginsAt dicts count (length dicts + n) → BeginsAt dicts (count + 1) n
   with_itself count n below (nothing is) = begun below (one_begins (count + 1) n (omega (arith, is)))
   with_itself count n below (begun past c) = absurd (omega (arith, past))
-  with_itself count n below (inside k m is h c) = begun below (behind (subst (λ j. HoldsIn dicts j m) same h) c)
+  with_itself count n below (inside k m is h c) = begun below (after (subst (λ j. HoldsIn dicts j m) same h) c)
     where
       same : k ≡ n
       same = omega (arith, is)
@@ -38,7 +38,7 @@ module _ (dicts : List DictTerm) where
   without_itself count n below (inside k m is h c) = absurd (omega (arith, is, below))
   without_itself count n below (begun l c) = by_case (chain_cases c)
     where
-      by_case : (count + 1 ≡ 1) ⊎ Behind (count + 1) n → BeginsAt dicts count (length dicts + n)
+      by_case : (count + 1 ≡ 1) ⊎ After (count + 1) n → BeginsAt dicts count (length dicts + n)
       by_case (inl is) = nothing (omega (arith, is))
       by_case (inr b) = let same : b.shorter ≡ count = (let e = b.longer in omega (arith, e)) in inside n b.next refl b.holds (subst (λ k. BeginsChain dicts k b.next) same b.chain)
 

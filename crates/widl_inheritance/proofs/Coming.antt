@@ -30,7 +30,7 @@ parent_step (p ∷ parents) zero m e = one_listed p m e
 parent_step (p ∷ parents) (suc n) m e = parent_step parents n m e
 
 module _ (parents : List (Option ℕ)) (spans : List (Option Span)) (all : AreNested parents spans) where
-  -- what comes from a node lies in its span, behind the start
+  -- what comes from a node lies in its span, after the start
   lies : (n m : ℕ) (s t : Span) → Reaches (parent_graph parents) n m → span_of spans n ≡ Some s → span_of spans m ≡ Some t → (t.start < s.start) × (s.past ≤ t.past)
   lies n m s t (one step) n_is m_is =
       let up = all.nested n m s n_is (step_parent parents n m step) in
@@ -41,7 +41,7 @@ module _ (parents : List (Option ℕ)) (spans : List (Option Span)) (all : AreNe
       let further = lies p m up.0 t rest up.1 m_is in
       (omega (arith, up.2, further.0), omega (arith, up.3, further.1))
 
-  -- what begins in a span, behind the start, comes from its node
+  -- what begins in a span, after the start, comes from its node
   comes_within : (fuel n m : ℕ) (s t : Span) → s.start < fuel → span_of spans n ≡ Some s → span_of spans m ≡ Some t → t.start < s.start → s.start < t.past → Reaches (parent_graph parents) n m
   comes_within zero n m s t less n_is m_is low high = absurd (omega arith)
   comes_within (suc fuel) n m s t less n_is m_is low high =

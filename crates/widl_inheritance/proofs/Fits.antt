@@ -3,10 +3,10 @@ use Rattle.std.proofs.Common.{◌≡◌, ◌⊎◌, ◌↔◌, inl, inr, ℕ, �
 use Rattle.std.specs.List.{Contains, list_any}
 use Rattle.widl_idl.specs.declared.literal.Literal.{Literal}
 use Rattle.widl_idl.specs.declared.literal.Literal.TheVariants as the
-use Rattle.widl_idl.specs.declared.spot.Spot.{Spot}
+use Rattle.widl_idl.specs.declared.violation.Violation.{Violation}
 use Rattle.widl_idl.specs.DefinitionTerms.{DefsTerm}
 use Rattle.widl_idl.specs.Flattened.{flattened_member, includes_nullable_type}
-use Rattle.widl_idl.specs.Least.{LeastWhere, spot_at}
+use Rattle.widl_idl.specs.First.{FirstWhere, violation_at}
 use Rattle.widl_idl.specs.PlainTrees.{PlainDefinition}
 use Rattle.widl_idl.specs.PlainTypes.{PlainValue, NullValue, UndefinedValue, BooleanValue, IntegerValue, TextValue, EmptySequenceValue, EmptyDictionaryValue}
 use Rattle.widl_idl.specs.Terms.{TypeTerm, AnyType, BooleanType, IntegerType, StringType, EnumerationType, DictionaryType, SequenceType, NullableType}
@@ -149,7 +149,7 @@ turned true x y = refl
 turned false x y = refl
 
 -- a default value, by whether it fits
-pub other_here : (list : DefsTerm) (tables : Tables) → Knows list tables → (definitions : List PlainDefinition) (d : Defaulted) (t : TypeTerm) (fit : Bool) (found : Option Spot) → t ≡ meaning_with definitions d.attributes d.ty → fit ≡ fits_if tables (literal_if d.value.value) t → found ≡ cond fit None (Some (spot_at d.value.at)) → LeastWhere (IsOtherDefault list definitions d) found
+pub other_here : (list : DefsTerm) (tables : Tables) → Knows list tables → (definitions : List PlainDefinition) (d : Defaulted) (t : TypeTerm) (fit : Bool) (found : Option Violation) → t ≡ meaning_with definitions d.attributes d.ty → fit ≡ fits_if tables (literal_if d.value.value) t → found ≡ cond fit None (Some (violation_at d.value.at)) → FirstWhere (IsOtherDefault list definitions d) found
 other_here list tables known definitions d t fit found means fit_is found_is =
     let meaning : TypeTerm = meaning_with definitions d.attributes d.ty in
     let told : (fits_if tables (literal_if d.value.value) meaning ≡ true) ↔ Fits list meaning d.value.value = fits_told list tables known meaning d.value.value in
@@ -157,7 +157,7 @@ other_here list tables known definitions d t fit found means fit_is found_is =
     one_place (Fits list meaning d.value.value → ⊥) d.value.at (not fit) found
     (λ h f. clash fit (whole ∙ told.1 f) h)
     (λ h q. q (told.0 (sym whole ∙ set fit h)))
-    (found_is ∙ turned fit (Some (spot_at d.value.at)) None)
+    (found_is ∙ turned fit (Some (violation_at d.value.at)) None)
   where
     clash : (b : Bool) → b ≡ true → not b ≡ true → ⊥
     clash true e h = absurd (let f : false ≡ true = h in (cc))

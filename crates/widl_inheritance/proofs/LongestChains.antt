@@ -5,10 +5,10 @@ use Rattle.std.proofs.lemmas.List.{get_or-set_same, get_or-set_other, length-set
 use Rattle.std.proofs.lemmas.Option.{slice_get-get_or, slice_get-map, slice_get_within, get_or_from_slice_get}
 use Rattle.widl_graph.specs.Reaching.{Step, successors_of}
 use Rattle.widl_graph.proofs.Orders.{earlier_place}
-use Rattle.widl_idl.specs.declared.spot.Spot.{Spot}
+use Rattle.widl_idl.specs.declared.violation.Violation.{Violation}
 use Rattle.widl_idl.specs.DefinitionTerms.{DictTerm}
-use Rattle.widl_idl.specs.Least.{LeastWhere}
-use Rattle.widl_idl.proofs.Order.{least_same}
+use Rattle.widl_idl.specs.First.{FirstWhere}
+use Rattle.widl_idl.proofs.Order.{first_same}
 use Rattle.widl_inheritance.specs.ChainLengths.{AreMeasured, BeginsAt, TellsLengths, begun, greatest_length, node_length, nothing}
 use Rattle.widl_inheritance.specs.declared.holding.Holdings.{Holdings}
 use Rattle.widl_inheritance.specs.HoldingGraph.{AreHoldings, IsAtName}
@@ -154,8 +154,8 @@ module _ (dicts : List DictTerm) (holdings : Holdings) (so : AreHoldings dicts h
             some_is e = (cc)
 
   -- the same, as a loop over the order has it
-  pub lengths_next : (i x : ℕ) (lengths new nodes : List ℕ) (length_is behind : ℕ) → slice_get order i ≡ Some x → AreMeasured dicts order i lengths → length lengths ≡ length graph → nodes ≡ successors_of graph x → behind ≡ greatest_length lengths nodes → length_is ≡ node_length (length dicts) x behind → new ≡ set lengths x length_is → (length new ≡ length graph) × AreMeasured dicts order (i + 1) new
-  lengths_next i x lengths new nodes length_is behind here known size follow greatest is new_is = (
+  pub lengths_next : (i x : ℕ) (lengths new nodes : List ℕ) (length_is after : ℕ) → slice_get order i ≡ Some x → AreMeasured dicts order i lengths → length lengths ≡ length graph → nodes ≡ successors_of graph x → after ≡ greatest_length lengths nodes → length_is ≡ node_length (length dicts) x after → new ≡ set lengths x length_is → (length new ≡ length graph) × AreMeasured dicts order (i + 1) new
+  lengths_next i x lengths new nodes length_is after here known size follow greatest is new_is = (
     ap length new_is ∙ length-set lengths x length_is ∙ size,
     measured_next i x lengths here known length_is new (is ∙ ap (node_length (length dicts) x) (greatest ∙ ap (greatest_length lengths) follow)) new_is (subst (λ n. x < n) (sym size) (so.order.nodes i x here)),
   )
@@ -172,8 +172,8 @@ module _ (dicts : List DictTerm) (holdings : Holdings) (so : AreHoldings dicts h
           (λ l. begins_with dicts 257 n (omega arith) below (measured.1 (omega (arith, l))), λ c. (let l = measured.0 (begun below c) in omega (arith, l)))
 
 -- the dictionaries whose flags are set are those with which a long chain begins, where none holds itself
-pub long_chains : (dicts : List DictTerm) (lengths : List ℕ) (flags : List Bool) (found : Option Spot) → TellsLengths dicts lengths → ((s : Spot) → HoldsItself dicts s → ⊥) → flags ≡ map (λ n. nat_lt 256 n) lengths → LeastWhere (IsAtName (λ n. slice_get flags n ≡ Some true) dicts) found → LeastWhere (BeginsLongChain dicts) found
-long_chains dicts lengths flags found tells finite is l = least_same (IsAtName (λ n. slice_get flags n ≡ Some true) dicts) (BeginsLongChain dicts) found
+pub long_chains : (dicts : List DictTerm) (lengths : List ℕ) (flags : List Bool) (found : Option Violation) → TellsLengths dicts lengths → ((s : Violation) → HoldsItself dicts s → ⊥) → flags ≡ map (λ n. nat_lt 256 n) lengths → FirstWhere (IsAtName (λ n. slice_get flags n ≡ Some true) dicts) found → FirstWhere (BeginsLongChain dicts) found
+long_chains dicts lengths flags found tells finite is l = first_same (IsAtName (λ n. slice_get flags n ≡ Some true) dicts) (BeginsLongChain dicts) found
     (λ s h. let below = slice_get_within dicts h.number h.dictionary h.is in record { number = h.number; dictionary = h.dictionary; is = h.is; finite = finite; chain = (tells.tells h.number below).0 (long h.number (inside h.number below) h.holds); at_name = h.at_name })
     (λ s h. let below = slice_get_within dicts h.number h.dictionary h.is in record { number = h.number; dictionary = h.dictionary; is = h.is; holds = flagged h.number (inside h.number below) ((tells.tells h.number below).1 h.chain); at_name = h.at_name })
     l
@@ -194,11 +194,11 @@ long_chains dicts lengths flags found tells finite is l = least_same (IsAtName (
     flagged n below l = let t : nat_lt 256 (get_or lengths n 0) ≡ true = grind arith in flag_at n below ∙ ap Some t
 
 -- where a dictionary holds itself no chain is told to be long
-pub none_finite : (dicts : List DictTerm) (found : Option Spot) → LeastWhere (HoldsItself dicts) found → is_some found ≡ true → LeastWhere (BeginsLongChain dicts) None
+pub none_finite : (dicts : List DictTerm) (found : Option Violation) → FirstWhere (HoldsItself dicts) found → is_some found ≡ true → FirstWhere (BeginsLongChain dicts) None
 none_finite dicts None l some = absurd (cc)
 none_finite dicts (Some s) l some = λ t h. h.finite s l.holds
 
 -- where none was found, none does
-pub none_holds : (dicts : List DictTerm) (found : Option Spot) → LeastWhere (HoldsItself dicts) found → is_some found ≡ false → (s : Spot) → HoldsItself dicts s → ⊥
+pub none_holds : (dicts : List DictTerm) (found : Option Violation) → FirstWhere (HoldsItself dicts) found → is_some found ≡ false → (s : Violation) → HoldsItself dicts s → ⊥
 none_holds dicts None l some = l
 none_holds dicts (Some s) l some = absurd (cc)

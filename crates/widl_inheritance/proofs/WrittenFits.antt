@@ -7,7 +7,7 @@ use Rattle.widl_idl.specs.declared.text_kind.TextKind.TheVariants as texts
 use Rattle.widl_idl.specs.declared.tree.types.Container.TheVariants as container
 use Rattle.widl_idl.specs.DefinitionTerms.{DefsTerm}
 use Rattle.widl_idl.specs.Flattened.{flattened_member, includes_nullable_type}
-use Rattle.widl_idl.specs.Least.{LeastWhere}
+use Rattle.widl_idl.specs.First.{FirstWhere}
 use Rattle.widl_idl.specs.PlainTrees.{PlainDefinition}
 use Rattle.widl_idl.specs.PlainTypes.{PlainAnnotated, PlainAttribute, PlainForm, PlainType, PlainBoolean, PlainText, PlainContainer, plain_annotated, plain_type, PlainValue, NullValue, BooleanValue, TextValue, EmptySequenceValue}
 use Rattle.widl_idl.specs.Resolution.{Note}
@@ -42,6 +42,6 @@ annotated_fits : (tables : Tables) (definitions : List PlainDefinition) (attribu
 annotated_fits tables definitions attributes t place own inner value is e = ap (λ x. fits_if tables (literal_if value) (meaning_with definitions attributes x)) is ∙ type_fits tables definitions _ inner value e
 
 -- no default value that fits as it is written is another one
-pub fitting_default : (list : DefsTerm) (tables : Tables) → Knows list tables → (definitions : List PlainDefinition) (d : Defaulted) (place : Place) (own : List PlainAttribute) (inner : PlainType) → d.ty ≡ plain_annotated place own inner → fits_as_written inner d.value.value ≡ true → LeastWhere (IsOtherDefault list definitions d) None
+pub fitting_default : (list : DefsTerm) (tables : Tables) → Knows list tables → (definitions : List PlainDefinition) (d : Defaulted) (place : Place) (own : List PlainAttribute) (inner : PlainType) → d.ty ≡ plain_annotated place own inner → fits_as_written inner d.value.value ≡ true → FirstWhere (IsOtherDefault list definitions d) None
 fitting_default list tables known definitions d place own inner is e =
     other_here list tables known definitions d (meaning_with definitions d.attributes d.ty) true None refl (sym (annotated_fits tables definitions d.attributes d.ty place own inner d.value.value is e)) refl

@@ -1,4 +1,4 @@
--- The lengths of chains of dictionaries, up to 257.
+-- For proofs alone. The lengths of chains of dictionaries, up to one past the limit.
 use Rattle.std.specs.Prelude.{◌≡◌, ◌↔◌, ℕ, ◌+◌, ◌<◌, ◌≤◌, List, [], ◌∷◌, length, max, min, nat_lt, slice_get, slice_index, Some, if◌then◌else◌}
 use Rattle.widl_idl.specs.DefinitionTerms.{DictTerm}
 use Rattle.widl_overload.specs.Dictionaries.{BeginsChain, HoldsIn}
@@ -8,9 +8,9 @@ abbrev pub greatest_length : List ℕ → List ℕ → ℕ
 greatest_length lengths [] = 0
 greatest_length lengths (node ∷ nodes) = max (slice_index lengths node) (greatest_length lengths nodes)
 
--- the length of a node behind which the greatest length is this one: one of `count` dictionaries stands in the chain itself
+-- the length of a node after which the greatest length is this one: one of `count` dictionaries stands in the chain itself
 abbrev pub node_length : ℕ → ℕ → ℕ → ℕ
-node_length count node behind = min 257 (if nat_lt node count then behind + 1 else behind)
+node_length count node after = min 257 (if nat_lt node count then after + 1 else after)
 
 -- the table tells with which dictionaries a chain of 257 begins
 pub record TellsLengths (dicts : List DictTerm) (lengths : List ℕ) : Type 0 where

@@ -1,4 +1,4 @@
--- The values of enumerations, as the program keeps them.
+-- For proofs alone. The values of enumerations, as the program keeps them.
 use Rattle.std.specs.Prelude.{◌≡◌, ℕ, Bool, false, List, [], ◌∷◌, Option, None, Some, bytes_eq}
 use Rattle.std.specs.Borrow.{Bor}
 use Rattle.std.specs.List.{list_any}

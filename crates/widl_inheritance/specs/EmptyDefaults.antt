@@ -1,8 +1,8 @@
--- Which arguments lack a default value, as the program tests it.
+-- For proofs alone. Which arguments lack a default value, as the program tests it.
 use Rattle.std.specs.Prelude.{◌≡◌, Bool, true, false, List, None, Some}
 use Rattle.std.specs.List.{list_any}
 use Rattle.widl_idl.specs.declared.literal.Literal.TheVariants as the
-use Rattle.widl_idl.specs.declared.spot.Spot.{Spot}
+use Rattle.widl_idl.specs.declared.violation.Violation.{Violation}
 use Rattle.widl_idl.specs.DefinitionTerms.{DefsTerm}
 use Rattle.widl_idl.specs.Flattened.{flattened_member}
 use Rattle.widl_idl.specs.MergingRules.{IsAt}
@@ -38,5 +38,5 @@ takes_no_member tables (NullableType t) = false
 takes_no_member tables t = list_any (takes tables the.EmptyDict) (flattened_member t)
 
 -- an argument takes a dictionary without required members and lacks a default value: at its name
-abbrev pub LacksHere : DefsTerm → List PlainDefinition → Bool → PlainArgument → Spot → Type 0
+abbrev pub LacksHere : DefsTerm → List PlainDefinition → Bool → PlainArgument → Violation → Type 0
 LacksHere list definitions absent a s = (TakesNoMember list definitions (meaning_with definitions a.attributes a.ty) × (needs_default absent a.kind ≡ true)) × IsAt a.name.at s

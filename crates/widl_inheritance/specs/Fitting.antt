@@ -1,4 +1,4 @@
--- Whether a literal fits a type, as the program tests it.
+-- For proofs alone. Whether a literal fits a type, as the program tests it.
 use Rattle.std.specs.Prelude.{ℕ, Bool, true, false, not, ◌&&◌, ◌||◌, Option, None, Some, slice_get}
 use Rattle.std.specs.List.{list_any}
 use Rattle.widl_idl.specs.declared.int_kind.IntKind.{IntKind}
@@ -25,7 +25,7 @@ pub record Knows (list : DefsTerm) (tables : Tables) : Type 0 where
   pub dictionaries : KnowsRequired list tables
   pub values : KeepValues tables.values.items list.choices
 
--- the value of a literal; none for the forms that are left out
+-- the value of a literal; none for the forms that the profile leaves unsupported
 abbrev pub literal_if : PlainValue → Option Literal
 literal_if (DecimalValue text) = None
 literal_if InfinityValue = None

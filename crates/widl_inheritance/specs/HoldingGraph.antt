@@ -3,7 +3,7 @@ use Rattle.std.specs.Prelude.{◌≡◌, ℕ, ◌+◌, ◌<◌, Bool, true, List
 use Rattle.std.specs.Option.{option_to_list}
 use Rattle.widl_graph.specs.Order.{IsOrder, StandsBefore}
 use Rattle.widl_graph.specs.Reaching.{ReachesItself, Step, TellsCyclic, successors_of}
-use Rattle.widl_idl.specs.declared.spot.Spot.{Spot}
+use Rattle.widl_idl.specs.declared.violation.Violation.{Violation}
 use Rattle.widl_idl.specs.DefinitionTerms.{DictTerm}
 use Rattle.widl_idl.specs.MergingRules.{IsAt}
 use Rattle.widl_inheritance.specs.declared.holding.Holdings.{Holdings}
@@ -38,7 +38,7 @@ pub record AreHoldings (dicts : List DictTerm) (holdings : Holdings) : Type 0 wh
   pub before : (x y : ℕ) → (ReachesItself holdings.graph x → ⊥) → Step holdings.graph x y → StandsBefore holdings.walk.order.items y x
 
 -- a fact holds of the number of a dictionary: at its name
-pub record IsAtName (P : ℕ → Type 0) (dicts : List DictTerm) (s : Spot) : Type 0 where
+pub record IsAtName (P : ℕ → Type 0) (dicts : List DictTerm) (s : Violation) : Type 0 where
   pub number : ℕ
   pub dictionary : DictTerm
   pub is : slice_get dicts number ≡ Some dictionary
@@ -46,5 +46,5 @@ pub record IsAtName (P : ℕ → Type 0) (dicts : List DictTerm) (s : Spot) : Ty
   pub at_name : IsAt dictionary.at s
 
 -- the flag of the dictionary that stands after these is set: at its name
-abbrev pub FlaggedAfter : List Bool → List DictTerm → DictTerm → Spot → Type 0
+abbrev pub FlaggedAfter : List Bool → List DictTerm → DictTerm → Violation → Type 0
 FlaggedAfter flags before d s = (slice_get flags (length before) ≡ Some true) × IsAt d.at s

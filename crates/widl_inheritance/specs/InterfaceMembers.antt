@@ -1,4 +1,4 @@
--- The members of an interface with those of its partials and its mixins, by the number of its definition.
+-- For proofs alone. The members of an interface with those of its partials and its mixins, by the number of its definition.
 use Rattle.std.specs.Prelude.{ℕ, Bool, false, ◌&&◌, List, [], map, Option, None, Some, option_map, if◌then◌else◌, slice_get}
 use Rattle.std.specs.Borrow.{Bor}
 use Rattle.widl_idl.specs.declared.kind.Kind.TheVariants as kinds

@@ -1,4 +1,4 @@
--- Flags of the nodes of a graph, and whether a node reaches one whose flag is set.
+-- For proofs alone. Flags of the nodes of a graph, and whether a node reaches one whose flag is set.
 use Rattle.std.specs.Prelude.{◌≡◌, ◌↔◌, ℕ, Bool, true, false, ◌||◌, List, length, slice_index_or}
 use Rattle.widl_graph.specs.declared.walk.Walk.{Walk}
 use Rattle.widl_graph.specs.Order.{IsOrder, StandsBefore}

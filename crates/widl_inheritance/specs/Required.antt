@@ -1,4 +1,4 @@
--- Which dictionaries have a required member, as the program keeps it.
+-- For proofs alone. Which dictionaries have a required member, as the program keeps it.
 use Rattle.std.specs.Prelude.{◌≡◌, ◌↔◌, ℕ, ◌<◌, Bool, true, false, ◌||◌, List, length, slice_get, slice_index_or, Option, None, Some}
 use Rattle.std.specs.List.{list_any}
 use Rattle.widl_graph.specs.Order.{IsOrder, StandsBefore}
@@ -22,7 +22,7 @@ abbrev pub required_by : List Bool → Option DictTerm → Bool
 required_by flags None = false
 required_by flags (Some d) = has_own d || parent_flagged flags d.parent
 
--- the order has each dictionary once, behind that from which it inherits
+-- the order has each dictionary once, after that from which it inherits
 pub record AreParentsFirst (dicts : List DictTerm) (order : List ℕ) : Type 0 where
   pub order_is : IsOrder (length dicts) order
   pub before : (x y : ℕ) → Step (dictionary_parents dicts) x y → StandsBefore order y x

@@ -1,4 +1,4 @@
--- The spans of the nodes of a forest: where each stands in an order in which those that come from a node follow it, and where the last of these stands.
+-- For proofs alone. The spans of the nodes of a forest: where each stands in an order in which those that come from a node follow it, and where the last of these stands.
 use Rattle.std.specs.Prelude.{◌≡◌, ◌⊎◌, ℕ, ◌<◌, ◌≤◌, List, length, map, slice_get, Option, Some, option_and_then}
 use Rattle.std.specs.Option.{option_to_list}
 use Rattle.widl_graph.specs.Reaching.{Reaches}
@@ -25,7 +25,7 @@ pub record AreInOrder (spans : List (Option Span)) (order : List ℕ) : Type 0 w
   pub listed : (n : ℕ) (s : Span) → span_of spans n ≡ Some s → slice_get order s.start ≡ Some n
   pub each : (place n : ℕ) → slice_get order place ≡ Some n → (s : Span) × (span_of spans n ≡ Some s) × (s.start ≡ place)
 
--- the spans of nodes with these parents: of two nodes that have spans one comes from the other where its span begins in that of the other, behind the start
+-- the spans of nodes with these parents: of two nodes that have spans one comes from the other where its span begins in that of the other, after the start
 pub record AreSpans (parents : List (Option ℕ)) (spans : List (Option Span)) (order : List ℕ) : Type 0 where
   pub size : length spans ≡ length parents
   pub filled : (n : ℕ) (s : Span) → span_of spans n ≡ Some s → s.start < s.past
@@ -33,7 +33,7 @@ pub record AreSpans (parents : List (Option ℕ)) (spans : List (Option Span)) (
   pub within : (n m : ℕ) (s t : Span) → span_of spans n ≡ Some s → span_of spans m ≡ Some t → Reaches (parent_graph parents) n m → (t.start < s.start) × (s.start < t.past)
   pub comes : (n m : ℕ) (s t : Span) → span_of spans n ≡ Some s → span_of spans m ≡ Some t → t.start < s.start → s.start < t.past → Reaches (parent_graph parents) n m
 
--- a parent has a span, and those of its children lie in it behind its first place; what begins in a span behind its first place has a parent there
+-- a parent has a span, and those of its children lie in it after its first place; what begins in a span after its first place has a parent there
 pub record AreNested (parents : List (Option ℕ)) (spans : List (Option Span)) : Type 0 where
   pub bounded : (a : ℕ) (s : Span) → span_of spans a ≡ Some s → (s.start < s.past) × (s.past ≤ length parents)
   pub single : (a b : ℕ) (s t : Span) → span_of spans a ≡ Some s → span_of spans b ≡ Some t → s.start ≡ t.start → a ≡ b

@@ -1,4 +1,4 @@
--- Default values behind references, as the program lists them.
+-- For proofs alone. Default values after references, as the program lists them.
 use Rattle.std.specs.Prelude.{List, map}
 use Rattle.widl_idl.specs.PlainTrees.{PlainArgument, PlainDefinition, PlainDictionaryMember}
 use Rattle.widl_idl.specs.PlainTypes.{annotated_of, attribute_of, literal_of}

@@ -1,4 +1,4 @@
--- Whether a default value fits its type by the way in which both are written.
+-- For proofs alone. Whether a default value fits its type by the way in which both are written.
 use Rattle.std.specs.Prelude.{Bool, true, false, ◌&&◌, ◌||◌, Option, Some}
 use Rattle.widl_text.specs.declared.place.Place.{Place}
 use Rattle.widl_idl.specs.declared.text_kind.TextKind.{TextKind}
@@ -7,7 +7,7 @@ use Rattle.widl_idl.specs.declared.tree.types.Container.{Container}
 use Rattle.widl_idl.specs.declared.tree.types.Container.TheVariants as container
 use Rattle.widl_idl.specs.PlainTypes.{PlainForm, PlainType, PlainBoolean, PlainText, PlainContainer, plain_type, PlainValue, NullValue, BooleanValue, TextValue, EmptySequenceValue}
 
--- the value is null behind a `?`
+-- the value is null after a `?`
 abbrev pub is_questioned_null : Option Place → PlainValue → Bool
 is_questioned_null (Some question) NullValue = true
 is_questioned_null question value = false

@@ -1,4 +1,4 @@
--- Lists of arguments behind references, as the program lists them.
+-- For proofs alone. Lists of arguments after references, as the program lists them.
 use Rattle.std.specs.Prelude.{List, map}
 use Rattle.std.specs.Borrow.{Bor}
 use Rattle.widl_idl.specs.declared.tree.arguments.Argument.{Argument}

@@ -28,7 +28,7 @@ pub fn list_arguments<'a>(
     Ok(lists)
 }
 
-// Adds the lists of a definition.
+/// Adds the lists of a definition.
 fn add_definition<'a>(
     lists: &mut Vec<&'a [Argument]>,
     kind: &'a DefinitionKind,
@@ -50,7 +50,7 @@ fn add_definition<'a>(
     }
 }
 
-// Adds the lists of members.
+/// Adds the lists of members.
 fn add_members<'a>(lists: &mut Vec<&'a [Argument]>, members: &'a [Member]) -> Result<(), AllocError>
     ensures { OnOk result (listed_arguments lists.new.items ≡ listed_arguments lists.old.items ++ lists_in_members (members_of members.now)) }
 {
@@ -60,7 +60,7 @@ fn add_members<'a>(lists: &mut Vec<&'a [Argument]>, members: &'a [Member]) -> Re
     Ok(())
 }
 
-// Adds the list of a member, if it has one.
+/// Adds the list of a member, if it has one.
 fn add_member<'a>(lists: &mut Vec<&'a [Argument]>, kind: &'a MemberKind) -> Result<(), AllocError>
     ensures { OnOk result (listed_arguments lists.new.items ≡ listed_arguments lists.old.items ++ lists_in_member (member_kind_of kind.now)) }
 {
@@ -77,7 +77,7 @@ fn add_member<'a>(lists: &mut Vec<&'a [Argument]>, kind: &'a MemberKind) -> Resu
     }
 }
 
-// Adds a list, if there is one.
+/// Adds a list, if there is one.
 fn add_optional_list<'a>(
     lists: &mut Vec<&'a [Argument]>,
     arguments: &'a Option<Arguments>,
@@ -90,7 +90,7 @@ fn add_optional_list<'a>(
     }
 }
 
-// Adds a list.
+/// Adds a list.
 pub fn add_list<'a>(
     lists: &mut Vec<&'a [Argument]>,
     arguments: &'a Arguments,

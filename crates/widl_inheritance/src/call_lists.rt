@@ -29,7 +29,7 @@ pub fn list_calls<'a>(
     Ok(lists)
 }
 
-// Adds the lists of a definition.
+/// Adds the lists of a definition.
 fn add_definition<'a>(
     lists: &mut Vec<&'a [Argument]>,
     kind: &'a DefinitionKind,
@@ -49,7 +49,7 @@ fn add_definition<'a>(
     }
 }
 
-// Adds the lists of members.
+/// Adds the lists of members.
 fn add_members<'a>(lists: &mut Vec<&'a [Argument]>, members: &'a [Member]) -> Result<(), AllocError>
     ensures { OnOk result (listed_arguments lists.new.items ≡ listed_arguments lists.old.items ++ call_lists_in_members (members_of members.now)) }
 {
@@ -59,7 +59,7 @@ fn add_members<'a>(lists: &mut Vec<&'a [Argument]>, members: &'a [Member]) -> Re
     Ok(())
 }
 
-// Adds the list of a member, if it has one.
+/// Adds the list of a member, if it has one.
 fn add_member<'a>(lists: &mut Vec<&'a [Argument]>, kind: &'a MemberKind) -> Result<(), AllocError>
     ensures { OnOk result (listed_arguments lists.new.items ≡ listed_arguments lists.old.items ++ call_lists_in_member (member_kind_of kind.now)) }
 {

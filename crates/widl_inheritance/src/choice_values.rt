@@ -9,9 +9,9 @@ use std::alloc::{AllocError, Global};
 use widl_idl::Choice;
 use widl_text::Units;
 
-// For each enumeration the set of its values.
-//
-// `AllocError` where there is no memory.
+/// For each enumeration the set of its values.
+///
+/// `AllocError` where there is no memory.
 pub fn list_values<'d>(
     alloc: Global,
     choices: &'d [Choice],
@@ -26,7 +26,7 @@ pub fn list_values<'d>(
     Ok(sets)
 }
 
-// The set of these values.
+/// The set of these values.
 fn values_in<'d>(alloc: Global, values: &'d [Units]) -> Result<IndexSet<&'d [u16]>, AllocError>
     ensures { IfOk result (λ set. (text : List ℕ) → has_text set text ≡ list_any (λ v. bytes_eq v text) values.now) }
 {
@@ -44,7 +44,7 @@ fn add_value<'d>(set: &mut IndexSet<&'d [u16]>, value: &'d [u16]) -> Result<(), 
     Ok(())
 }
 
-// Whether the enumeration of this number has the value.
+/// Whether the enumeration of this number has the value.
 pub fn has_value(sets: &[IndexSet<&[u16]>], number: usize, text: &[u16]) -> bool
     ensures { result ≡ is_kept (slice_get sets.now number) text.now }
 {

@@ -44,7 +44,7 @@ pub fn list_defaults<'a>(
     Ok(defaults)
 }
 
-// Adds those of lists of arguments.
+/// Adds those of lists of arguments.
 fn add_lists<'a>(
     defaults: &mut Vec<Defaulted<'a>>,
     lists: &[&'a [Argument]],
@@ -57,7 +57,7 @@ fn add_lists<'a>(
     Ok(())
 }
 
-// Adds those of arguments.
+/// Adds those of arguments.
 fn add_arguments<'a>(
     defaults: &mut Vec<Defaulted<'a>>,
     arguments: &'a [Argument],
@@ -70,7 +70,7 @@ fn add_arguments<'a>(
     Ok(())
 }
 
-// Adds that of an argument, if it has one.
+/// Adds that of an argument, if it has one.
 fn add_argument<'a>(
     defaults: &mut Vec<Defaulted<'a>>,
     argument: &'a Argument,
@@ -85,7 +85,7 @@ fn add_argument<'a>(
     }
 }
 
-// Adds those of the members of dictionaries.
+/// Adds those of the members of dictionaries.
 fn add_definitions<'a>(
     defaults: &mut Vec<Defaulted<'a>>,
     definitions: &[&'a Definition],
@@ -98,7 +98,7 @@ fn add_definitions<'a>(
     Ok(())
 }
 
-// Adds those of a dictionary's members.
+/// Adds those of a dictionary's members.
 fn add_definition<'a>(
     defaults: &mut Vec<Defaulted<'a>>,
     kind: &'a DefinitionKind,
@@ -120,7 +120,7 @@ fn add_definition<'a>(
     }
 }
 
-// Adds those of members.
+/// Adds those of members.
 fn add_members<'a>(
     defaults: &mut Vec<Defaulted<'a>>,
     members: &'a [DictionaryMember],
@@ -133,7 +133,7 @@ fn add_members<'a>(
     Ok(())
 }
 
-// Adds a default value, if there is one.
+/// Adds a default value, if there is one.
 fn add_default<'a>(
     defaults: &mut Vec<Defaulted<'a>>,
     attributes: &'a ExtendedAttributes,

@@ -2,7 +2,7 @@
 
 ghost use Rattle.std.specs.Prelude.{◌≡◌, map, IfOk};
 ghost use Rattle.widl_idl.specs.DefinitionTerms.{DefsTerm, defs_term};
-ghost use Rattle.widl_idl.specs.Least.{LeastWhere, Somewhere};
+ghost use Rattle.widl_idl.specs.First.{FirstWhere, Somewhere};
 ghost use Rattle.widl_idl.specs.PlainTrees.{plain_definitions};
 ghost use Rattle.widl_inheritance.specs.Fitting.{Knows};
 ghost use Rattle.widl_inheritance.specs.WrittenDefaults.{defaulted_of, listed_defaults};
@@ -15,10 +15,10 @@ use crate::tables::Tables;
 use crate::written_fitting::fits_as_written;
 use std::alloc::{AllocError, Global};
 use widl_idl::tree::Definition;
-use widl_idl::{Defs, Spot, lesser_spot};
+use widl_idl::{Defs, Violation, earlier_violation};
 use widl_names::Resolver;
 
-/// The least place of a default value that doesn't fit its type.
+/// The first place of a default value that doesn't fit its type.
 ///
 /// # Errors
 ///
@@ -31,43 +31,43 @@ pub fn first_other_default<'a>(
     resolver: &Resolver<'_, '_, 'a>,
     steps: &mut usize,
     definitions: &[&'a Definition],
-) -> Result<Option<Spot>, AllocError>
+) -> Result<Option<Violation>, AllocError>
     requires { listed_definitions definitions.now ≡ plain_definitions resolver.now }
-    ensures { IfOk result (λ found. LeastWhere (HasOtherDefault (defs_term defs.now) (plain_definitions resolver.now)) found) }
+    ensures { IfOk result (λ found. FirstWhere (HasOtherDefault (defs_term defs.now) (plain_definitions resolver.now)) found) }
 {
     let defaults = list_defaults(alloc, definitions)?;
     let tables = Tables::of(alloc, defs)?;
     first_other(alloc, &tables, resolver, steps, defaults.as_slice())
 }
 
-// The least place of one of these default values that doesn't fit its type.
+/// The first place of one of these default values that doesn't fit its type.
 fn first_other<'a>(
     alloc: Global,
     tables: &Tables<'_>,
     resolver: &Resolver<'_, '_, 'a>,
     steps: &mut usize,
     defaults: &[Defaulted<'a>],
-) -> Result<Option<Spot>, AllocError>
-    ensures { IfOk result (λ found. (list : DefsTerm) → Knows list tables.now → LeastWhere (Somewhere (IsOtherDefault list (plain_definitions resolver.now)) (listed_defaults defaults.now)) found) }
+) -> Result<Option<Violation>, AllocError>
+    ensures { IfOk result (λ found. (list : DefsTerm) → Knows list tables.now → FirstWhere (Somewhere (IsOtherDefault list (plain_definitions resolver.now)) (listed_defaults defaults.now)) found) }
 {
     let mut best = None;
     for defaulted in defaults {
         let found = other_default(alloc, tables, resolver, steps, defaulted)?;
-        best = lesser_spot(best, found);
+        best = earlier_violation(best, found);
     }
     Ok(best)
 }
 
-// The place of a default value, if it doesn't fit its type. Most fit as they are written, and resolving a
-// type is slow.
+/// The place of a default value, if it doesn't fit its type. Most fit as they are written, and resolving a
+/// type is slow.
 fn other_default<'a>(
     alloc: Global,
     tables: &Tables<'_>,
     resolver: &Resolver<'_, '_, 'a>,
     steps: &mut usize,
     defaulted: &Defaulted<'a>,
-) -> Result<Option<Spot>, AllocError>
-    ensures { IfOk result (λ found. (list : DefsTerm) → Knows list tables.now → LeastWhere (IsOtherDefault list (plain_definitions resolver.now) (defaulted_of defaulted.now)) found) }
+) -> Result<Option<Violation>, AllocError>
+    ensures { IfOk result (λ found. (list : DefsTerm) → Knows list tables.now → FirstWhere (IsOtherDefault list (plain_definitions resolver.now) (defaulted_of defaulted.now)) found) }
 {
     if fits_as_written(&defaulted.ty.ty, &defaulted.value.value) {
         return Ok(None);
@@ -77,6 +77,6 @@ fn other_default<'a>(
     if fits(alloc, tables, steps, &ty, &defaulted.value.value)? {
         Ok(None)
     } else {
-        Ok(Some(Spot::at(defaulted.value.at)))
+        Ok(Some(Violation::at(defaulted.value.at)))
     }
 }

@@ -3,7 +3,7 @@
 
 ghost use Rattle.std.specs.Prelude.{◌≡◌, Bool, IfOk};
 ghost use Rattle.widl_idl.specs.DefinitionTerms.{DefsTerm, defs_term};
-ghost use Rattle.widl_idl.specs.Least.{LeastWhere, Somewhere};
+ghost use Rattle.widl_idl.specs.First.{FirstWhere, Somewhere};
 ghost use Rattle.widl_idl.specs.PlainTrees.{argument_kind_of, argument_of, arguments_of, plain_definitions};
 ghost use Rattle.widl_idl.specs.PlainTypes.{form_term, type_of};
 ghost use Rattle.widl_idl.specs.Terms.{type_term};
@@ -19,10 +19,10 @@ use crate::fitting::any_takes;
 use crate::tables::Tables;
 use std::alloc::{AllocError, Global};
 use widl_idl::tree::{Argument, ArgumentKind, Definition, TypeForm, WrittenType};
-use widl_idl::{Defs, IdlType, Literal, Spot, lesser_spot};
+use widl_idl::{Defs, IdlType, Literal, Violation, earlier_violation};
 use widl_names::Resolver;
 
-/// The least place of the name of an argument that takes a dictionary without required members and has
+/// The first place of the name of an argument that takes a dictionary without required members and has
 /// no default value where it needs one: it is optional, or it is required though a call may leave out all
 /// arguments that follow it.
 ///
@@ -37,42 +37,42 @@ pub fn first_without_empty_default<'a>(
     resolver: &Resolver<'_, '_, 'a>,
     steps: &mut usize,
     definitions: &[&'a Definition],
-) -> Result<Option<Spot>, AllocError>
+) -> Result<Option<Violation>, AllocError>
     requires { listed_definitions definitions.now ≡ plain_definitions resolver.now }
-    ensures { IfOk result (λ found. LeastWhere (HasNoEmptyDefault (defs_term defs.now) (plain_definitions resolver.now)) found) }
+    ensures { IfOk result (λ found. FirstWhere (HasNoEmptyDefault (defs_term defs.now) (plain_definitions resolver.now)) found) }
 {
     let lists = list_calls(alloc, definitions)?;
     let tables = Tables::of_dictionaries(alloc, defs)?;
     first_lacking(alloc, &tables, resolver, steps, lists.as_slice())
 }
 
-// The least place of such a name in these lists of arguments.
+/// The first place of such a name in these lists of arguments.
 fn first_lacking<'a>(
     alloc: Global,
     tables: &Tables<'_>,
     resolver: &Resolver<'_, '_, 'a>,
     steps: &mut usize,
     lists: &[&'a [Argument]],
-) -> Result<Option<Spot>, AllocError>
-    ensures { IfOk result (λ found. (list : DefsTerm) → KnowsRequired list tables.now → LeastWhere (Somewhere (LacksEmptyDefault list (plain_definitions resolver.now)) (listed_arguments lists.now)) found) }
+) -> Result<Option<Violation>, AllocError>
+    ensures { IfOk result (λ found. (list : DefsTerm) → KnowsRequired list tables.now → FirstWhere (Somewhere (LacksEmptyDefault list (plain_definitions resolver.now)) (listed_arguments lists.now)) found) }
 {
     let mut best = None;
     for list in lists {
         let found = lacking_in(alloc, tables, resolver, steps, list)?;
-        best = lesser_spot(best, found);
+        best = earlier_violation(best, found);
     }
     Ok(best)
 }
 
-// The same in one list.
+/// The same in one list.
 fn lacking_in<'a>(
     alloc: Global,
     tables: &Tables<'_>,
     resolver: &Resolver<'_, '_, 'a>,
     steps: &mut usize,
     arguments: &'a [Argument],
-) -> Result<Option<Spot>, AllocError>
-    ensures { IfOk result (λ found. (list : DefsTerm) → KnowsRequired list tables.now → LeastWhere (LacksEmptyDefault list (plain_definitions resolver.now) (arguments_of arguments.now)) found) }
+) -> Result<Option<Violation>, AllocError>
+    ensures { IfOk result (λ found. (list : DefsTerm) → KnowsRequired list tables.now → FirstWhere (LacksEmptyDefault list (plain_definitions resolver.now) (arguments_of arguments.now)) found) }
 {
     let mut best = None;
     // Whether a call may leave out all arguments that follow.
@@ -80,14 +80,14 @@ fn lacking_in<'a>(
     for index in (0..arguments.len()).rev() {
         let argument = &arguments[index];
         let found = lacking(alloc, tables, resolver, steps, absent, argument)?;
-        best = lesser_spot(best, found);
+        best = earlier_violation(best, found);
         absent &= !is_required(&argument.kind);
     }
     Ok(best)
 }
 
-// The place of an argument's name, if it takes such a dictionary and needs a default value. Most
-// arguments are of types that take none as they are written, and resolving a type is slow.
+/// The place of an argument's name, if it takes such a dictionary and needs a default value. Most
+/// arguments are of types that take none as they are written, and resolving a type is slow.
 fn lacking<'a>(
     alloc: Global,
     tables: &Tables<'_>,
@@ -95,8 +95,8 @@ fn lacking<'a>(
     steps: &mut usize,
     absent: bool,
     argument: &'a Argument,
-) -> Result<Option<Spot>, AllocError>
-    ensures { IfOk result (λ found. (list : DefsTerm) → KnowsRequired list tables.now → LeastWhere (LacksHere list (plain_definitions resolver.now) absent (argument_of argument.now)) found) }
+) -> Result<Option<Violation>, AllocError>
+    ensures { IfOk result (λ found. (list : DefsTerm) → KnowsRequired list tables.now → FirstWhere (LacksHere list (plain_definitions resolver.now) absent (argument_of argument.now)) found) }
 {
     if !needs_default(absent, &argument.kind) {
         return Ok(None);
@@ -106,14 +106,14 @@ fn lacking<'a>(
     }
     let ty = resolver.resolve_with(alloc, steps, argument.attributes.as_slice(), &argument.ty)?;
     if takes_no_member(tables, &ty) {
-        Ok(Some(Spot::at(argument.name.at)))
+        Ok(Some(Violation::at(argument.name.at)))
     } else {
         Ok(None)
     }
 }
 
-// Whether an argument has no default value where one of a dictionary type needs it. `absent` tells whether
-// a call may leave out all that follow.
+/// Whether an argument has no default value where one of a dictionary type needs it. `absent` tells whether
+/// a call may leave out all that follow.
 fn needs_default(absent: bool, kind: &ArgumentKind) -> bool
     ensures { result ≡ needs_default absent (argument_kind_of kind.now) }
 {
@@ -133,8 +133,8 @@ fn is_required(kind: &ArgumentKind) -> bool
     }
 }
 
-// Whether a type may be a dictionary, or a union with one, by the way in which it is written: as a name
-// or as a union, without a `?`.
+/// Whether a type may be a dictionary, or a union with one, by the way in which it is written: as a name
+/// or as a union, without a `?`.
 fn may_take_dictionary(ty: &WrittenType) -> bool
     ensures { result ≡ may_take_dictionary (type_of ty.now) }
 {
@@ -165,8 +165,8 @@ fn is_name_or_union(form: &TypeForm) -> bool
     }
 }
 
-// Whether a type is a dictionary without required members, or a union with one among its flattened
-// members: then the empty dictionary is a value of it.
+/// Whether a type is a dictionary without required members, or a union with one among its flattened
+/// members: then the empty dictionary is a value of it.
 fn takes_no_member(tables: &Tables<'_>, t: &IdlType) -> bool
     ensures { result ≡ takes_no_member tables.now (type_term t.now) }
 {

@@ -19,7 +19,7 @@ use widl_idl::tree::LiteralValue;
 use widl_idl::{IdlType, IdlTypes, Literal, TextKind, includes_nullable};
 use widl_names::value_meant;
 
-// How many units of a text are read in one step.
+/// How many units of a text are read in one step.
 const UNITS: usize = 64;
 
 /// Whether a written literal fits a type (Web IDL, "Default values"): it is null and the type includes a
@@ -45,7 +45,7 @@ pub fn fits(
     Ok(literal_fits(tables, t, &literal))
 }
 
-// What a literal says; none for the numbers that the profile leaves out, which are no values of its types.
+/// What a literal says; none for the numbers that the profile leaves out, which are no values of its types.
 fn literal_of(alloc: Global, value: &LiteralValue) -> Result<Option<Literal>, AllocError>
     ensures { IfOk result (λ literal. literal ≡ literal_if (value_of value.now)) }
 {
@@ -64,7 +64,7 @@ fn literal_of(alloc: Global, value: &LiteralValue) -> Result<Option<Literal>, Al
     }
 }
 
-// How many steps it takes to look for a literal among the values of a type.
+/// How many steps it takes to look for a literal among the values of a type.
 fn reading_steps(literal: &Option<Literal>, t: &IdlType) -> usize {
     match literal {
         Some(Literal::Text(text)) => (text.len() / UNITS).saturating_mul(count_members(t)),
@@ -72,7 +72,7 @@ fn reading_steps(literal: &Option<Literal>, t: &IdlType) -> usize {
     }
 }
 
-// How many types a type is flattened to.
+/// How many types a type is flattened to.
 #[cycle(count)]
 fn count_members(t: &IdlType) -> usize {
     match t {
@@ -91,7 +91,7 @@ fn count_all(members: &IdlTypes) -> usize {
     count
 }
 
-// Counts down by so many steps.
+/// Counts down by so many steps.
 fn spend(steps: &mut usize, cost: usize) -> Result<(), AllocError>
     ensures { OnOk result (steps.new + cost ≡ steps.old) }
 {
@@ -111,7 +111,7 @@ fn literal_fits(tables: &Tables<'_>, t: &IdlType, literal: &Option<Literal>) -> 
     }
 }
 
-// Whether a literal is null and the type includes a nullable type.
+/// Whether a literal is null and the type includes a nullable type.
 fn is_null_of(literal: &Literal, t: &IdlType) -> bool
     ensures { result ≡ (is_null literal.now && includes_nullable_type (type_term t.now)) }
 {
@@ -148,7 +148,7 @@ fn any_member_takes(tables: &Tables<'_>, literal: &Literal, members: &IdlTypes) 
     false
 }
 
-// Whether a literal is a value of a type that is neither nullable nor a union.
+/// Whether a literal is a value of a type that is neither nullable nor a union.
 #[tactic(auto, unfolding(crate::specs::Fitting::takes))]
 fn takes(tables: &Tables<'_>, literal: &Literal, t: &IdlType) -> bool
     ensures { result ≡ takes tables.now literal.now (unannotated (type_term t.now)) }
@@ -185,7 +185,7 @@ fn is_null_or_undefined(literal: &Literal) -> bool
     matches!(literal, Literal::Null | Literal::Undefined)
 }
 
-// Whether a string type has the text: a ByteString has no unit above 255.
+/// Whether a string type has the text: a ByteString has no unit above 255.
 fn has_text(kind: TextKind, text: &[u16]) -> bool
     ensures { result ≡ has_text kind text.now }
 {

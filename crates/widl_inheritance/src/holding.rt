@@ -10,7 +10,7 @@
 
 ghost use Rattle.std.specs.Prelude.{◌≡◌, ◌+◌, ◌^◌, ◌<◌, ◌↔◌, [], ◌∷◌, ◌++◌, EachIndex, IfOk, IsTrue, OnOk, Some, length, map, slice_get, slice_index, true};
 ghost use Rattle.widl_idl.specs.DefinitionTerms.{dict_term};
-ghost use Rattle.widl_idl.specs.Least.{LeastWhere};
+ghost use Rattle.widl_idl.specs.First.{FirstWhere};
 ghost use Rattle.widl_idl.specs.MergingRules.{IsAt};
 ghost use Rattle.widl_idl.specs.Terms.{packed, type_term};
 ghost use Rattle.widl_inheritance.specs.HoldingGraph.{AreHoldings, IsAtName, IsHoldingGraph, IsTypeGraph, IsWithin, member_links};
@@ -20,7 +20,7 @@ ghost use Rattle.widl_overload.specs.DictionaryRules.{HoldsItself};
 use crate::parent_graph::add_linked;
 use std::alloc::{AllocError, Global};
 use widl_graph::{Graph, Walk};
-use widl_idl::{Dict, IdlType, Spot, lesser_spot};
+use widl_idl::{Dict, IdlType, Violation, earlier_violation};
 
 /// Which dictionaries stand in the types of the members of which.
 #[derive(Drop)]
@@ -47,33 +47,33 @@ impl Holdings {
     }
 }
 
-/// The least place of the name of a dictionary that stands in the type of a member of its own, at any
+/// The first place of the name of a dictionary that stands in the type of a member of its own, at any
 /// depth and through any number of dictionaries (Web IDL, "Dictionaries").
-pub fn first_holding_itself(dicts: &[Dict], holdings: &Holdings) -> Option<Spot>
+pub fn first_holding_itself(dicts: &[Dict], holdings: &Holdings) -> Option<Violation>
     requires { AreHoldings (map dict_term dicts.now) holdings.now }
-    ensures { LeastWhere (HoldsItself (map dict_term dicts.now)) result }
+    ensures { FirstWhere (HoldsItself (map dict_term dicts.now)) result }
 {
     first_flagged(holdings.walk.cyclic.as_slice(), dicts)
 }
 
-/// The least place of the name of a dictionary whose flag is set.
-pub(crate) fn first_flagged(flags: &[bool], dicts: &[Dict]) -> Option<Spot>
-    ensures { LeastWhere (IsAtName (λ number. slice_get flags.now number ≡ Some true) (map dict_term dicts.now)) result }
+/// The first place of the name of a dictionary whose flag is set.
+pub(crate) fn first_flagged(flags: &[bool], dicts: &[Dict]) -> Option<Violation>
+    ensures { FirstWhere (IsAtName (λ number. slice_get flags.now number ≡ Some true) (map dict_term dicts.now)) result }
 {
     let mut best = None;
     for (number, dict) in dicts.iter().enumerate() {
         let found = flagged(flags, number, dict);
-        best = lesser_spot(best, found);
+        best = earlier_violation(best, found);
     }
     best
 }
 
 /// The place of a dictionary's name, if the flag with this number is set.
-fn flagged(flags: &[bool], number: usize, dict: &Dict) -> Option<Spot>
-    ensures { LeastWhere (λ s. (slice_get flags.now number ≡ Some true) × IsAt dict.now.at s) result }
+fn flagged(flags: &[bool], number: usize, dict: &Dict) -> Option<Violation>
+    ensures { FirstWhere (λ s. (slice_get flags.now number ≡ Some true) × IsAt dict.now.at s) result }
 {
     if is_set(flags, number) {
-        Some(Spot::at(dict.at))
+        Some(Violation::at(dict.at))
     } else {
         None
     }

@@ -34,7 +34,7 @@ pub fn interface_members<'a>(
     }
 }
 
-// The same of a definition that is at hand.
+/// The same of a definition that is at hand.
 fn members_of_kind<'a>(
     alloc: Global,
     meanings: &Meanings<'_, 'a>,
@@ -54,7 +54,7 @@ fn members_of_kind<'a>(
     }
 }
 
-// Whether a definition of this number is an interface that its name means.
+/// Whether a definition of this number is an interface that its name means.
 fn is_meant_interface(meanings: &Meanings<'_, '_>, number: usize, kind: &DefinitionKind) -> bool
     ensures { result ≡ is_meant_interface (plain_definitions meanings.now) number (definition_kind_of kind.now) }
 {
@@ -79,7 +79,7 @@ fn is_interface(kind: Kind) -> bool
     }
 }
 
-// The members of the parts of an interface, in the order of the parts.
+/// The members of the parts of an interface, in the order of the parts.
 fn list_members<'a>(
     alloc: Global,
     parts: &[&'a DefinitionKind],

@@ -2,16 +2,16 @@
 //! (Web IDL, "Iterable declarations").
 
 ghost use Rattle.std.specs.Prelude.{◌≡◌, ◌||◌, option_map};
-ghost use Rattle.widl_idl.specs.Least.{AtOne, LeastWhere};
+ghost use Rattle.widl_idl.specs.First.{AtOne, FirstWhere};
 ghost use Rattle.widl_idl.specs.PlainTrees.{member_kind_of};
 ghost use Rattle.widl_idl.specs.PlainTypes.{name_of};
 ghost use Rattle.widl_inheritance.specs.InterfaceMembers.{listed_members};
-ghost use Rattle.widl_inheritance.specs.Iterations.{FollowsIterable, IsHiding, iterable_place, spot_if};
+ghost use Rattle.widl_inheritance.specs.Iterations.{FollowsIterable, IsHiding, iterable_place, violation_if};
 ghost use Rattle.widl_overload.specs.IterableRules.{has_iterable, has_iteration_name, is_iterable, is_iteration_method, is_iteration_name};
 ghost use Rattle.widl_overload.specs.MemberRules.{identifier};
 
 use widl_idl::tree::{Member, MemberKind, Name};
-use widl_idl::{Spot, lesser_spot};
+use widl_idl::{Violation, earlier_violation};
 use widl_text::Place;
 
 /// Whether one of the members is an iterable.
@@ -36,28 +36,28 @@ pub fn has_iteration_name(members: &[&Member]) -> bool
     found
 }
 
-/// The least place of the word of an iterable that follows another one, or of any where one is inherited.
-pub fn first_second_iterable(members: &[&Member], inherited: bool) -> Option<Spot>
-    ensures { LeastWhere (AtOne (FollowsIterable inherited) (listed_members members.now)) result }
+/// The first place of the word of an iterable that follows another one, or of any where one is inherited.
+pub fn first_second_iterable(members: &[&Member], inherited: bool) -> Option<Violation>
+    ensures { FirstWhere (AtOne (FollowsIterable inherited) (listed_members members.now)) result }
 {
     let mut seen = inherited;
     let mut best = None;
     for member in members {
-        let found = spot_if(seen, iterable_place(&member.kind));
-        best = lesser_spot(best, found);
+        let found = violation_if(seen, iterable_place(&member.kind));
+        best = earlier_violation(best, found);
         seen = either(seen, is_iterable(&member.kind));
     }
     best
 }
 
-/// The least place of the word of an iterable, if one of its methods is hidden by a member's name.
-pub fn first_hiding_iterable(members: &[&Member], named: bool) -> Option<Spot>
-    ensures { LeastWhere (IsHiding named (listed_members members.now)) result }
+/// The first place of the word of an iterable, if one of its methods is hidden by a member's name.
+pub fn first_hiding_iterable(members: &[&Member], named: bool) -> Option<Violation>
+    ensures { FirstWhere (IsHiding named (listed_members members.now)) result }
 {
     let mut best = None;
     for member in members {
-        let found = spot_if(named, iterable_place(&member.kind));
-        best = lesser_spot(best, found);
+        let found = violation_if(named, iterable_place(&member.kind));
+        best = earlier_violation(best, found);
     }
     best
 }
@@ -68,7 +68,7 @@ fn either(a: bool, b: bool) -> bool
     a || b
 }
 
-// Where the word `iterable` of an iterable stands.
+/// Where the word `iterable` of an iterable stands.
 fn iterable_place(kind: &MemberKind) -> Option<Place>
     ensures { result ≡ iterable_place (member_kind_of kind.now) }
 {
@@ -87,17 +87,21 @@ fn is_iterable(kind: &MemberKind) -> bool
     }
 }
 
-// The spot at a place, where there is one and the test holds.
-fn spot_if(holds: bool, place: Option<Place>) -> Option<Spot>
-    ensures { result ≡ spot_if holds place }
+/// The violation at a place, where there is one and the test holds.
+fn violation_if(holds: bool, place: Option<Place>) -> Option<Violation>
+    ensures { result ≡ violation_if holds place }
 {
     match place {
         None => None,
-        Some(place) => if holds { Some(Spot::at(place)) } else { None },
+        Some(place) => if holds {
+            Some(Violation::at(place))
+        } else {
+            None
+        },
     }
 }
 
-// Whether a member is named as a method that an iterable brings.
+/// Whether a member is named as a method that an iterable brings.
 fn is_iteration_name(kind: &MemberKind) -> bool
     ensures { result ≡ is_iteration_name (identifier (member_kind_of kind.now)) }
 {
@@ -113,7 +117,7 @@ fn is_iteration_method(text: &str) -> bool
     text == "entries" || text == "forEach" || text == "keys" || text == "values"
 }
 
-// The name of a constant, an attribute or an operation.
+/// The name of a constant, an attribute or an operation.
 fn identifier(kind: &MemberKind) -> Option<&Name>
     ensures { option_map (λ name. name_of name.now) result ≡ identifier (member_kind_of kind.now) }
 {

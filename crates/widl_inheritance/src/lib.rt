@@ -1,7 +1,7 @@
 //! The rules of validity that read what is inherited, and default values: on dictionaries and the types of
 //! their members, on arguments that a call may leave out, and on iterables. It stands on the merged list of
 //! `widl_idl`, on the names of `widl_names`, and on `widl_overload`, where each rule is stated. The contract
-//! that is used above: each function answers exactly the least place at which its rule is broken, or none.
+//! that is used above: each function answers exactly the first place at which its rule is broken, or none.
 #![tactic(auto)]
 
 mod argument_lists;
@@ -30,6 +30,6 @@ mod written_fitting;
 pub use defaults::first_other_default;
 pub use empty_defaults::first_without_empty_default;
 pub use holding::{Holdings, first_holding_itself};
-pub use iterables::{IterableSpots, find_iterables};
+pub use iterables::{IterableViolations, find_iterables};
 pub use long_chains::first_long_chain;
 pub use member_names::first_repeated_member;

@@ -3,19 +3,17 @@
 ghost use Rattle.std.specs.Prelude.{◌≡◌, ◌↔◌, IfOk, IsTrue, map, nat_lt, replicate, slice_index, true};
 ghost use Rattle.std.specs.List.{Contains};
 ghost use Rattle.widl_idl.specs.DefinitionTerms.{dict_term};
-ghost use Rattle.widl_idl.specs.Least.{LeastWhere};
+ghost use Rattle.widl_idl.specs.First.{FirstWhere};
 ghost use Rattle.widl_inheritance.specs.ChainLengths.{TellsLengths, greatest_length, node_length};
 ghost use Rattle.widl_inheritance.specs.HoldingGraph.{AreHoldings};
 ghost use Rattle.widl_overload.specs.DictionaryRules.{BeginsLongChain};
 
 use crate::holding::{Holdings, first_flagged, first_holding_itself};
 use std::alloc::{AllocError, Global};
-use widl_idl::{Dict, Spot};
+use widl_idl::{Dict, Violation};
+use widl_text::limits::MOST_CHAINED_DICTIONARIES;
 
-// The greatest number of dictionaries in a chain. One more stands for all longer chains.
-const LIMIT: usize = 256;
-
-/// The least place of the name of a dictionary with which a chain of more than 256 begins, where none
+/// The first place of the name of a dictionary with which a chain of more than 256 begins, where none
 /// holds itself: each next one stands in the type of a member of the one before (Web IDL,
 /// "Dictionaries").
 ///
@@ -27,9 +25,9 @@ pub fn first_long_chain(
     alloc: Global,
     dicts: &[Dict],
     holdings: &Holdings,
-) -> Result<Option<Spot>, AllocError>
+) -> Result<Option<Violation>, AllocError>
     requires { AreHoldings (map dict_term dicts.now) holdings.now }
-    ensures { IfOk result (λ found. LeastWhere (BeginsLongChain (map dict_term dicts.now)) found) }
+    ensures { IfOk result (λ found. FirstWhere (BeginsLongChain (map dict_term dicts.now)) found) }
 {
     if first_holding_itself(dicts, holdings).is_some() {
         return Ok(None);
@@ -55,7 +53,7 @@ fn long_flags(alloc: Global, lengths: &[usize]) -> Result<Vec<bool>, AllocError>
 {
     let mut flags = Vec::new(alloc);
     for longest in lengths {
-        flags.push(*longest > LIMIT)?;
+        flags.push(*longest > MOST_CHAINED_DICTIONARIES)?;
     }
     Ok(flags)
 }
@@ -75,8 +73,8 @@ fn chain_lengths(
     let order = holdings.walk.order.as_slice();
     for node in order {
         let successors = holdings.graph.successors(*node);
-        let behind = greatest_length(lengths.as_slice(), successors);
-        lengths[*node] = node_length(dicts.len(), *node, behind);
+        let after = greatest_length(lengths.as_slice(), successors);
+        lengths[*node] = node_length(dicts.len(), *node, after);
     }
     Ok(lengths)
 }
@@ -113,14 +111,14 @@ fn length_at(lengths: &[usize], node: usize) -> usize
     }
 }
 
-/// The length of a node behind which the greatest length is this one, at most one past the limit: one
+/// The length of a node after which the greatest length is this one, at most one past the limit: one
 /// of `count` dictionaries stands in the chain itself.
-fn node_length(count: usize, node: usize, behind: usize) -> usize
-    ensures { result ≡ node_length count node behind }
+fn node_length(count: usize, node: usize, after: usize) -> usize
+    ensures { result ≡ node_length count node after }
 {
     if node < count {
-        behind.min(LIMIT) + 1
+        after.min(MOST_CHAINED_DICTIONARIES) + 1
     } else {
-        behind.min(LIMIT + 1)
+        after.min(MOST_CHAINED_DICTIONARIES + 1)
     }
 }

@@ -28,7 +28,7 @@ pub fn parent_graph(alloc: Global, meanings: &Meanings<'_, '_>) -> Result<Graph,
     Ok(graph)
 }
 
-// Adds a definition with its parent, if it has one of the same kind.
+/// Adds a definition with its parent, if it has one of the same kind.
 fn add_parent(
     graph: &mut Graph,
     meanings: &Meanings<'_, '_>,
@@ -57,7 +57,7 @@ pub fn add_linked(graph: &mut Graph, successors: &[usize]) -> Result<(), AllocEr
     Ok(())
 }
 
-// The number of the parent of a definition, if it has one of the same kind.
+/// The number of the parent of a definition, if it has one of the same kind.
 fn parent_number(meanings: &Meanings<'_, '_>, definition: &DefinitionKind) -> Option<usize>
     ensures { option_to_list result ≡ parent_numbers (plain_definitions meanings.now) (kind_of (definition_kind_of definition.now)) (parent_of (definition_kind_of definition.now)) }
 {
@@ -67,7 +67,7 @@ fn parent_number(meanings: &Meanings<'_, '_>, definition: &DefinitionKind) -> Op
     }
 }
 
-// The number of the definition that a name means, if it is of this kind.
+/// The number of the definition that a name means, if it is of this kind.
 fn number_of_kind(meanings: &Meanings<'_, '_>, kind: Kind, text: &str) -> Option<usize>
     ensures { option_to_list result ≡ number_of_kind kind (meant_kind (plain_definitions meanings.now) text.now) (meaning (plain_definitions meanings.now) text.now) }
 {
@@ -81,7 +81,7 @@ fn number_of_kind(meanings: &Meanings<'_, '_>, kind: Kind, text: &str) -> Option
     }
 }
 
-// The name behind the colon.
+/// The name after the colon.
 fn parent_of<'a>(definition: &'a DefinitionKind) -> Option<&'a Name>
     ensures { option_map (λ name. name_of name.now) result ≡ parent_of (definition_kind_of definition.now) }
 {

@@ -5,7 +5,7 @@ ghost use Rattle.widl_overload.specs.Ranges.{greatest_value, is_in_range, least_
 
 use widl_idl::IntKind;
 
-// Whether an integer type has the value (Web IDL, "Integer types").
+/// Whether an integer type has the value (Web IDL, "Integer types").
 pub fn is_in_range(kind: IntKind, value: i128) -> bool
     ensures { result ≡ is_in_range kind value }
 {

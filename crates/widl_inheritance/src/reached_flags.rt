@@ -33,7 +33,7 @@ pub fn flags_reached(
     Ok(found)
 }
 
-// As many flags, none of them set.
+/// As many flags, none of them set.
 fn no_flags(alloc: Global, count: usize) -> Result<Vec<bool>, AllocError>
     ensures { IfOk result (λ flags. flags.items ≡ replicate count false) }
 {
@@ -44,7 +44,7 @@ fn no_flags(alloc: Global, count: usize) -> Result<Vec<bool>, AllocError>
     Ok(flags)
 }
 
-// Whether one of the successors has its flag set, or reaches a node that has.
+/// Whether one of the successors has its flag set, or reaches a node that has.
 fn reaches_by(successors: &[usize], flags: &[bool], found: &[bool]) -> bool
     ensures { result ≡ list_any (reaches_by flags.now found.now) successors.now }
 {

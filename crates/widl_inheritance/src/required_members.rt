@@ -31,7 +31,7 @@ pub fn required_members(alloc: Global, dicts: &[Dict]) -> Result<Vec<bool>, Allo
     flags_in_order(alloc, dicts, walk.order.as_slice())
 }
 
-// For each dictionary its parent, if it has one.
+/// For each dictionary its parent, if it has one.
 fn parents(alloc: Global, dicts: &[Dict]) -> Result<Graph, AllocError>
     ensures { IfOk result (λ graph. graph ≡ dictionary_parents (map dict_term dicts.now)) }
 {
@@ -42,7 +42,7 @@ fn parents(alloc: Global, dicts: &[Dict]) -> Result<Graph, AllocError>
     Ok(graph)
 }
 
-// Adds a dictionary with its parent.
+/// Adds a dictionary with its parent.
 fn add_child(graph: &mut Graph, parent: Option<u32>) -> Result<(), AllocError>
     ensures { OnOk result (graph.new ≡ graph.old ++ option_to_list parent ∷ []) }
 {
@@ -62,7 +62,7 @@ fn is_any_set(flags: &[bool]) -> bool
     flags.iter().any(|flag| *flag)
 }
 
-// The flags of the dictionaries, in an order in which the parent of each stands before it.
+/// The flags of the dictionaries, in an order in which the parent of each stands before it.
 fn flags_in_order(alloc: Global, dicts: &[Dict], order: &[usize]) -> Result<Vec<bool>, AllocError>
     requires { AreParentsFirst (map dict_term dicts.now) order.now }
     ensures { IfOk result (λ flags. TellsRequired (map dict_term dicts.now) flags.items) }
@@ -75,7 +75,7 @@ fn flags_in_order(alloc: Global, dicts: &[Dict], order: &[usize]) -> Result<Vec<
     Ok(flags)
 }
 
-// Flags none of which is set.
+/// Flags none of which is set.
 fn no_flags(alloc: Global, count: usize) -> Result<Vec<bool>, AllocError>
     ensures { IfOk result (λ flags. flags.items ≡ replicate count false) }
 {
@@ -86,8 +86,8 @@ fn no_flags(alloc: Global, count: usize) -> Result<Vec<bool>, AllocError>
     Ok(flags)
 }
 
-// Whether the dictionary of this number has a required member, where the flag of its parent tells that
-// of the inherited ones.
+/// Whether the dictionary of this number has a required member, where the flag of its parent tells that
+/// of the inherited ones.
 fn is_required_in(dicts: &[Dict], flags: &[bool], number: usize) -> bool
     ensures { result ≡ required_by flags.now (slice_get (map dict_term dicts.now) number) }
 {
@@ -97,14 +97,14 @@ fn is_required_in(dicts: &[Dict], flags: &[bool], number: usize) -> bool
     }
 }
 
-// The same of a dictionary.
+/// The same of a dictionary.
 fn requires_any(dict: &Dict, flags: &[bool]) -> bool
     ensures { result ≡ required_by flags.now (Some (dict_term dict.now)) }
 {
     has_own(dict.members.as_slice()) || parent_flagged(flags, dict.parent)
 }
 
-// Whether one of these members is required.
+/// Whether one of these members is required.
 fn has_own(members: &[Member]) -> bool
     ensures { result ≡ list_any (λ m. m.required) members.now }
 {

@@ -27,22 +27,22 @@ pub fn walked(alloc: Global, parents: &[Option<usize>]) -> Result<Spans, AllocEr
     })
 }
 
-// A walk over the nodes.
+/// A walk over the nodes.
 #[derive(Drop)]
 struct Walk {
-    // The spans of those that were visited. Of those on the path, the end is not known: it is taken for
-    // the number of all.
+    /// The spans of those that were visited. Of those on the path, the end is not known: it is taken for
+    /// the number of all.
     spans: Vec<Option<Span>>,
-    // Those that were visited, in order.
+    /// Those that were visited, in order.
     order: Vec<usize>,
-    // The node that was visited last and those from which it comes, the oldest one first.
+    /// The node that was visited last and those from which it comes, the oldest one first.
     path: Vec<usize>,
-    // Those that wait for their visit, the next one last.
+    /// Those that wait for their visit, the next one last.
     waiting: Vec<usize>,
 }
 
 impl Walk {
-    // The walk before its first visit.
+    /// The walk before its first visit.
     fn begun(alloc: Global, parents: &[Option<usize>]) -> Result<Walk, AllocError>
         ensures walk { IfOk result (λ walk. IsWalk parents.now walk.spans.items walk.order.items walk.path.items) }
         ensures fresh { IfOk result (λ walk. walk.order.items ≡ []) }
@@ -55,7 +55,7 @@ impl Walk {
         })
     }
 
-    // Visits the node that waits at the end, if there is one, and has its children wait.
+    /// Visits the node that waits at the end, if there is one, and has its children wait.
     fn visit_next(
         &mut self,
         parents: &[Option<usize>],
@@ -78,7 +78,7 @@ impl Walk {
         }
     }
 
-    // Leaves the end of the path, up to this node.
+    /// Leaves the end of the path, up to this node.
     fn leave_others(&mut self, parents: &[Option<usize>], parent: Option<usize>)
         requires walk { IsWalk parents.now self.old.spans.items self.old.order.items self.old.path.items }
         requires within { length self.old.order.items ≤ length parents.now }
@@ -90,21 +90,21 @@ impl Walk {
         }
     }
 
-    // The last node of the path.
+    /// The last node of the path.
     fn last(&self) -> Option<usize>
         ensures { result ≡ slice_get self.now.path.items (length self.now.path.items - 1) }
     {
         self.path.last().copied()
     }
 
-    // Whether the path ends at another node.
+    /// Whether the path ends at another node.
     fn is_elsewhere(&self, parent: Option<usize>) -> bool
         ensures { result ≡ true → 0 < length self.now.path.items }
     {
         !self.path.is_empty() && self.last() != parent
     }
 
-    // Leaves the last node of the path: all that come from it were visited.
+    /// Leaves the last node of the path: all that come from it were visited.
     fn leave(&mut self, parents: &[Option<usize>])
         requires walk { IsWalk parents.now self.old.spans.items self.old.order.items self.old.path.items }
         requires within { length self.old.order.items ≤ length parents.now }
@@ -118,8 +118,8 @@ impl Walk {
         }
     }
 
-    // Whether the node is to follow the end of the path: it was not visited, and its parent is the last
-    // one, or it has none where there is none.
+    /// Whether the node is to follow the end of the path: it was not visited, and its parent is the last
+    /// one, or it has none where there is none.
     fn takes(&self, parents: &[Option<usize>], number: usize) -> bool
         ensures new { result ≡ true → span_of self.now.spans.items number ≡ None }
         ensures below { result ≡ true → number < length self.now.spans.items }
@@ -131,7 +131,7 @@ impl Walk {
         }
     }
 
-    // Visits a node, where it is to follow the end of the path. In a circle of parents none does.
+    /// Visits a node, where it is to follow the end of the path. In a circle of parents none does.
     fn enter(&mut self, parents: &[Option<usize>], number: usize) -> Result<(), AllocError>
         requires walk { IsWalk parents.now self.old.spans.items self.old.order.items self.old.path.items }
         requires within { length self.old.order.items < length parents.now }
@@ -150,7 +150,7 @@ impl Walk {
     }
 }
 
-// The span of a node that is left.
+/// The span of a node that is left.
 fn ended(span: Option<Span>, past: usize) -> Option<Span>
     ensures { (s : declared.Span) → span ≡ Some s → result ≡ Some (record { start = s.start; past = past }) }
 {
@@ -163,14 +163,14 @@ fn ended(span: Option<Span>, past: usize) -> Option<Span>
     }
 }
 
-// The parent of a node.
+/// The parent of a node.
 fn parent(parents: &[Option<usize>], number: usize) -> Option<usize>
     ensures { result ≡ parent_in parents.now number }
 {
     parents.get(number).copied().flatten()
 }
 
-// As many nodes without a span.
+/// As many nodes without a span.
 fn no_spans(alloc: Global, count: usize) -> Result<Vec<Option<Span>>, AllocError>
     ensures none { IfOk result (λ spans. (n : ℕ) → span_of spans.items n ≡ None) }
     ensures count { IfOk result (λ spans. length spans.items ≡ count) }
@@ -182,7 +182,7 @@ fn no_spans(alloc: Global, count: usize) -> Result<Vec<Option<Span>>, AllocError
     Ok(spans)
 }
 
-// For each node its children. Those without a parent are added to the list of those that wait.
+/// For each node its children. Those without a parent are added to the list of those that wait.
 fn direct_children(
     alloc: Global,
     parents: &[Option<usize>],
@@ -198,7 +198,7 @@ fn direct_children(
     Ok(children)
 }
 
-// As many nodes without children.
+/// As many nodes without children.
 fn no_children(alloc: Global, count: usize) -> Result<Vec<Vec<usize>>, AllocError> {
     let mut children = Vec::new(alloc);
     for _number in 0..count {
@@ -207,7 +207,7 @@ fn no_children(alloc: Global, count: usize) -> Result<Vec<Vec<usize>>, AllocErro
     Ok(children)
 }
 
-// Adds a child to those of its parent, where there is such a node.
+/// Adds a child to those of its parent, where there is such a node.
 fn add_child(
     children: &mut Vec<Vec<usize>>,
     parent: usize,
@@ -219,7 +219,7 @@ fn add_child(
     Ok(())
 }
 
-// Adds all to those that wait.
+/// Adds all to those that wait.
 fn add_all(waiting: &mut Vec<usize>, own: &[usize]) -> Result<(), AllocError> {
     for number in own {
         waiting.push(*number)?;

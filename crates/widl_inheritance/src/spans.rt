@@ -17,7 +17,7 @@ pub struct Span {
 
 /// The spans of the nodes of a forest, where each node has at most one parent.
 ///
-/// A node that comes from another one stands in the span of that other, behind its start, and nothing
+/// A node that comes from another one stands in the span of that other, after its start, and nothing
 /// else stands there. A node has no span where its parents lead round in a circle or past the last node.
 #[derive(Drop)]
 pub struct Spans {

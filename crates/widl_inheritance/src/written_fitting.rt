@@ -8,7 +8,7 @@ use widl_idl::TextKind;
 use widl_idl::tree::{Container, LiteralValue, TypeForm, WrittenType};
 use widl_text::Place;
 
-/// Whether a value fits a type whatever the names in the type mean: it is null behind a `?`, or a boolean,
+/// Whether a value fits a type whatever the names in the type mean: it is null after a `?`, or a boolean,
 /// a text or an empty sequence of such a type. Where this is false the value may fit nevertheless.
 pub fn fits_as_written(ty: &WrittenType, value: &LiteralValue) -> bool
     ensures { result ≡ fits_as_written (type_of ty.now) (value_of value.now) }
@@ -16,7 +16,7 @@ pub fn fits_as_written(ty: &WrittenType, value: &LiteralValue) -> bool
     is_questioned_null(ty.question, value) || is_value_of_form(&ty.form, value)
 }
 
-// Whether the value is null, and a `?` stands behind the type.
+/// Whether the value is null, and a `?` stands after the type.
 fn is_questioned_null(question: Option<Place>, value: &LiteralValue) -> bool
     ensures { result ≡ is_questioned_null question (value_of value.now) }
 {
@@ -26,7 +26,7 @@ fn is_questioned_null(question: Option<Place>, value: &LiteralValue) -> bool
     }
 }
 
-// Whether the value is one of each type of this form.
+/// Whether the value is one of each type of this form.
 fn is_value_of_form(form: &TypeForm, value: &LiteralValue) -> bool
     ensures { result ≡ is_value_of_form (form_term form.now) (value_of value.now) }
 {
@@ -67,7 +67,7 @@ fn is_empty_sequence(value: &LiteralValue) -> bool
     matches!(value, LiteralValue::EmptySequence)
 }
 
-// Whether a string type has each text.
+/// Whether a string type has each text.
 fn has_each_text(kind: TextKind) -> bool
     ensures { result ≡ has_each_text kind }
 {

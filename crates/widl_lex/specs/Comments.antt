@@ -1,4 +1,4 @@
--- Block comments that no `*/` ends.
+-- For proofs alone. Block comments that no `*/` ends.
 use Rattle.std.specs.Prelude.{◌≡◌, ℕ, ◌+◌, ◌<◌, List, slice_index}
 
 -- the text begins with `/*`

@@ -1,4 +1,4 @@
--- The walk through the table of states, and what its patterns match.
+-- For proofs alone. The walk through the table of states, and what its patterns match.
 use Rattle.std.specs.Prelude.{ℕ, ◌<◌, ◌≤◌, List, [], ◌∷◌, Bool, true, false, Option, Some, None, ◌+◌, ◌*◌, ◌/◌, ◌%◌, map, slice_index, slice_index_or, length, take, codes}
 use Rattle.widl_lex.specs.declared.tables.TheConstants.{NEXT, ENDS, UTF8_CLASSES, UTF8_NEXT, QUOTED, QUOTED_AT}
 use Rattle.widl_lex.specs.declared.token.PieceKind.{PieceKind}

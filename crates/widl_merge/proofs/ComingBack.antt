@@ -3,23 +3,23 @@ use Rattle.std.proofs.Common.{◌≡◌, ◌↔◌, ℕ, ◌<◌, Bool, true, fa
 use Rattle.std.proofs.lemmas.List.{length-map}
 use Rattle.std.proofs.lemmas.Option.{slice_get_within}
 use Rattle.widl_graph.specs.Reaching.{ReachesItself, TellsCyclic}
-use Rattle.widl_idl.specs.declared.spot.Spot.{Spot}
-use Rattle.widl_idl.specs.Least.{LeastWhere, AtOne, spot_at}
+use Rattle.widl_idl.specs.declared.violation.Violation.{Violation}
+use Rattle.widl_idl.specs.First.{FirstWhere, AtOne, violation_at}
 use Rattle.widl_idl.specs.Meanings.{declared_name}
 use Rattle.widl_idl.specs.MergingRules.{AtName, ComesBack}
 use Rattle.widl_idl.specs.PlainTypes.{PlainName}
 use Rattle.widl_idl.specs.PlainTrees.{PlainDefinition}
-use Rattle.widl_idl.proofs.Order.{least_same, one_place}
+use Rattle.widl_idl.proofs.Order.{first_same, one_place}
 use Rattle.widl_merge.specs.Links.{Returns, ReturnsAfter}
 
 -- a definition without a name has no place to come back to
-pub nameless : (links : List (List ℕ)) (number : ℕ) (d : PlainDefinition) → None ≡ declared_name d.kind → LeastWhere (Returns links number d) None
+pub nameless : (links : List (List ℕ)) (number : ℕ) (d : PlainDefinition) → None ≡ declared_name d.kind → FirstWhere (Returns links number d) None
 nameless links number d none = λ s h. subst (λ m. AtName m (λ name. Unit {0}) s) (sym none) h.1
 
 -- at a definition's name, where a flag tells whether it comes back
-pub returns_here : (links : List (List ℕ)) (flags : List Bool) (number : ℕ) (d : PlainDefinition) (name : PlainName) (b : Bool) (found : Option Spot) → TellsCyclic links flags → Some name ≡ declared_name d.kind → IsTrue b ↔ (slice_get flags number ≡ Some true) → found ≡ cond b (Some (spot_at name.at)) None → LeastWhere (Returns links number d) found
+pub returns_here : (links : List (List ℕ)) (flags : List Bool) (number : ℕ) (d : PlainDefinition) (name : PlainName) (b : Bool) (found : Option Violation) → TellsCyclic links flags → Some name ≡ declared_name d.kind → IsTrue b ↔ (slice_get flags number ≡ Some true) → found ≡ cond b (Some (violation_at name.at)) None → FirstWhere (Returns links number d) found
 returns_here links flags number d name b found tells named set is =
-    least_same (λ s. ReachesItself links number × (spot_at name.at ≡ s)) (Returns links number d) found
+    first_same (λ s. ReachesItself links number × (violation_at name.at ≡ s)) (Returns links number d) found
     (λ s h. (h.0, subst (λ m. AtName m (λ n. Unit {0}) s) named (tt, h.1)))
     (λ s h. (h.0, (subst (λ m. AtName m (λ n. Unit {0}) s) (sym named) h.1).1))
     (one_place (ReachesItself links number) name.at b found (λ e. (tells.tells number).0 (set.0 e)) (λ e back. clash e (set.1 ((tells.tells number).1 back))) is)
@@ -28,8 +28,8 @@ returns_here links flags number d name b found tells named set is =
     clash e f = (cc)
 
 -- the same of each definition by its number
-pub by_number : (links : List (List ℕ)) (definitions : List PlainDefinition) (found : Option Spot) → LeastWhere (AtOne (ReturnsAfter links) definitions) found → LeastWhere (ComesBack links definitions) found
-by_number links definitions found l = least_same (AtOne (ReturnsAfter links) definitions) (ComesBack links definitions) found
+pub by_number : (links : List (List ℕ)) (definitions : List PlainDefinition) (found : Option Violation) → FirstWhere (AtOne (ReturnsAfter links) definitions) found → FirstWhere (ComesBack links definitions) found
+by_number links definitions found l = first_same (AtOne (ReturnsAfter links) definitions) (ComesBack links definitions) found
     (λ s u. record { number = u.index; definition = u.item; is = u.is; back = subst (ReachesItself links) (before u.index u.below) u.breaks.0; at_name = u.breaks.1 })
     (λ s h. let below = slice_get_within definitions h.number h.definition h.is in record { index = h.number; below = below; item = h.definition; is = h.is; breaks = (subst (ReachesItself links) (sym (before h.number below)) h.back, h.at_name) })
     l
@@ -38,5 +38,5 @@ by_number links definitions found l = least_same (AtOne (ReturnsAfter links) def
     before n below = length-take-le n definitions (omega arith)
 
 -- at the number of the definitions before, as a loop over the definitions has it
-pub here_after : {X : Type 0} (links : List (List ℕ)) (f : X → PlainDefinition) (xs : List X) (number : ℕ) (d : PlainDefinition) (found : Option Spot) → number < length xs → LeastWhere (Returns links number d) found → LeastWhere (ReturnsAfter links (take number (map f xs)) d) found
-here_after links f xs number d found below l = subst (λ n. LeastWhere (Returns links n d) found) (sym (length-take-le number (map f xs) (let size = length-map xs f in omega arith))) l
+pub here_after : {X : Type 0} (links : List (List ℕ)) (f : X → PlainDefinition) (xs : List X) (number : ℕ) (d : PlainDefinition) (found : Option Violation) → number < length xs → FirstWhere (Returns links number d) found → FirstWhere (ReturnsAfter links (take number (map f xs)) d) found
+here_after links f xs number d found below l = subst (λ n. FirstWhere (Returns links n d) found) (sym (length-take-le number (map f xs) (let size = length-map xs f in omega arith))) l

@@ -7,7 +7,7 @@ use Rattle.std.proofs.Math.ListN.{set}
 use Rattle.std.proofs.lemmas.List.{append-nil, map-append}
 use Rattle.std.proofs.lemmas.List.Elements.{filter-append}
 use Rattle.std.proofs.lemmas.List.Folds.{list_any-append}
-use Rattle.widl_idl.specs.MergedMembers.{are_overloads, firsts_behind, op_name_of, operation_text, sig_of_operation}
+use Rattle.widl_idl.specs.MergedMembers.{are_overloads, firsts_after, op_name_of, operation_text, sig_of_operation}
 use Rattle.widl_idl.specs.MergingRules.{both_or_none, is_static}
 use Rattle.widl_idl.specs.PlainTrees.{PlainDefinition, PlainOperation}
 use Rattle.widl_idl.specs.WrittenLiterals.{units_of}
@@ -48,38 +48,38 @@ absorbs false true more e = absurd (let f = e refl in cc)
 absorbs false false more e = refl
 
 -- a name is that of one of the operations where it is that of one of the first of their names
-named_firsts : (text : List ℕ) (static : Bool) (before operations : List PlainOperation) → list_any (is_named text static) (before ++ firsts_behind before operations) ≡ list_any (is_named text static) (before ++ operations)
+named_firsts : (text : List ℕ) (static : Bool) (before operations : List PlainOperation) → list_any (is_named text static) (before ++ firsts_after before operations) ≡ list_any (is_named text static) (before ++ operations)
 named_firsts text static before [] = refl
 named_firsts text static before (o ∷ more) = by (list_any (are_overloads o) before) refl (named_firsts text static before more) (named_firsts text static (before ++ o ∷ []) more)
   where
     by : (b : Bool) → list_any (are_overloads o) before ≡ b
-        → list_any (is_named text static) (before ++ firsts_behind before more) ≡ list_any (is_named text static) (before ++ more)
-        → list_any (is_named text static) ((before ++ o ∷ []) ++ firsts_behind (before ++ o ∷ []) more) ≡ list_any (is_named text static) ((before ++ o ∷ []) ++ more)
-        → list_any (is_named text static) (before ++ cond b (firsts_behind before more) (o ∷ firsts_behind (before ++ o ∷ []) more)) ≡ list_any (is_named text static) (before ++ o ∷ more)
+        → list_any (is_named text static) (before ++ firsts_after before more) ≡ list_any (is_named text static) (before ++ more)
+        → list_any (is_named text static) ((before ++ o ∷ []) ++ firsts_after (before ++ o ∷ []) more) ≡ list_any (is_named text static) ((before ++ o ∷ []) ++ more)
+        → list_any (is_named text static) (before ++ cond b (firsts_after before more) (o ∷ firsts_after (before ++ o ∷ []) more)) ≡ list_any (is_named text static) (before ++ o ∷ more)
     by true e left right =
         left ∙ list_any-append (is_named text static) before more
         ∙ absorbs (list_any (is_named text static) before) (is_named text static o) (list_any (is_named text static) more) (λ n. ask_named (λ t s. list_any (is_named t s) before) text static o n ∙ e)
         ∙ sym (list_any-append (is_named text static) before (o ∷ more))
     by false e left right =
-        ap (list_any (is_named text static)) (sym (append_assoc before (o ∷ []) (firsts_behind (before ++ o ∷ []) more)))
+        ap (list_any (is_named text static)) (sym (append_assoc before (o ∷ []) (firsts_after (before ++ o ∷ []) more)))
         ∙ right
         ∙ ap (list_any (is_named text static)) (append_assoc before (o ∷ []) more)
 
-firsts_behind_push : (before operations : List PlainOperation) (o : PlainOperation)
-    → firsts_behind before (operations ++ o ∷ []) ≡ firsts_behind before operations ++ cond (list_any (are_overloads o) (before ++ firsts_behind before operations)) [] (o ∷ [])
-firsts_behind_push before [] o = ap (λ l. cond (list_any (are_overloads o) l) [] (o ∷ [])) (sym (append-nil before))
-firsts_behind_push before (x ∷ more) o = by (list_any (are_overloads x) before) (firsts_behind_push before more o) (firsts_behind_push (before ++ x ∷ []) more o)
+firsts_after_push : (before operations : List PlainOperation) (o : PlainOperation)
+    → firsts_after before (operations ++ o ∷ []) ≡ firsts_after before operations ++ cond (list_any (are_overloads o) (before ++ firsts_after before operations)) [] (o ∷ [])
+firsts_after_push before [] o = ap (λ l. cond (list_any (are_overloads o) l) [] (o ∷ [])) (sym (append-nil before))
+firsts_after_push before (x ∷ more) o = by (list_any (are_overloads x) before) (firsts_after_push before more o) (firsts_after_push (before ++ x ∷ []) more o)
   where
-    by : (b : Bool) → firsts_behind before (more ++ o ∷ []) ≡ firsts_behind before more ++ cond (list_any (are_overloads o) (before ++ firsts_behind before more)) [] (o ∷ [])
-        → firsts_behind (before ++ x ∷ []) (more ++ o ∷ []) ≡ firsts_behind (before ++ x ∷ []) more ++ cond (list_any (are_overloads o) ((before ++ x ∷ []) ++ firsts_behind (before ++ x ∷ []) more)) [] (o ∷ [])
-        → cond b (firsts_behind before (more ++ o ∷ [])) (x ∷ firsts_behind (before ++ x ∷ []) (more ++ o ∷ []))
-        ≡ cond b (firsts_behind before more) (x ∷ firsts_behind (before ++ x ∷ []) more) ++ cond (list_any (are_overloads o) (before ++ cond b (firsts_behind before more) (x ∷ firsts_behind (before ++ x ∷ []) more))) [] (o ∷ [])
+    by : (b : Bool) → firsts_after before (more ++ o ∷ []) ≡ firsts_after before more ++ cond (list_any (are_overloads o) (before ++ firsts_after before more)) [] (o ∷ [])
+        → firsts_after (before ++ x ∷ []) (more ++ o ∷ []) ≡ firsts_after (before ++ x ∷ []) more ++ cond (list_any (are_overloads o) ((before ++ x ∷ []) ++ firsts_after (before ++ x ∷ []) more)) [] (o ∷ [])
+        → cond b (firsts_after before (more ++ o ∷ [])) (x ∷ firsts_after (before ++ x ∷ []) (more ++ o ∷ []))
+        ≡ cond b (firsts_after before more) (x ∷ firsts_after (before ++ x ∷ []) more) ++ cond (list_any (are_overloads o) (before ++ cond b (firsts_after before more) (x ∷ firsts_after (before ++ x ∷ []) more))) [] (o ∷ [])
     by true left right = left
-    by false left right = ap (λ l. x ∷ l) (right ∙ ap (λ l. firsts_behind (before ++ x ∷ []) more ++ cond (list_any (are_overloads o) l) [] (o ∷ [])) (append_assoc before (x ∷ []) (firsts_behind (before ++ x ∷ []) more)))
+    by false left right = ap (λ l. x ∷ l) (right ∙ ap (λ l. firsts_after (before ++ x ∷ []) more ++ cond (list_any (are_overloads o) l) [] (o ∷ [])) (append_assoc before (x ∷ []) (firsts_after (before ++ x ∷ []) more)))
 
 -- the first operations, with one operation more
-pub firsts_push : (operations : List PlainOperation) (o : PlainOperation) → firsts_behind [] (operations ++ o ∷ []) ≡ firsts_behind [] operations ++ cond (list_any (are_overloads o) operations) [] (o ∷ [])
-firsts_push operations o = firsts_behind_push [] operations o ∙ ap (λ b. firsts_behind [] operations ++ cond b [] (o ∷ [])) (named_firsts (operation_text o.name) (is_static o.kind) [] operations)
+pub firsts_push : (operations : List PlainOperation) (o : PlainOperation) → firsts_after [] (operations ++ o ∷ []) ≡ firsts_after [] operations ++ cond (list_any (are_overloads o) operations) [] (o ∷ [])
+firsts_push operations o = firsts_after_push [] operations o ∙ ap (λ b. firsts_after [] operations ++ cond b [] (o ∷ [])) (named_firsts (operation_text o.name) (is_static o.kind) [] operations)
 
 -- a list that is mapped by another function with the same values
 pub map_same : {X Y : Type 0} (g h : X → Y) (xs : List X) → ((j : ℕ) (y : X) → slice_get xs j ≡ Some y → h y ≡ g y) → map h xs ≡ map g xs
@@ -121,7 +121,7 @@ there_either (z ∷ xs) y (suc k) x P e left last = there_either xs y k x P e le
 
 module _ (operations : List PlainOperation) (o : PlainOperation) (number : List ℕ → Bool → Option ℕ) (so : AreNumbers operations number) where
   abbrev pub firsts : List PlainOperation
-  firsts = firsts_behind [] operations
+  firsts = firsts_after [] operations
 
   -- the number that is kept for the name of this operation
   abbrev pub found : Option ℕ
@@ -136,7 +136,7 @@ module _ (operations : List PlainOperation) (o : PlainOperation) (number : List 
 
   -- a name that is known
   module _ (k : ℕ) (is : found ≡ Some k) where
-    pub same_firsts : firsts_behind [] (operations ++ o ∷ []) ≡ firsts
+    pub same_firsts : firsts_after [] (operations ++ o ∷ []) ≡ firsts
     same_firsts = firsts_push operations o ∙ ap (λ b. firsts ++ cond b [] (o ∷ [])) (seen (Some k) is) ∙ append-nil firsts
 
     known_still : (text : List ℕ) (static : Bool) (b : Bool) → is_named text static o ≡ b → list_any (is_named text static) operations ≡ (list_any (is_named text static) operations || b)
@@ -152,7 +152,7 @@ module _ (operations : List PlainOperation) (o : PlainOperation) (number : List 
 
   -- a name that is new
   module _ (is : found ≡ None) where
-    pub firsts_more : firsts_behind [] (operations ++ o ∷ []) ≡ firsts ++ o ∷ []
+    pub firsts_more : firsts_after [] (operations ++ o ∷ []) ≡ firsts ++ o ∷ []
     firsts_more = firsts_push operations o ∙ ap (λ b. firsts ++ cond b [] (o ∷ [])) (seen None is)
 
     pub other_name : (j : ℕ) (y : PlainOperation) → slice_get firsts j ≡ Some y → (b : Bool) → are_overloads y o ≡ b → b ≡ false

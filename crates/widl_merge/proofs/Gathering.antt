@@ -23,7 +23,7 @@ use Rattle.widl_idl.specs.declared.tree.members.MemberKind.{MemberKind}
 use Rattle.widl_idl.specs.declared.tree.members.MemberKind.TheVariants as member_kind
 use Rattle.widl_idl.specs.Counts.{AnyItem, NumberedAttr, NumberedConstant, NumberedOp, NumberedPairs, NumberedSig}
 use Rattle.widl_idl.specs.DefinitionTerms.{attr_term, constant_term, op_name_term, pair_term, sig_term}
-use Rattle.widl_idl.specs.MergedMembers.{attr_of, attribute_in, attributes_in, constant_in, constant_of, constants_in, constructor_in, constructors_of, firsts_behind, has, is_pair, is_pair_iterable, is_stringifier_attribute, op_names_of, operation_in, operation_text, operations_in, pair_in, pair_of, pairs_of, sig_of_operation, slots_behind, slots_of_kind, slots_of_stringifier, stringifier_from, stringify_kind}
+use Rattle.widl_idl.specs.MergedMembers.{attr_of, attribute_in, attributes_in, constant_in, constant_of, constants_in, constructor_in, constructors_of, firsts_after, has, is_pair, is_pair_iterable, is_stringifier_attribute, op_names_of, operation_in, operation_text, operations_in, pair_in, pair_of, pairs_of, sig_of_operation, slots_after, slots_of_kind, slots_of_stringifier, stringifier_from, stringify_kind}
 use Rattle.widl_idl.specs.MergingRules.{both_or_none, is_static}
 use Rattle.widl_idl.specs.PlainTypes.{PlainAnnotated, PlainAttribute, attribute_of}
 use Rattle.widl_idl.specs.PlainTrees.{PlainAttributeMember, PlainConstant, PlainConstructor, PlainDefinition, PlainIterable, PlainMember, PlainMemberKind, PlainOperation, ConstantMember, AttributeMember, OperationMember, ConstructorMember, StringifierMember, IterableMember, AsyncIterableMember, MaplikeMember, SetlikeMember, member_kind_of, member_of}
@@ -82,15 +82,15 @@ module _ (definitions : List PlainDefinition) (members : List PlainMember) (m : 
   text_same : stringify_kind (length (attributes_in members)) m.kind stringify.No stringify.No ≡ stringify.No → stringifier_from 0 members ≡ stringifier_from 0 grown
   text_same e = sym (stringifier_push members m ∙ ap (first_stringifier (stringifier_from 0 members)) e ∙ first_stays (stringifier_from 0 members))
 
-  order_same : slots_of_kind members m.kind ≡ [] → slots_behind [] members ≡ slots_behind [] grown
-  order_same e = sym (slots_push members m ∙ ap (λ l. slots_behind [] members ++ l) e ∙ append-nil (slots_behind [] members))
+  order_same : slots_of_kind members m.kind ≡ [] → slots_after [] members ≡ slots_after [] grown
+  order_same e = sym (slots_push members m ∙ ap (λ l. slots_after [] members ++ l) e ∙ append-nil (slots_after [] members))
 
 -- whether a member is of a kind that the list leaves out
-abbrev pub is_left_out : PlainMemberKind → Bool
-is_left_out (AsyncIterableMember i) = true
-is_left_out (MaplikeMember m) = true
-is_left_out (SetlikeMember s) = true
-is_left_out kind = false
+abbrev pub is_unsupported : PlainMemberKind → Bool
+is_unsupported (AsyncIterableMember i) = true
+is_unsupported (MaplikeMember m) = true
+is_unsupported (SetlikeMember s) = true
+is_unsupported kind = false
 
 -- a member that leaves all as it is
 pub nothing_more : (definitions : List PlainDefinition) (members : List PlainMember) (m : PlainMember) (old : MergedMembers) (number : List ℕ → Bool → Option ℕ)
@@ -134,8 +134,8 @@ module _ (definitions : List PlainDefinition) (members : List PlainMember) (attr
   attribute_count : length old.attrs ≡ length (attributes_in members)
   attribute_count = sym (length-map old.attrs attr_term) ∙ ap length g.attrs.terms ∙ length-map (attributes_in members) (attr_of definitions)
 
-  operation_count : length old.ops ≡ length (firsts_behind [] (operations_in members))
-  operation_count = sym (length-map old.ops op_name_term) ∙ ap length g.ops.terms ∙ length-map (firsts_behind [] (operations_in members)) _
+  operation_count : length old.ops ≡ length (firsts_after [] (operations_in members))
+  operation_count = sym (length-map old.ops op_name_term) ∙ ap length g.ops.terms ∙ length-map (firsts_after [] (operations_in members)) _
 
   pub constant_more : (k : PlainConstant) (constant : Constant) (consts : List Constant) (order : List Slot) (place : ℕ) → consts ≡ old.consts ++ constant ∷ [] → length consts < 4294967296 → constant_term constant ≡ constant_of definitions k → NumberedConstant constant
       → place ≡ length old.consts → order ≡ old.order ++ slot.Constant place ∷ [] → length order < 4294967296
@@ -187,7 +187,7 @@ module _ (definitions : List PlainDefinition) (members : List PlainMember) (attr
       stringifier_slots_are true = ap stringifier_slots g.text ∙ stringifier_slot members
       stringifier_slots_are false = refl
 
-      slots_are : map this_slot order ≡ slots_behind [] (members ++ m ∷ [])
+      slots_are : map this_slot order ≡ slots_after [] (members ++ m ∷ [])
       slots_are =
           this_all order ∙ rest ∙ ap (λ l. l ++ cond b (stringifier_slots old.text) []) (f ∙ ap (λ n. old.order ++ slot.Attr n ∷ []) (at ∙ attribute_count))
           ∙ ap (λ c. (old.order ++ slot.Attr (length (attributes_in members)) ∷ []) ++ cond c (stringifier_slots old.text) []) (sym kind)
@@ -249,7 +249,7 @@ module _ (definitions : List PlainDefinition) (members : List PlainMember) (attr
   none_either true = refl
   none_either false = refl
 
-  -- an iterable behind a pair iterable
+  -- an iterable after a pair iterable
   pub second_iterable : (i : PlainIterable) → is_some old.pairs ≡ true → Gathered definitions (members ++ with_kind (IterableMember i) ∷ []) old number
   second_iterable i there = let m = with_kind (IterableMember i) in
       nothing_more definitions members m old number refl refl refl refl
@@ -271,8 +271,8 @@ module _ (definitions : List PlainDefinition) (members : List PlainMember) (attr
     attrs = means_same attr_term NumberedAttr old.attrs _ _ (attributes_same definitions members m refl) g.attrs;
     consts = means_same constant_term NumberedConstant old.consts _ _ (constants_same definitions members m refl) g.consts;
     order = means_same this_slot AnyItem order _ _
-        (sym (slots_push members m ∙ ap (λ b. slots_behind [] members ++ cond b (cond (has is_pair_iterable members) [] (slot.Pairs ∷ [])) []) (pair_second i.first i.second ∙ ap is_some (sym is))
-        ∙ ap (λ b. slots_behind [] members ++ cond b [] (slot.Pairs ∷ [])) (has_then ∙ ap is_some none)))
+        (sym (slots_push members m ∙ ap (λ b. slots_after [] members ++ cond b (cond (has is_pair_iterable members) [] (slot.Pairs ∷ [])) []) (pair_second i.first i.second ∙ ap is_some (sym is))
+        ∙ ap (λ b. slots_after [] members ++ cond b [] (slot.Pairs ∷ [])) (has_then ∙ ap is_some none)))
         (means_more this_slot AnyItem old.order order slot.Pairs _ slot.Pairs e few refl tt g.order);
     text = g.text ∙ text_same definitions members m refl;
     pairs = is ∙ ap (λ o. option_or o (pair_of definitions i.first i.second)) (sym (sym g.pairs ∙ ap (option_map pair_term) none)) ∙ sym (pairs_push definitions members m);
@@ -291,7 +291,7 @@ module _ (definitions : List PlainDefinition) (members : List PlainMember) (attr
     ops = means_same op_name_term NumberedOp ops _ _ (ap (op_names_of definitions) (operations_more o)) (known_means definitions (operations_in members) o number g.numbers old.ops ops sig g.ops is numbered k known more);
     attrs = means_same attr_term NumberedAttr old.attrs _ _ (attributes_same definitions members m refl) g.attrs;
     consts = means_same constant_term NumberedConstant old.consts _ _ (constants_same definitions members m refl) g.consts;
-    order = means_same this_slot AnyItem old.order _ _ (order_same definitions members m (ap (λ b. cond b [] (slot.Op (length (firsts_behind [] (operations_in members))) ∷ [])) (seen (operations_in members) o number g.numbers (Some k) known))) g.order;
+    order = means_same this_slot AnyItem old.order _ _ (order_same definitions members m (ap (λ b. cond b [] (slot.Op (length (firsts_after [] (operations_in members))) ∷ [])) (seen (operations_in members) o number g.numbers (Some k) known))) g.order;
     text = g.text ∙ text_same definitions members m refl;
     pairs = g.pairs ∙ pairs_same definitions members m refl;
     numbered_pairs = g.numbered_pairs;
@@ -318,8 +318,8 @@ module _ (definitions : List PlainDefinition) (members : List PlainMember) (attr
     attrs = means_same attr_term NumberedAttr old.attrs _ _ (attributes_same definitions members m refl) g.attrs;
     consts = means_same constant_term NumberedConstant old.consts _ _ (constants_same definitions members m refl) g.consts;
     order = means_same this_slot AnyItem order _ _
-        (sym (slots_push members m ∙ ap (λ b. slots_behind [] members ++ cond b [] (slot.Op (length (firsts_behind [] (operations_in members))) ∷ [])) (seen (operations_in members) o number g.numbers None unknown)))
-        (means_more this_slot AnyItem old.order order (slot.Op place) _ (slot.Op (length (firsts_behind [] (operations_in members)))) e few_slots (ap slot.Op counted) tt g.order);
+        (sym (slots_push members m ∙ ap (λ b. slots_after [] members ++ cond b [] (slot.Op (length (firsts_after [] (operations_in members))) ∷ [])) (seen (operations_in members) o number g.numbers None unknown)))
+        (means_more this_slot AnyItem old.order order (slot.Op place) _ (slot.Op (length (firsts_after [] (operations_in members)))) e few_slots (ap slot.Op counted) tt g.order);
     text = g.text ∙ text_same definitions members m refl;
     pairs = g.pairs ∙ pairs_same definitions members m refl;
     numbered_pairs = g.numbered_pairs;
@@ -329,10 +329,10 @@ module _ (definitions : List PlainDefinition) (members : List PlainMember) (attr
       unknown : number (operation_text o.name) (is_static o.kind) ≡ None
       unknown = ap (λ t. number t (is_static o.kind)) (sym is_text) ∙ ap (number text) (sym is_fixed) ∙ none
 
-      counted : place ≡ length (firsts_behind [] (operations_in members))
+      counted : place ≡ length (firsts_after [] (operations_in members))
       counted = at ∙ operation_count
 
-      kept : (other : List ℕ) (static : Bool) → now other static ≡ cond (is_named other static o) (Some (length (firsts_behind [] (operations_in members)))) (number other static)
+      kept : (other : List ℕ) (static : Bool) → now other static ≡ cond (is_named other static o) (Some (length (firsts_after [] (operations_in members)))) (number other static)
       kept other static =
           keeps other static ∙ ap (λ t. cond (bytes_eq t other && both_or_none static fixed) (Some place) (number other static)) is_text
           ∙ ap (λ f. cond (bytes_eq (operation_text o.name) other && both_or_none static f) (Some place) (number other static)) is_fixed
@@ -386,7 +386,7 @@ pub of_kind : (definitions : List PlainDefinition) (members : List PlainMember) 
 of_kind definitions members m kind new number is = subst (λ k. Gathered definitions (members ++ record { attributes = map attribute_of m.attributes; kind = member_kind_of k } ∷ []) new number) (sym is)
 
 -- a member that is neither of the list nor changes it
-pub no_more : (definitions : List PlainDefinition) (members : List PlainMember) (attributes : List PlainAttribute) (kind : PlainMemberKind) (old : MergedMembers) (number : List ℕ → Bool → Option ℕ) → is_left_out kind ≡ true
+pub no_more : (definitions : List PlainDefinition) (members : List PlainMember) (attributes : List PlainAttribute) (kind : PlainMemberKind) (old : MergedMembers) (number : List ℕ → Bool → Option ℕ) → is_unsupported kind ≡ true
     → Gathered definitions members old number → Gathered definitions (members ++ record { attributes = attributes; kind = kind } ∷ []) old number
 no_more definitions members attributes (AsyncIterableMember i) old number e = let m : PlainMember = record { attributes = attributes; kind = AsyncIterableMember i } in nothing_more definitions members m old number refl refl refl refl (pairs_same definitions members m refl) refl refl
 no_more definitions members attributes (MaplikeMember k) old number e = let m : PlainMember = record { attributes = attributes; kind = MaplikeMember k } in nothing_more definitions members m old number refl refl refl refl (pairs_same definitions members m refl) refl refl
@@ -402,9 +402,9 @@ pub none_of : {X : Type 0} (o : Option X) → is_some o ≡ false → o ≡ None
 none_of None e = refl
 none_of (Some x) e = absurd (cc)
 
-pub left_out_more : (definitions : List PlainDefinition) (members : List PlainMember) (m : Member) (old : MergedMembers) (number : List ℕ → Bool → Option ℕ)
+pub unsupported_more : (definitions : List PlainDefinition) (members : List PlainMember) (m : Member) (old : MergedMembers) (number : List ℕ → Bool → Option ℕ)
     → ((x : AsyncIterable) × (m.kind ≡ member_kind.AsyncIterable x)) ⊎ (((x : Maplike) × (m.kind ≡ member_kind.Maplike x)) ⊎ ((x : Setlike) × (m.kind ≡ member_kind.Setlike x)))
     → Gathered definitions members old number → Gathered definitions (members ++ member_of m ∷ []) old number
-left_out_more definitions members m old number (inl p) g = of_kind definitions members m (member_kind.AsyncIterable p.0) old number p.1 (no_more definitions members (map attribute_of m.attributes) (member_kind_of (member_kind.AsyncIterable p.0)) old number refl g)
-left_out_more definitions members m old number (inr (inl p)) g = of_kind definitions members m (member_kind.Maplike p.0) old number p.1 (no_more definitions members (map attribute_of m.attributes) (member_kind_of (member_kind.Maplike p.0)) old number refl g)
-left_out_more definitions members m old number (inr (inr p)) g = of_kind definitions members m (member_kind.Setlike p.0) old number p.1 (no_more definitions members (map attribute_of m.attributes) (member_kind_of (member_kind.Setlike p.0)) old number refl g)
+unsupported_more definitions members m old number (inl p) g = of_kind definitions members m (member_kind.AsyncIterable p.0) old number p.1 (no_more definitions members (map attribute_of m.attributes) (member_kind_of (member_kind.AsyncIterable p.0)) old number refl g)
+unsupported_more definitions members m old number (inr (inl p)) g = of_kind definitions members m (member_kind.Maplike p.0) old number p.1 (no_more definitions members (map attribute_of m.attributes) (member_kind_of (member_kind.Maplike p.0)) old number refl g)
+unsupported_more definitions members m old number (inr (inr p)) g = of_kind definitions members m (member_kind.Setlike p.0) old number p.1 (no_more definitions members (map attribute_of m.attributes) (member_kind_of (member_kind.Setlike p.0)) old number refl g)

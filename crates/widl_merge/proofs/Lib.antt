@@ -1,4 +1,4 @@
-pub mod LeftOut
+pub mod Unsupported
 pub mod OneRefusal
 pub mod NameRules
 pub mod Portioned

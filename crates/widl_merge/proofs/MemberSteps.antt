@@ -7,21 +7,21 @@ use Rattle.widl_text.specs.declared.place.Place.{Place}
 use Rattle.widl_idl.specs.declared.interface.Slot.TheVariants as slot
 use Rattle.widl_idl.specs.declared.interface.Stringify.{Stringify}
 use Rattle.widl_idl.specs.declared.interface.Stringify.TheVariants as stringify
-use Rattle.widl_idl.specs.MergedMembers.{attributes_in, first_in, has, is_pair_iterable, is_stringifier, is_stringifier_attribute, pair_in, pair_of, pairs_of, slots_behind, slots_of_kind, slots_of_stringifier, stringifier_from, stringify_kind}
+use Rattle.widl_idl.specs.MergedMembers.{attributes_in, first_in, has, is_pair_iterable, is_stringifier, is_stringifier_attribute, pair_in, pair_of, pairs_of, slots_after, slots_of_kind, slots_of_stringifier, stringifier_from, stringify_kind}
 use Rattle.widl_idl.specs.PlainTypes.{PlainAnnotated, PlainAttribute}
 use Rattle.widl_idl.specs.PlainTrees.{PlainDefinition, PlainMember, PlainMemberKind, ConstantMember, AttributeMember, OperationMember, ConstructorMember, StringifierMember, IterableMember, AsyncIterableMember, MaplikeMember, SetlikeMember}
 use Rattle.widl_merge.specs.PutTogether.{first_stringifier, stringifier_slots}
 
-slots_behind_push : (before members : List PlainMember) (m : PlainMember) → slots_behind before (members ++ m ∷ []) ≡ slots_behind before members ++ slots_of_kind (before ++ members) m.kind
-slots_behind_push before [] m = append-nil (slots_of_kind before m.kind) ∙ ap (λ l. slots_of_kind l m.kind) (sym (append-nil before))
-slots_behind_push before (x ∷ more) m =
-    ap (λ l. slots_of_kind before x.kind ++ l) (slots_behind_push (before ++ x ∷ []) more m ∙ ap (λ l. slots_behind (before ++ x ∷ []) more ++ slots_of_kind l m.kind) (append_assoc before (x ∷ []) more))
-    ∙ sym (append_assoc (slots_of_kind before x.kind) (slots_behind (before ++ x ∷ []) more) (slots_of_kind (before ++ x ∷ more) m.kind))
+slots_after_push : (before members : List PlainMember) (m : PlainMember) → slots_after before (members ++ m ∷ []) ≡ slots_after before members ++ slots_of_kind (before ++ members) m.kind
+slots_after_push before [] m = append-nil (slots_of_kind before m.kind) ∙ ap (λ l. slots_of_kind l m.kind) (sym (append-nil before))
+slots_after_push before (x ∷ more) m =
+    ap (λ l. slots_of_kind before x.kind ++ l) (slots_after_push (before ++ x ∷ []) more m ∙ ap (λ l. slots_after (before ++ x ∷ []) more ++ slots_of_kind l m.kind) (append_assoc before (x ∷ []) more))
+    ∙ sym (append_assoc (slots_of_kind before x.kind) (slots_after (before ++ x ∷ []) more) (slots_of_kind (before ++ x ∷ more) m.kind))
 
-pub slots_push : (members : List PlainMember) (m : PlainMember) → slots_behind [] (members ++ m ∷ []) ≡ slots_behind [] members ++ slots_of_kind members m.kind
-slots_push members m = slots_behind_push [] members m
+pub slots_push : (members : List PlainMember) (m : PlainMember) → slots_after [] (members ++ m ∷ []) ≡ slots_after [] members ++ slots_of_kind members m.kind
+slots_push members m = slots_after_push [] members m
 
--- a stringifier behind others, of which the attributes are counted from `number` on
+-- a stringifier after others, of which the attributes are counted from `number` on
 abbrev pub next_stringifier : ℕ → List PlainMember → PlainMember → Stringify
 next_stringifier number members m = stringify_kind (number + length (attributes_in members)) m.kind stringify.No stringify.No
 
@@ -32,7 +32,7 @@ module _ (members : List PlainMember) (m : PlainMember) where
   abbrev Pushed : ℕ → Type 0
   Pushed number = whole number ≡ first_stringifier (stringifier_from number members) (next_stringifier number members m)
 
-  -- behind one of these kinds, by what is known of the members after it
+  -- after one of these kinds, by what is known of the members after it
   pushed_kind : (number : ℕ) (attributes : List PlainAttribute) (kind : PlainMemberKind) → Pushed number → Pushed (number + 1)
       → stringify_kind number kind (whole number) (whole (number + 1))
       ≡ first_stringifier (stringify_kind number kind (stringifier_from number members) (stringifier_from (number + 1) members)) (next_stringifier number (record { attributes = attributes; kind = kind } ∷ members) m)
@@ -56,12 +56,12 @@ module _ (members : List PlainMember) (m : PlainMember) where
 single_stringifier : (number : ℕ) (kind : PlainMemberKind) → stringify_kind number kind stringify.No stringify.No ≡ stringify_kind (number + 0) kind stringify.No stringify.No
 single_stringifier number kind = let same : number ≡ number + 0 = omega arith in ap (λ n. stringify_kind n kind stringify.No stringify.No) same
 
-stringifier_behind : (number : ℕ) (members : List PlainMember) (m : PlainMember) → stringifier_from number (members ++ m ∷ []) ≡ first_stringifier (stringifier_from number members) (next_stringifier number members m)
-stringifier_behind number [] m = single_stringifier number m.kind
-stringifier_behind number (x ∷ more) m = pushed_kind more m number x.attributes x.kind (stringifier_behind number more m) (stringifier_behind (number + 1) more m)
+stringifier_after : (number : ℕ) (members : List PlainMember) (m : PlainMember) → stringifier_from number (members ++ m ∷ []) ≡ first_stringifier (stringifier_from number members) (next_stringifier number members m)
+stringifier_after number [] m = single_stringifier number m.kind
+stringifier_after number (x ∷ more) m = pushed_kind more m number x.attributes x.kind (stringifier_after number more m) (stringifier_after (number + 1) more m)
 
 pub stringifier_push : (members : List PlainMember) (m : PlainMember) → stringifier_from 0 (members ++ m ∷ []) ≡ first_stringifier (stringifier_from 0 members) (stringify_kind (length (attributes_in members)) m.kind stringify.No stringify.No)
-stringifier_push members m = let same : 0 + length (attributes_in members) ≡ length (attributes_in members) = omega arith in stringifier_behind 0 members m ∙ ap (λ n. first_stringifier (stringifier_from 0 members) (stringify_kind n m.kind stringify.No stringify.No)) same
+stringifier_push members m = let same : 0 + length (attributes_in members) ≡ length (attributes_in members) = omega arith in stringifier_after 0 members m ∙ ap (λ n. first_stringifier (stringifier_from 0 members) (stringify_kind n m.kind stringify.No stringify.No)) same
 
 abbrev is_there : Stringify → Bool
 is_there stringify.No = false

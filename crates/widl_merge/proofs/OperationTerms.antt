@@ -8,7 +8,7 @@ use Rattle.widl_idl.specs.declared.operation.OpName.{OpName}
 use Rattle.widl_idl.specs.declared.signature.Sig.{Sig}
 use Rattle.widl_idl.specs.Counts.{IsNumbered, NumberedOp, NumberedSig}
 use Rattle.widl_idl.specs.DefinitionTerms.{OpNameTerm, SigTerm, op_name_term, sig_term}
-use Rattle.widl_idl.specs.MergedMembers.{are_overloads, firsts_behind, op_name_of, op_names_of, operation_text, sig_of_operation}
+use Rattle.widl_idl.specs.MergedMembers.{are_overloads, firsts_after, op_name_of, op_names_of, operation_text, sig_of_operation}
 use Rattle.widl_idl.specs.MergingRules.{is_static}
 use Rattle.widl_idl.specs.PlainTrees.{PlainDefinition, PlainOperation}
 use Rattle.widl_idl.specs.WrittenLiterals.{units_of}
@@ -32,7 +32,7 @@ module _ (definitions : List PlainDefinition) (operations : List PlainOperation)
   after = op_name_of definitions (operations ++ o ∷ [])
 
   abbrev all_firsts : List PlainOperation
-  all_firsts = firsts_behind [] operations
+  all_firsts = firsts_after [] operations
 
   -- a signature more for a name that is known
   module _ (k : ℕ) (known : number (operation_text o.name) (is_static o.kind) ≡ Some k) (more : HasOverload old new k sig) where

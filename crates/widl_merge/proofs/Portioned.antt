@@ -7,13 +7,13 @@ use Rattle.std.proofs.lemmas.List.Elements.{filter-append}
 use Rattle.std.proofs.lemmas.List.Sums.{sum_by_push}
 use Rattle.std.proofs.lemmas.Slice.Eq.{bytes_eq-Decides}
 use Rattle.indexmap.specs.IndexMap.{IndexMap, get_by}
-use Rattle.widl_idl.specs.declared.spot.Spot.{Spot}
+use Rattle.widl_idl.specs.declared.violation.Violation.{Violation}
 use Rattle.widl_idl.specs.declared.tree.definitions.Definition.{Definition}
 use Rattle.widl_idl.specs.PlainTrees.{PlainDefinition, PlainKind, definition_of}
 use Rattle.widl_names.specs.Listings.{listed_definitions}
 use Rattle.widl_names.proofs.PlainLists.{listed_more}
 use Rattle.widl_names.proofs.Pushed.{at_one_push}
-use Rattle.widl_idl.specs.Least.{LeastWhere, AtOne, lesser, spot_at}
+use Rattle.widl_idl.specs.First.{FirstWhere, AtOne, earlier, violation_at}
 use Rattle.widl_idl.specs.MergingRules as written
 use Rattle.widl_idl.specs.MergingRules.{PassesLimit, member_total, portion_of, portions_from}
 use Rattle.widl_idl.specs.Parts.{adds_to, is_mixin, members_in}
@@ -67,32 +67,32 @@ portions_push all n (first ∷ more) d =
     ap (λ ps. portion_of all n first.kind ++ ps) (portions_push all (n + 1) more d ∙ ap (λ m. portions_from all (n + 1) more ++ portion_of all m d.kind) k)
     ∙ sym (append_assoc (portion_of all n first.kind) (portions_from all (n + 1) more) (portion_of all (n + length (first ∷ more)) d.kind))
 
--- the sum of the portions as far as its limit, and the least spot at which it passes the limit
-pub record SumsUp (portions : List written.Portion) (sum : ℕ) (best : Option Spot) : Type 0 where
+-- the sum of the portions as far as its limit, and the first violation at which it passes the limit
+pub record SumsUp (portions : List written.Portion) (sum : ℕ) (best : Option Violation) : Type 0 where
   pub total : sum ≡ capped (sum_by (λ p. p.size) portions)
-  pub least : LeastWhere (AtOne PassesLimit portions) best
+  pub earliest : FirstWhere (AtOne PassesLimit portions) best
 
 pub nothing_summed : SumsUp [] 0 None
-nothing_summed = record { total = refl; least = λ s u. absurd (let below = u.below in omega arith) }
+nothing_summed = record { total = refl; earliest = λ s u. absurd (let below = u.below in omega arith) }
 
-passed_at : (sum : ℕ) (before : List written.Portion) (y : written.Portion) (p : Portion) (found : Option Spot) → sum ≡ capped (sum_by (λ p. p.size) before) → p.at ≡ y.at → p.size ≡ capped y.size
-    → found ≡ cond (nat_lt sum 1000001 && nat_lt 1000000 (capped (sum + p.size))) (Some (spot_at p.at)) None → LeastWhere (PassesLimit before y) found
+passed_at : (sum : ℕ) (before : List written.Portion) (y : written.Portion) (p : Portion) (found : Option Violation) → sum ≡ capped (sum_by (λ p. p.size) before) → p.at ≡ y.at → p.size ≡ capped y.size
+    → found ≡ cond (nat_lt sum 1000001 && nat_lt 1000000 (capped (sum + p.size))) (Some (violation_at p.at)) None → FirstWhere (PassesLimit before y) found
 passed_at sum before y p found total at size e =
     one_place ((sum_by (λ p. p.size) before ≤ 1000000) × (1000000 < sum_by (λ p. p.size) before + y.size)) y.at (nat_lt sum 1000001 && nat_lt 1000000 (capped (sum + p.size))) found
-    (λ h. (grind arith, grind arith)) (λ h q. let first = q.0 in let second = q.1 in grind arith) (e ∙ ap (λ place. cond (nat_lt sum 1000001 && nat_lt 1000000 (capped (sum + p.size))) (Some (spot_at place)) None) at)
+    (λ h. (grind arith, grind arith)) (λ h q. let first = q.0 in let second = q.1 in grind arith) (e ∙ ap (λ place. cond (nat_lt sum 1000001 && nat_lt 1000000 (capped (sum + p.size))) (Some (violation_at place)) None) at)
 
-lesser_none : (best : Option Spot) → lesser best None ≡ best
-lesser_none None = refl
-lesser_none (Some best) = refl
+earlier_none : (best : Option Violation) → earlier best None ≡ best
+earlier_none None = refl
+earlier_none (Some best) = refl
 
 head_is : {x y : written.Portion} {xs ys : List written.Portion} → x ∷ xs ≡ y ∷ ys → x ≡ y
 head_is e = (cc)
 
-pub portion_step : (portions q : List written.Portion) (r : Option Portion) (sum after : ℕ) (best found now : Option Spot) → AreFound r q → found ≡ option_and_then (λ p. cond (nat_lt sum 1000001 && nat_lt 1000000 (capped (sum + p.size))) (Some (spot_at p.at)) None) r
-    → now ≡ lesser best found → after ≡ option_map_or (λ p. capped (sum + p.size)) r sum → SumsUp portions sum best → SumsUp (portions ++ q) after now
+pub portion_step : (portions q : List written.Portion) (r : Option Portion) (sum after : ℕ) (best found now : Option Violation) → AreFound r q → found ≡ option_and_then (λ p. cond (nat_lt sum 1000001 && nat_lt 1000000 (capped (sum + p.size))) (Some (violation_at p.at)) None) r
+    → now ≡ earlier best found → after ≡ option_map_or (λ p. capped (sum + p.size)) r sum → SumsUp portions sum best → SumsUp (portions ++ q) after now
 portion_step portions [] None sum after best found now are e n a s = record {
   total = a ∙ s.total ∙ ap (λ ps. capped (sum_by (λ p. p.size) ps)) (sym (append-nil portions));
-  least = subst (λ ps. LeastWhere (AtOne PassesLimit ps) now) (sym (append-nil portions)) (subst (LeastWhere (AtOne PassesLimit portions)) (sym (n ∙ ap (lesser best) e ∙ lesser_none best)) s.least);
+  earliest = subst (λ ps. FirstWhere (AtOne PassesLimit ps) now) (sym (append-nil portions)) (subst (FirstWhere (AtOne PassesLimit portions)) (sym (n ∙ ap (earlier best) e ∙ earlier_none best)) s.earliest);
 }
 portion_step portions (y ∷ []) (Some p) sum after best found now are e n a s =
     let same : as_written p ≡ capped_portion y = head_is are in
@@ -101,16 +101,16 @@ portion_step portions (y ∷ []) (Some p) sum after best found now are e n a s =
     let before = s.total in
     record {
       total = omega (arith, a, size, more, before);
-      least = subst (LeastWhere (AtOne PassesLimit (portions ++ y ∷ []))) (sym n) (at_one_push PassesLimit portions y best found s.least (passed_at sum portions y p found s.total (ap (λ x. x.at) same) size e));
+      earliest = subst (FirstWhere (AtOne PassesLimit (portions ++ y ∷ []))) (sym n) (at_one_push PassesLimit portions y best found s.earliest (passed_at sum portions y p found s.total (ap (λ x. x.at) same) size e));
     }
 portion_step portions (y ∷ ys) None sum after best found now are e n a s = absurd (cc)
 portion_step portions [] (Some p) sum after best found now are e n a s = absurd (cc)
 portion_step portions (y ∷ z ∷ zs) (Some p) sum after best found now are e n a s = absurd (cc)
 
 -- one definition more, as a loop over the definitions has it
-pub sum_step : (all : List PlainDefinition) (definitions : List (Bor Definition)) (i : ℕ) (d : Bor Definition) (r : Option Portion) (sum after : ℕ) (best found now : Option Spot) → i < length definitions → d ≡ get_or definitions i d
-    → AreFound r (portion_of all i (definition_of d.now).kind) → found ≡ option_and_then (λ p. cond (nat_lt sum 1000001 && nat_lt 1000000 (capped (sum + p.size))) (Some (spot_at p.at)) None) r
-    → now ≡ lesser best found → after ≡ option_map_or (λ p. capped (sum + p.size)) r sum → SumsUp (portions_from all 0 (listed_definitions (take i definitions))) sum best
+pub sum_step : (all : List PlainDefinition) (definitions : List (Bor Definition)) (i : ℕ) (d : Bor Definition) (r : Option Portion) (sum after : ℕ) (best found now : Option Violation) → i < length definitions → d ≡ get_or definitions i d
+    → AreFound r (portion_of all i (definition_of d.now).kind) → found ≡ option_and_then (λ p. cond (nat_lt sum 1000001 && nat_lt 1000000 (capped (sum + p.size))) (Some (violation_at p.at)) None) r
+    → now ≡ earlier best found → after ≡ option_map_or (λ p. capped (sum + p.size)) r sum → SumsUp (portions_from all 0 (listed_definitions (take i definitions))) sum best
     → SumsUp (portions_from all 0 (listed_definitions (take (i + 1) definitions))) after now
 sum_step all definitions i d r sum after best found now below is are e n a s =
     let before = listed_definitions (take i definitions) in
@@ -120,6 +120,6 @@ sum_step all definitions i d r sum after best found now below is are e n a s =
     ap (portions_from all 0) (listed_more definitions i d below is) ∙ portions_push all 0 before (definition_of d.now) ∙ ap (λ k. portions_from all 0 before ++ portion_of all k (definition_of d.now).kind) place in
     subst (λ ps. SumsUp ps after now) (sym more) (portion_step (portions_from all 0 before) (portion_of all i (definition_of d.now).kind) r sum after best found now are e n a s)
 
-pub sum_all : (all : List PlainDefinition) (definitions : List (Bor Definition)) (i : ℕ) (sum : ℕ) (best : Option Spot) → length definitions ≤ i → listed_definitions definitions ≡ all → SumsUp (portions_from all 0 (listed_definitions (take i definitions))) sum best
-    → LeastWhere (AtOne PassesLimit (portions_from all 0 all)) best
-sum_all all definitions i sum best past same s = subst (λ ds. LeastWhere (AtOne PassesLimit (portions_from all 0 ds)) best) (ap listed_definitions (take_all i definitions past) ∙ same) s.least
+pub sum_all : (all : List PlainDefinition) (definitions : List (Bor Definition)) (i : ℕ) (sum : ℕ) (best : Option Violation) → length definitions ≤ i → listed_definitions definitions ≡ all → SumsUp (portions_from all 0 (listed_definitions (take i definitions))) sum best
+    → FirstWhere (AtOne PassesLimit (portions_from all 0 all)) best
+sum_all all definitions i sum best past same s = subst (λ ds. FirstWhere (AtOne PassesLimit (portions_from all 0 ds)) best) (ap listed_definitions (take_all i definitions past) ∙ same) s.earliest

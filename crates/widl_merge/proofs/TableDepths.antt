@@ -1,14 +1,14 @@
 -- The depths of types by a table of the depths of typedefs.
 use Rattle.std.proofs.Common.{◌≡◌, ℕ, ◌+◌, ◌<◌, Bool, true, false, cond, List, length, Option, None, Some, option_map, slice_get, arith, refl, sym, ap, ◌∙◌}
 use Rattle.std.specs.Prelude.{option_and_then}
-use Rattle.widl_idl.specs.declared.spot.Spot.{Spot}
-use Rattle.widl_idl.specs.Least.{LeastWhere, spot_at}
+use Rattle.widl_idl.specs.declared.violation.Violation.{Violation}
+use Rattle.widl_idl.specs.First.{FirstWhere, violation_at}
 use Rattle.widl_idl.specs.Meanings.{meaning, meant}
 use Rattle.widl_idl.specs.MergingRules.{NestsDeep}
 use Rattle.widl_idl.specs.Nesting.{depth_of, meant_depth, named_depth, type_depth}
 use Rattle.widl_idl.specs.PlainTypes.{PlainName, PlainType, plain_type}
 use Rattle.widl_idl.specs.PlainTrees.{PlainDefinition, PlainKind, TypedefDefinition}
-use Rattle.widl_idl.specs.Things.{TypeThing}
+use Rattle.widl_idl.specs.Nodes.{TypeNode}
 use Rattle.widl_idl.proofs.Order.{one_place}
 use Rattle.widl_text.specs.declared.place.Place.{Place}
 use Rattle.widl_merge.specs.Depths.{capped, is_deep, AreCapped, TellsDepths, kept_depth, table_depth}
@@ -22,7 +22,7 @@ kept_capped depths (Some n) all = all.same n
 meant_capped : (kept : Option ℕ) (kind : Option PlainKind) → capped kept ≡ kept → capped (meant_depth (λ ty. kept) kind) ≡ meant_depth (λ ty. kept) kind
 meant_capped kept None same = refl
 meant_capped kept (Some (TypedefDefinition t)) same = same
-meant_capped kept (Some kind) same = let least : capped (meant_depth (λ ty. kept) (Some kind)) ≡ meant_depth (λ ty. kept) (Some kind) = refl in least
+meant_capped kept (Some kind) same = let earliest : capped (meant_depth (λ ty. kept) (Some kind)) ≡ meant_depth (λ ty. kept) (Some kind) = refl in earliest
 
 pub table_capped : (definitions : List PlainDefinition) (depths : List (Option ℕ)) (name : PlainName) → AreCapped depths → capped (table_depth definitions depths name) ≡ table_depth definitions depths name
 unfolding table_depth
@@ -51,7 +51,7 @@ abbrev pub place_of : PlainType → Place
 place_of (plain_type at form question) = at
 
 -- at a type's first token, by the depth that the table gives
-pub deep_here : (definitions : List PlainDefinition) (depths : List (Option ℕ)) (t : PlainType) (depth : Option ℕ) (b : Bool) (found : Option Spot) → AreCapped depths → TellsDepths definitions depths → depth ≡ capped (type_depth (table_depth definitions depths) t) → b ≡ is_deep depth → found ≡ cond b (Some (spot_at (place_of t))) None → LeastWhere (NestsDeep definitions (TypeThing t)) found
+pub deep_here : (definitions : List PlainDefinition) (depths : List (Option ℕ)) (t : PlainType) (depth : Option ℕ) (b : Bool) (found : Option Violation) → AreCapped depths → TellsDepths definitions depths → depth ≡ capped (type_depth (table_depth definitions depths) t) → b ≡ is_deep depth → found ≡ cond b (Some (violation_at (place_of t))) None → FirstWhere (NestsDeep definitions (TypeNode t)) found
 deep_here definitions depths (plain_type at form question) depth b found all tells depth_is b_is is =
     one_place ((deep : ℕ) × (depth_of definitions t ≡ Some deep) × (16 < deep)) at b found
     (λ e. deep_within (depth_of definitions t) (sym tested ∙ e))

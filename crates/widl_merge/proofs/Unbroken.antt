@@ -11,10 +11,10 @@ use Rattle.widl_idl.specs.declared.kind.Kind.TheVariants as kinds
 use Rattle.widl_idl.specs.declared.merging_rule.MergingRule.{MergingRule}
 use Rattle.widl_idl.specs.declared.merging_rule.MergingRule.TheVariants as rule
 use Rattle.widl_idl.specs.declared.profile_rule.ProfileRule.{ProfileRule}
-use Rattle.widl_idl.specs.declared.profile_rule.ProfileRule.TheVariants as left_out
+use Rattle.widl_idl.specs.declared.profile_rule.ProfileRule.TheVariants as unsupported
 use Rattle.widl_idl.specs.declared.refusal.Refusal.{Refusal}
-use Rattle.widl_idl.specs.Least.{AtOne, spot_at}
-use Rattle.widl_idl.specs.LeastRefusal.{LeastBroken, refusal_at}
+use Rattle.widl_idl.specs.First.{AtOne, violation_at}
+use Rattle.widl_idl.specs.FirstRefusal.{FirstBroken, refusal_at}
 use Rattle.widl_idl.specs.Meanings.{definitions_of, is_text_of, kind_of, main_name, meaning, meaning_from, meant_kind, same_kind}
 use Rattle.widl_idl.specs.MergingRules.{AtName, HasOtherParent, IsSecondDefinition, merging_number, merging_rules, parent_of}
 use Rattle.widl_idl.specs.PlainTypes.{PlainName}
@@ -23,7 +23,7 @@ use Rattle.widl_idl.specs.Profile.{BreaksProfile, profile_number, profile_rules}
 use Rattle.widl_names.proofs.NamedParts.{meant_at}
 use Rattle.widl_merge.specs.GrownLists.{AreKept, HasParentOf, Means, MeansItself}
 use Rattle.widl_merge.specs.MergedDefs.{AreMerged, BreakNone}
-use Rattle.widl_merge.specs.Refusals.{IsRefusal, IsRefusalBehind}
+use Rattle.widl_merge.specs.Refusals.{IsRefusal, IsRefusalAfter}
 
 some_is : {A : Type 0} {a b : A} → Some a ≡ Some b → a ≡ b
 some_is e = (cc)
@@ -76,11 +76,11 @@ module _ (all : List PlainDefinition) (kept : AreKept all) (n : ℕ) (d : PlainD
   first_of_name : (name : PlainName) → main_name d.kind ≡ Some name → is_some (meaning (take n all) name.text) ≡ false
   first_of_name name named = by_case (is_some (meaning (take n all) name.text)) refl
     where
-      second : is_some (meaning (take n all) name.text) ≡ true → AtOne IsSecondDefinition all (spot_at name.at)
-      second e = record { index = n; below = below; item = d; is = is; breaks = subst (λ m. AtName m (λ x. is_some (meaning (take n all) x.text) ≡ true) (spot_at name.at)) (sym named) (e, refl) }
+      second : is_some (meaning (take n all) name.text) ≡ true → AtOne IsSecondDefinition all (violation_at name.at)
+      second e = record { index = n; below = below; item = d; is = is; breaks = subst (λ m. AtName m (λ x. is_some (meaning (take n all) x.text) ≡ true) (violation_at name.at)) (sym named) (e, refl) }
 
       by_case : (b : Bool) → is_some (meaning (take n all) name.text) ≡ b → is_some (meaning (take n all) name.text) ≡ false
-      by_case true e = absurd (kept rule.SecondDefinition (spot_at name.at) (second e))
+      by_case true e = absurd (kept rule.SecondDefinition (violation_at name.at) (second e))
       by_case false e = e
 
   means_it : (name : PlainName) → main_name d.kind ≡ Some name → meaning all name.text ≡ Some n
@@ -100,15 +100,15 @@ module _ (all : List PlainDefinition) (kept : AreKept all) (n : ℕ) (d : PlainD
           let t : same_kind other (kind_of d.kind) ≡ true = ap (λ k. same_kind k (kind_of d.kind)) same ∙ itself_same (kind_of d.kind) in
           let f : true ≡ false = sym t ∙ e in (cc)
 
-      broken : same_kind other (kind_of d.kind) ≡ false → HasOtherParent all d (spot_at name.at)
-      broken e = subst (λ p. AtName p (λ x. meant_kind all x.text ≡ Some (kind_of d.kind) → ⊥) (spot_at name.at)) (sym has) (unlike e, refl)
+      broken : same_kind other (kind_of d.kind) ≡ false → HasOtherParent all d (violation_at name.at)
+      broken e = subst (λ p. AtName p (λ x. meant_kind all x.text ≡ Some (kind_of d.kind) → ⊥) (violation_at name.at)) (sym has) (unlike e, refl)
 
       listed : Contains all d
       listed = (n, below, some_is (sym (slice_get-get_or all n d below) ∙ is))
 
       by_case : (b : Bool) → same_kind other (kind_of d.kind) ≡ b → other ≡ kind_of d.kind
       by_case true e = same_kind_is other (kind_of d.kind) e
-      by_case false e = absurd (kept rule.ParentOfOtherKind (spot_at name.at) (record { item = d; listed = listed; breaks = broken e }))
+      by_case false e = absurd (kept rule.ParentOfOtherKind (violation_at name.at) (record { item = d; listed = listed; breaks = broken e }))
 
 -- the name of a definition of this number means it, where no rule of merging is broken
 pub means_itself : (all : List PlainDefinition) (n : ℕ) (kind : PlainKind) → AreKept all → option_map (λ (d : PlainDefinition). d.kind) (slice_get all n) ≡ Some kind → MeansItself all n kind
@@ -119,19 +119,19 @@ means_itself all n kind kept there = by_case (slice_get all n) refl there
     by_case (Some d) is e = subst (MeansItself all n) (some_is e) (record { itself = it_itself all kept n d is; parent = its_parent all kept n d is })
 
 profile_listed : (r : ProfileRule) → Contains profile_rules r
-profile_listed left_out.FloatingPoint = (0, omega arith, refl)
-profile_listed left_out.BigInt = (1, omega arith, refl)
-profile_listed left_out.Buffer = (2, omega arith, refl)
-profile_listed left_out.Symbol = (3, omega arith, refl)
-profile_listed left_out.Asynchronous = (4, omega arith, refl)
-profile_listed left_out.ObservableArray = (5, omega arith, refl)
-profile_listed left_out.MapOrSet = (6, omega arith, refl)
-profile_listed left_out.ValueIterable = (7, omega arith, refl)
-profile_listed left_out.SpecialOperation = (8, omega arith, refl)
-profile_listed left_out.InheritedAttribute = (9, omega arith, refl)
-profile_listed left_out.CallbackInterfaceConstant = (10, omega arith, refl)
-profile_listed left_out.UnlistedAttribute = (11, omega arith, refl)
-profile_listed left_out.FrozenArray = (12, omega arith, refl)
+profile_listed unsupported.FloatingPoint = (0, omega arith, refl)
+profile_listed unsupported.BigInt = (1, omega arith, refl)
+profile_listed unsupported.Buffer = (2, omega arith, refl)
+profile_listed unsupported.Symbol = (3, omega arith, refl)
+profile_listed unsupported.Asynchronous = (4, omega arith, refl)
+profile_listed unsupported.ObservableArray = (5, omega arith, refl)
+profile_listed unsupported.MapOrSet = (6, omega arith, refl)
+profile_listed unsupported.ValueIterable = (7, omega arith, refl)
+profile_listed unsupported.SpecialOperation = (8, omega arith, refl)
+profile_listed unsupported.InheritedAttribute = (9, omega arith, refl)
+profile_listed unsupported.CallbackInterfaceConstant = (10, omega arith, refl)
+profile_listed unsupported.UnlistedAttribute = (11, omega arith, refl)
+profile_listed unsupported.FrozenArray = (12, omega arith, refl)
 
 merging_listed : (r : MergingRule) → Contains merging_rules r
 merging_listed rule.SecondDefinition = (0, omega arith, refl)
@@ -153,11 +153,11 @@ is_merged fragments defs files so = record { files = files; unbroken = record { 
 
 -- without a refusal no rule is broken
 pub breaks_none : (all : List PlainDefinition) → IsRefusal all None → BreakNone all
-breaks_none all none = by_profile none.profile none.profile_is none.behind
+breaks_none all none = by_profile none.profile none.profile_is none.after
   where
-    by_profile : (found : Option Refusal) → LeastBroken profile_number (BreaksProfile all) profile_rules found → IsRefusalBehind all found None → BreakNone all
-    by_profile (Some first) is behind = absurd (cc)
-    by_profile None is behind = record {
+    by_profile : (found : Option Refusal) → FirstBroken profile_number (BreaksProfile all) profile_rules found → IsRefusalAfter all found None → BreakNone all
+    by_profile (Some first) is after = absurd (cc)
+    by_profile None is after = record {
       profile = λ r s broken. is (refusal_at (profile_number r) s) (record { which = r; listed = profile_listed r; numbered = refl; breaks = broken });
-      merging = λ r s broken. behind (refusal_at (merging_number r) s) (record { which = r; listed = merging_listed r; numbered = refl; breaks = broken });
+      merging = λ r s broken. after (refusal_at (merging_number r) s) (record { which = r; listed = merging_listed r; numbered = refl; breaks = broken });
     }

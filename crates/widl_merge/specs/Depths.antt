@@ -1,4 +1,4 @@
--- Depths of types as the program keeps them: exact up to the limit of 16, and 17 for all that nest deeper.
+-- For proofs alone. Depths of types as the program keeps them: exact up to the limit of 16, and 17 for all that nest deeper.
 use Rattle.std.specs.Prelude.{◌≡◌, ℕ, ◌+◌, ◌<◌, ◌≤◌, min, nat_lt, Bool, false, List, length, slice_get, slice_index_or, Option, None, Some, option_map, option_and_then}
 use Rattle.widl_idl.specs.Meanings.{meaning, meant}
 use Rattle.widl_idl.specs.Nesting.{annotated_depth, meant_depth, named_depth}

@@ -1,10 +1,10 @@
--- The six lists of definitions while they are made, a definition at a time.
+-- For proofs alone. The six lists of definitions while they are made, a definition at a time.
 use Rattle.std.specs.Prelude.{◌≡◌, ℕ, List, ◌++◌, filter_map, map, option_to_list, Option, Some}
 use Rattle.widl_idl.specs.declared.defs.Defs.{Defs}
 use Rattle.widl_idl.specs.declared.enumeration.Choice.{Choice}
 use Rattle.widl_idl.specs.declared.kind.Kind.{Kind}
 use Rattle.widl_idl.specs.declared.merging_rule.MergingRule.{MergingRule}
-use Rattle.widl_idl.specs.declared.spot.Spot.{Spot}
+use Rattle.widl_idl.specs.declared.violation.Violation.{Violation}
 use Rattle.widl_idl.specs.Counts.{IsNumbered, IsNumberedList, NumberedCallback, NumberedDictionary, NumberedEnumeration, NumberedInterface, NumberedNamespace}
 use Rattle.widl_idl.specs.DefinitionTerms.{DefsTerm, callback_term, defs_term, dict_term, iface_term, space_term}
 use Rattle.widl_idl.specs.Meanings.{kind_of, main_name, meaning, meant_kind}
@@ -15,7 +15,7 @@ use Rattle.widl_idl.specs.PlainTrees.{PlainDefinition, PlainKind}
 
 -- no rule of merging is broken anywhere
 abbrev pub AreKept : List PlainDefinition → Type 0
-AreKept definitions = (rule : MergingRule) (s : Spot) → BreaksMerging definitions rule s → ⊥
+AreKept definitions = (rule : MergingRule) (s : Violation) → BreaksMerging definitions rule s → ⊥
 
 -- a parent, if there is one and its name has a meaning, is of this kind
 abbrev pub HasParentOf : List PlainDefinition → Kind → Option PlainName → Type 0

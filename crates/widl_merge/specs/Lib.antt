@@ -10,4 +10,4 @@ pub mod PutTogether
 pub mod PlainMain
 pub mod GrownLists
 pub mod MergedDefs
-pub mod ThingRules
+pub mod NodeRules

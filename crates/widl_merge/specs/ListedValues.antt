@@ -1,4 +1,4 @@
--- The values of enumerations as their texts.
+-- For proofs alone. The values of enumerations as their texts.
 use Rattle.std.specs.Prelude.{ℕ, List, map}
 use Rattle.widl_idl.specs.declared.tree.enumerations.EnumerationValue.{EnumerationValue}
 use Rattle.widl_idl.specs.PlainTrees.{enumeration_value_of}

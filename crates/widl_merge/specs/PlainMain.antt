@@ -1,4 +1,4 @@
--- The main definitions of a tree as plain terms.
+-- For proofs alone. The main definitions of a tree as plain terms.
 use Rattle.std.specs.Prelude.{map, option_map}
 use Rattle.widl_idl.specs.declared.tree.callbacks.Callback.{Callback}
 use Rattle.widl_idl.specs.declared.tree.callbacks.CallbackInterface.{CallbackInterface}

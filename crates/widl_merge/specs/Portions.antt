@@ -1,4 +1,4 @@
--- Portions of the bounded sum, as the program has them.
+-- For proofs alone. Portions of the bounded sum, as the program has them.
 use Rattle.std.specs.Prelude.{◌≡◌, ℕ, List, map, filter, min, Option, option_map, option_to_list, unwrap_or, bytes_eq}
 use Rattle.std.specs.Borrow.{Bor}
 use Rattle.indexmap.specs.IndexMap.{IndexMap, get_by}

@@ -1,4 +1,4 @@
--- The members of an interface or a namespace, put together a member at a time, as the program has them.
+-- For proofs alone. The members of an interface or a namespace, put together a member at a time, as the program has them.
 use Rattle.std.specs.Prelude.{◌≡◌, ℕ, ◌<◌, ◌++◌, Bool, ◌&&◌, List, [], ◌∷◌, length, map, slice_get, slice_set, Option, Some, option_map, if◌then◌else◌, bytes_eq, is_some}
 use Rattle.std.specs.List.{list_any}
 use Rattle.std.specs.Borrow.{Bor}
@@ -12,14 +12,14 @@ use Rattle.widl_idl.specs.declared.signature.Sig.{Sig}
 use Rattle.widl_idl.specs.declared.tree.members.Member.{Member}
 use Rattle.widl_idl.specs.Counts.{IsNumbered, AnyItem, NumberedSig, NumberedOp, NumberedAttr, NumberedConstant, NumberedPairs}
 use Rattle.widl_idl.specs.DefinitionTerms.{sig_term, op_name_term, attr_term, constant_term, pair_term}
-use Rattle.widl_idl.specs.MergedMembers.{attr_of, attributes_in, constant_of, constants_in, constructors_of, firsts_behind, members_term, op_names_of, operation_text, operations_in, pairs_of, slots_behind, stringifier_from}
+use Rattle.widl_idl.specs.MergedMembers.{attr_of, attributes_in, constant_of, constants_in, constructors_of, firsts_after, members_term, op_names_of, operation_text, operations_in, pairs_of, slots_after, stringifier_from}
 use Rattle.widl_idl.specs.MergingRules.{both_or_none, is_static}
 use Rattle.widl_idl.specs.PlainTrees.{PlainDefinition, PlainMember, PlainMemberKind, OperationMember, PlainOperation, member_of}
 use Rattle.widl_idl.specs.PlainTypes.{PlainAttribute}
 use Rattle.widl_names.specs.Numbers.{number_in}
 use Rattle.widl_merge.specs.declared.merged_members.MergedMembers.{MergedMembers}
 
--- the members behind references
+-- the members after references
 abbrev pub listed_members : List (Bor Member) → List PlainMember
 listed_members list = map (λ m. member_of m.now) list
 
@@ -47,7 +47,7 @@ is_named text static o = bytes_eq text (operation_text o.name) && both_or_none s
 -- the first operation of a name, at the number of the name
 pub record IsFirstAt (operations : List PlainOperation) (text : List ℕ) (static : Bool) (k : ℕ) : Type 0 where
   pub first : PlainOperation
-  pub at : slice_get (firsts_behind [] operations) k ≡ Some first
+  pub at : slice_get (firsts_after [] operations) k ≡ Some first
   pub name : operation_text first.name ≡ text
   pub kind : is_static first.kind ≡ static
 
@@ -55,7 +55,7 @@ pub record IsFirstAt (operations : List PlainOperation) (text : List ℕ) (stati
 pub record AreNumbers (operations : List PlainOperation) (number : List ℕ → Bool → Option ℕ) : Type 0 where
   pub known : (text : List ℕ) (static : Bool) → is_some (number text static) ≡ list_any (is_named text static) operations
   pub there : (text : List ℕ) (static : Bool) (k : ℕ) → number text static ≡ Some k → IsFirstAt operations text static k
-  pub each : (k : ℕ) (o : PlainOperation) → slice_get (firsts_behind [] operations) k ≡ Some o → number (operation_text o.name) (is_static o.kind) ≡ Some k
+  pub each : (k : ℕ) (o : PlainOperation) → slice_get (firsts_after [] operations) k ≡ Some o → number (operation_text o.name) (is_static o.kind) ≡ Some k
 
 -- a list has these terms, and 32 bits can number it
 pub record Means {X T : Type 0} (term : X → T) (P : X → Type 0) (xs : List X) (ts : List T) : Type 0 where
@@ -71,7 +71,7 @@ pub record Gathered (definitions : List PlainDefinition) (members : List PlainMe
   pub ops : Means op_name_term NumberedOp m.ops (op_names_of definitions (operations_in members))
   pub attrs : Means attr_term NumberedAttr m.attrs (map (attr_of definitions) (attributes_in members))
   pub consts : Means constant_term NumberedConstant m.consts (map (constant_of definitions) (constants_in members))
-  pub order : Means this_slot AnyItem m.order (slots_behind [] members)
+  pub order : Means this_slot AnyItem m.order (slots_after [] members)
   pub text : m.text ≡ stringifier_from 0 members
   pub pairs : option_map pair_term m.pairs ≡ pairs_of definitions members
   pub numbered_pairs : NumberedPairs m.pairs

@@ -64,7 +64,7 @@ pub fn callback_interface_meant<'a>(
     }
 }
 
-// The first operation among members.
+/// The first operation among members.
 fn first_operation(members: &[Member]) -> Option<&Operation>
     ensures { option_map (λ o. operation_of o.now) result ≡ first_in (operations_in (members_of members.now)) }
 {
@@ -76,8 +76,8 @@ fn first_operation(members: &[Member]) -> Option<&Operation>
     None
 }
 
-// A callback interface of this name that declares no operation: it is called without arguments, and
-// returns `undefined`.
+/// A callback interface of this name that declares no operation: it is called without arguments, and
+/// returns `undefined`.
 fn callback_without_operation(alloc: Global, name: &Name) -> Result<Callback, AllocError>
     ensures term { IfOk result (λ c. callback_term c ≡ callback_by [] (name_of name.now) None) }
     ensures numbered { IfOk result (λ c. NumberedCallback c) }
@@ -95,7 +95,7 @@ fn callback_without_operation(alloc: Global, name: &Name) -> Result<Callback, Al
     })
 }
 
-// A callback interface of this name with this operation.
+/// A callback interface of this name with this operation.
 fn callback_by<'a>(
     alloc: Global,
     resolver: &Resolver<'_, '_, 'a>,

@@ -16,8 +16,9 @@ use crate::numbered_items::add_numbered;
 use crate::sources::Sources;
 use std::alloc::{AllocError, Global};
 use widl_idl::tree::{DefinitionKind, Dictionary, Interface, Namespace};
-use widl_idl::{Defs, Dicts, Ifaces, Items, Spaces};
+use widl_idl::{Defs, Dicts, Ifaces, Spaces};
 use widl_names::Meanings;
+use widl_text::Items;
 
 /// The merged list of definitions that break no rule of merging.
 ///
@@ -44,7 +45,7 @@ pub fn merge_definitions(
     Ok(defs)
 }
 
-// The empty list.
+/// The empty list.
 fn no_definitions(alloc: Global) -> Defs
     ensures { (all : List PlainDefinition) → AreListed all [] result }
 {
@@ -58,7 +59,7 @@ fn no_definitions(alloc: Global) -> Defs
     }
 }
 
-// Adds the definition of this number to the list of its kind, if it is a main one.
+/// Adds the definition of this number to the list of its kind, if it is a main one.
 fn add_definition<'a>(
     alloc: Global,
     sources: &Sources<'_, '_, 'a>,

@@ -9,15 +9,16 @@ ghost use Rattle.widl_merge.specs.DictionaryTables.{DictionariesGrouped, diction
 
 use std::alloc::{AllocError, Global};
 use std::marker::Model;
+use widl_idl::Kind;
 use widl_idl::tree::{Definition, DefinitionKind, DictionaryMember};
-use widl_idl::{Items, Kind};
 use widl_names::{Meanings, group_at, kind_at, no_groups, number_meant, put_in_group};
+use widl_text::Items;
 
 /// The members of dictionaries in merged order.
 #[derive(Drop)]
 pub struct DictionaryParts<'d, 'a> {
     definitions: &'d [&'a Definition],
-    // The partial dictionaries by the number of the definition that they add to.
+    /// The partial dictionaries by the number of the definition that they add to.
     partials: Vec<Items<&'a DefinitionKind>>,
 }
 
@@ -77,7 +78,7 @@ impl<'d, 'a> DictionaryParts<'d, 'a> {
         self.list_numbered(alloc, number)
     }
 
-    // The same, by numbers alone.
+    /// The same, by numbers alone.
     fn list_numbered(
         &self,
         alloc: Global,
@@ -94,7 +95,7 @@ impl<'d, 'a> DictionaryParts<'d, 'a> {
     }
 }
 
-// Adds the members that stand in the definition of this number.
+/// Adds the members that stand in the definition of this number.
 fn add_main<'a>(
     list: &mut Vec<&'a DictionaryMember>,
     definitions: &[&'a Definition],
@@ -108,7 +109,7 @@ fn add_main<'a>(
     }
 }
 
-// Adds the members that stand in one definition.
+/// Adds the members that stand in one definition.
 fn add_members<'a>(
     list: &mut Vec<&'a DictionaryMember>,
     part: &'a DefinitionKind,
@@ -121,7 +122,7 @@ fn add_members<'a>(
     Ok(())
 }
 
-// The members that stand in one definition of a dictionary.
+/// The members that stand in one definition of a dictionary.
 fn dictionary_members_in(part: &DefinitionKind) -> &[DictionaryMember]
     ensures { map dictionary_member_of result.now ≡ dictionary_members_in (definition_kind_of part.now) }
 {
@@ -131,7 +132,7 @@ fn dictionary_members_in(part: &DefinitionKind) -> &[DictionaryMember]
     }
 }
 
-// The partial dictionaries of each definition.
+/// The partial dictionaries of each definition.
 fn group_dictionaries<'a>(
     alloc: Global,
     meanings: &Meanings<'_, 'a>,
@@ -147,7 +148,7 @@ fn group_dictionaries<'a>(
     Ok(groups)
 }
 
-// Adds a definition to the group of the dictionary that it adds to, if it is a partial one.
+/// Adds a definition to the group of the dictionary that it adds to, if it is a partial one.
 fn add_dictionary<'a>(
     meanings: &Meanings,
     groups: &mut Vec<Items<&'a DefinitionKind>>,
@@ -162,7 +163,7 @@ fn add_dictionary<'a>(
     }
 }
 
-// The number of the dictionary that a partial one adds to.
+/// The number of the dictionary that a partial one adds to.
 fn dictionary_extended(meanings: &Meanings, part: &DefinitionKind) -> Option<usize>
     ensures { result ≡ dictionary_extended (plain_definitions meanings.now) (definition_kind_of part.now) }
 {

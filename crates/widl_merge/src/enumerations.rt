@@ -9,8 +9,8 @@ ghost use Rattle.widl_merge.specs.ListedValues.{texts_of};
 
 use std::alloc::{AllocError, Global};
 use widl_idl::tree::{Enumeration, EnumerationValue};
-use widl_idl::{Choice, Items, Texts};
-use widl_text::Units;
+use widl_idl::{Choice, Texts};
+use widl_text::{Items, Units};
 
 /// The enumeration that a definition declares.
 ///
@@ -28,7 +28,7 @@ pub fn enumeration_meant(alloc: Global, enumeration: &Enumeration) -> Result<Cho
     })
 }
 
-// The texts of values.
+/// The texts of values.
 fn texts_of(alloc: Global, values: &[EnumerationValue]) -> Result<Texts, AllocError>
     ensures texts { IfOk result (λ texts. texts ≡ texts_of values.now) }
     ensures numbered { IfOk result (λ texts. length texts < 4294967296) }

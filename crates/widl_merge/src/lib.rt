@@ -1,8 +1,8 @@
 //! Merging: the rules of the profile and of merging over the trees of a set of files, and the list of
-//! definitions that the files declare. It stands on the trees, the predicates and the spots of `widl_idl`,
-//! on the walk of `widl_graph`, and on the names of `widl_names`. The contracts that are used above:
-//! [`merge`] answers the merged list of files that break none of these rules, or exactly the least
-//! refusal; [`find_refusal`] answers that refusal alone.
+//! definitions that the files declare. It stands on the trees, the predicates and the violations of
+//! `widl_idl`, on the walk of `widl_graph`, and on the names of `widl_names`. The contract that is used above:
+//! [`merge`] answers the merged list of files that break none of these rules, or exactly the first
+//! refusal.
 #![tactic(auto)]
 
 mod callbacks;
@@ -19,6 +19,7 @@ mod merging;
 mod name_rules;
 mod name_units;
 mod nesting;
+mod node_rules;
 mod numbered;
 mod numbered_items;
 mod operation_numbers;
@@ -30,8 +31,6 @@ mod refusals;
 mod signatures;
 mod sources;
 mod sums;
-mod thing_rules;
 mod typedefs;
 
 pub use merged_set::{MergeFault, merge};
-pub use refusals::find_refusal;

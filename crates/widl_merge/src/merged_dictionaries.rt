@@ -51,7 +51,7 @@ pub fn dictionary_meant(
     })
 }
 
-// What these members mean.
+/// What these members mean.
 fn members_meant<'a>(
     alloc: Global,
     resolver: &Resolver<'_, '_, 'a>,

@@ -18,9 +18,9 @@ use widl_idl::tree::{
     Attribute, AttributeKind, Constant, Constructor, ExtendedAttribute, Iterable, Member,
     MemberKind, Operation,
 };
-use widl_idl::{Attrs, Constants, Items, OpName, OpNames, Pair, Sig, Sigs, Slot, Slots, Stringify};
+use widl_idl::{Attrs, Constants, OpName, OpNames, Pair, Sig, Sigs, Slot, Slots, Stringify};
 use widl_names::Resolver;
-use widl_text::Units;
+use widl_text::{Items, Units};
 
 /// The members of an interface or a namespace, by kind, as the list of definitions has them.
 #[derive(Drop)]
@@ -64,7 +64,7 @@ pub fn put_together<'a>(
 }
 
 impl MergedMembers {
-    // No members.
+    /// No members.
     fn new(alloc: Global) -> MergedMembers
         ensures { result ≡ record { ctors = []; ops = []; attrs = []; consts = []; text = Stringify.No; pairs = None; order = [] } }
     {
@@ -79,7 +79,7 @@ impl MergedMembers {
         }
     }
 
-    // Adds a member. An asynchronous iterable, a maplike and a setlike are no members of the list.
+    /// Adds a member. An asynchronous iterable, a maplike and a setlike are no members of the list.
     fn add<'a>(
         &mut self,
         alloc: Global,
@@ -162,7 +162,7 @@ impl MergedMembers {
         }
     }
 
-    // Keeps the first stringifier, and its place among the members.
+    /// Keeps the first stringifier, and its place among the members.
     fn add_stringifier(&mut self, text: Stringify) -> Result<(), AllocError>
         ensures { OnOk result (GetsStringifier self.old self.new text) }
     {
@@ -176,7 +176,7 @@ impl MergedMembers {
         }
     }
 
-    // Keeps the types of the first pair iterable, and its place among the members.
+    /// Keeps the types of the first pair iterable, and its place among the members.
     fn add_iterable<'a>(
         &mut self,
         alloc: Global,
@@ -233,7 +233,7 @@ fn is_stringifier(kind: AttributeKind) -> bool
     }
 }
 
-// The name of an operation. One without a name has the empty one.
+/// The name of an operation. One without a name has the empty one.
 fn operation_text(operation: &Operation) -> &str
     ensures { result.now ≡ operation_text (operation_of operation.now).name }
 {
@@ -243,8 +243,8 @@ fn operation_text(operation: &Operation) -> &str
     }
 }
 
-// Adds a signature to the operations of the name of this number. Each number that is kept for a name is
-// that of one.
+/// Adds a signature to the operations of the name of this number. Each number that is kept for a name is
+/// that of one.
 fn add_overload(alloc: Global, ops: &mut OpNames, number: usize, sig: Sig) -> Result<(), AllocError>
     ensures { OnOk result (HasOverload ops.old ops.new number sig) }
 {
@@ -257,7 +257,7 @@ fn add_overload(alloc: Global, ops: &mut OpNames, number: usize, sig: Sig) -> Re
     Ok(())
 }
 
-// No operations, of no name.
+/// No operations, of no name.
 fn nameless(alloc: Global) -> OpName
     ensures { result ≡ record { name = []; fixed = false; sigs = [] } }
 {
@@ -268,7 +268,7 @@ fn nameless(alloc: Global) -> OpName
     }
 }
 
-// Adds a name with one operation, and gives its number.
+/// Adds a name with one operation, and gives its number.
 fn add_name(
     alloc: Global,
     ops: &mut OpNames,

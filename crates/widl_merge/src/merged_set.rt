@@ -4,23 +4,23 @@ ghost use Rattle.std.specs.Prelude.{◌≡◌, IfOk, IsErrOf, None, Some};
 ghost use Rattle.widl_idl.specs.declared.refusal.Refusal.{Refusal as RefusalType};
 ghost use Rattle.widl_idl.specs.MergedSets.{AreFiles, IsMerged};
 ghost use Rattle.widl_idl.specs.Meanings.{definitions_of};
-ghost use Rattle.widl_idl.specs.Things.{things_of};
-ghost use Rattle.widl_names.specs.Listings.{listed_definitions, things_listed};
+ghost use Rattle.widl_idl.specs.Nodes.{nodes_of};
+ghost use Rattle.widl_names.specs.Listings.{listed_definitions, nodes_listed};
 ghost use Rattle.widl_merge.specs.MergedDefs.{AreMerged};
 ghost use Rattle.widl_merge.specs.Refusals.{IsRefusal};
 
 use crate::defs::merge_definitions;
-use crate::refusals::find_in_things;
+use crate::refusals::find_in_nodes;
 use std::alloc::{AllocError, Global};
 use thiserror::Error;
 use widl_idl::tree::Definition;
 use widl_idl::{Defs, Fragment, Fragments, Merged, Refusal};
-use widl_names::{Meanings, Thing, list_definitions, list_things, steps_of};
+use widl_names::{Meanings, Node, list_definitions, list_nodes, steps_of};
 
 /// Why a set of files has no merged list.
 #[derive(Clone, Copy, Debug, PartialEq, Eq, Error)]
 pub enum MergeFault {
-    /// It breaks a rule of the profile or of merging, and this is the least refusal.
+    /// It breaks a rule of the profile or of merging, and this is the first refusal.
     #[error("the files break a rule")]
     Refused(Refusal),
     /// There was no memory for the work, or its types mean more than the work on them allows. It says
@@ -45,7 +45,7 @@ impl From<AllocError> for MergeFault {
 ///
 /// # Errors
 ///
-/// `Refused` with the least refusal: by the rules of the profile, or, where none of these is broken, by
+/// `Refused` with the first refusal: by the rules of the profile, or, where none of these is broken, by
 /// the rules of merging. `Memory` where there is no memory, also where 32 bits can't number what is in
 /// the list, or where resolving its types takes more steps than [`steps_of`] allows.
 pub fn merge(alloc: Global, fragments: Fragments) -> Result<Merged, MergeFault>
@@ -58,35 +58,35 @@ pub fn merge(alloc: Global, fragments: Fragments) -> Result<Merged, MergeFault>
     Ok(Merged::new(defs, fragments))
 }
 
-// The merged list alone.
+/// The merged list alone.
 fn merge_files(alloc: Global, fragments: &[Fragment]) -> Result<Defs, MergeFault>
     ensures merged { IfOk result (λ defs. AreMerged (definitions_of fragments.now) defs) }
     ensures refused { (refusal : RefusalType) → IsErrOf result (MergeFault.Refused refusal) → IsRefusal (definitions_of fragments.now) (Some refusal) }
 {
     let definitions = list_definitions(alloc, fragments)?;
-    let things = list_things(alloc, &definitions)?;
-    merge_listed(alloc, &definitions, &things, steps_of(fragments))
+    let nodes = list_nodes(alloc, &definitions)?;
+    merge_listed(alloc, &definitions, &nodes, steps_of(fragments))
 }
 
-// The same, where the definitions and everything that is written in them are listed.
+/// The same, where the definitions and everything that is written in them are listed.
 fn merge_listed(
     alloc: Global,
     definitions: &[&Definition],
-    things: &[Thing<'_>],
+    nodes: &[Node<'_>],
     steps: usize,
 ) -> Result<Defs, MergeFault>
-    requires { things_listed things.now ≡ things_of (listed_definitions definitions.now) }
+    requires { nodes_listed nodes.now ≡ nodes_of (listed_definitions definitions.now) }
     ensures merged { IfOk result (λ defs. AreMerged (listed_definitions definitions.now) defs) }
     ensures refused { (refusal : RefusalType) → IsErrOf result (MergeFault.Refused refusal) → IsRefusal (listed_definitions definitions.now) (Some refusal) }
 {
-    let found = find_in_things(alloc, definitions, things)?;
+    let found = find_in_nodes(alloc, definitions, nodes)?;
     match found {
         Some(refusal) => Err(MergeFault::Refused(refusal)),
         None => Ok(merge_unbroken(alloc, definitions, steps)?),
     }
 }
 
-// The merged list of definitions that break no rule.
+/// The merged list of definitions that break no rule.
 fn merge_unbroken(
     alloc: Global,
     definitions: &[&Definition],

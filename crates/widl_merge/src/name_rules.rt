@@ -2,27 +2,27 @@
 
 ghost use Rattle.std.specs.Prelude.{◌≡◌, ℕ, List, take};
 ghost use Rattle.widl_idl.specs.declared.merging_rule.MergingRule.TheVariants as rule;
-ghost use Rattle.widl_idl.specs.Least.{LeastWhere};
+ghost use Rattle.widl_idl.specs.First.{FirstWhere};
 ghost use Rattle.widl_idl.specs.MergingRules.{BreaksMerging, IsReservedName, IsSecondDefinition, IsUnknownType, is_reserved, is_type_kind};
-ghost use Rattle.widl_idl.specs.Things.{TypeThing};
+ghost use Rattle.widl_idl.specs.Nodes.{TypeNode};
 ghost use Rattle.widl_idl.specs.PlainTrees.{definition_of, plain_definitions};
 ghost use Rattle.widl_idl.specs.PlainTypes.{type_of};
-ghost use Rattle.widl_names.specs.Listings.{thing_of};
+ghost use Rattle.widl_names.specs.Listings.{node_of};
 ghost use Rattle.widl_names.specs.Numbers.{is_below};
 
 use widl_idl::tree::{Definition, TypeForm, WrittenType};
-use widl_idl::{Kind, Spot, lesser_spot};
-use widl_names::{Meanings, Thing, main_name};
+use widl_idl::{Kind, Violation, earlier_violation};
+use widl_names::{Meanings, Node, main_name};
 
-/// The least place of a name's second main definition.
-pub fn first_second_definition(meanings: &Meanings<'_, '_>) -> Option<Spot>
-    ensures { LeastWhere (BreaksMerging (plain_definitions meanings.now) rule.SecondDefinition) result }
+/// The first place of a name's second main definition.
+pub fn first_second_definition(meanings: &Meanings<'_, '_>) -> Option<Violation>
+    ensures { FirstWhere (BreaksMerging (plain_definitions meanings.now) rule.SecondDefinition) result }
 {
     let mut best = None;
     let definitions = meanings.all();
     for (number, definition) in definitions.iter().enumerate() {
         let found = second_definition(meanings, number, definition);
-        best = lesser_spot(best, found);
+        best = earlier_violation(best, found);
     }
     best
 }
@@ -32,13 +32,13 @@ fn second_definition(
     meanings: &Meanings<'_, '_>,
     number: usize,
     definition: &Definition,
-) -> Option<Spot>
-    ensures { LeastWhere (IsSecondDefinition (take number (plain_definitions meanings.now)) (definition_of definition.now)) result }
+) -> Option<Violation>
+    ensures { FirstWhere (IsSecondDefinition (take number (plain_definitions meanings.now)) (definition_of definition.now)) result }
 {
     match main_name(&definition.kind) {
         None => None,
         Some(name) => if is_below(number, meanings.number(name.text.as_str())) {
-            Some(Spot::at(name.at))
+            Some(Violation::at(name.at))
         } else {
             None
         },
@@ -56,20 +56,20 @@ fn is_below(limit: usize, number: Option<usize>) -> bool
 }
 
 /// The place of a name that nothing may have.
-pub fn reserved_name(thing: Thing<'_>) -> Option<Spot>
-    ensures { LeastWhere (IsReservedName (thing_of thing.entry)) result }
+pub fn reserved_name(node: Node<'_>) -> Option<Violation>
+    ensures { FirstWhere (IsReservedName (node_of node.entry)) result }
 {
-    match thing {
-        Thing::Name(name) => if is_reserved(name.text.as_str()) {
-            Some(Spot::at(name.at))
+    match node {
+        Node::Name(name) => if is_reserved(name.text.as_str()) {
+            Some(Violation::at(name.at))
         } else {
             None
         },
-        Thing::Type(_)
-        | Thing::Attribute(_)
-        | Thing::Literal(_)
-        | Thing::Member(_)
-        | Thing::CallbackMember(_) => None,
+        Node::Type(_)
+        | Node::Attribute(_)
+        | Node::Literal(_)
+        | Node::Member(_)
+        | Node::CallbackMember(_) => None,
     }
 }
 
@@ -81,27 +81,27 @@ fn is_reserved(text: &str) -> bool
 }
 
 /// The place of a name in a type that is the name of no type.
-pub fn unknown_type(meanings: &Meanings<'_, '_>, thing: Thing<'_>) -> Option<Spot>
-    ensures { LeastWhere (IsUnknownType (plain_definitions meanings.now) (thing_of thing.entry)) result }
+pub fn unknown_type(meanings: &Meanings<'_, '_>, node: Node<'_>) -> Option<Violation>
+    ensures { FirstWhere (IsUnknownType (plain_definitions meanings.now) (node_of node.entry)) result }
 {
-    match thing {
-        Thing::Type(ty) => unknown_name(meanings, ty),
-        Thing::Attribute(_)
-        | Thing::Literal(_)
-        | Thing::Name(_)
-        | Thing::Member(_)
-        | Thing::CallbackMember(_) => None,
+    match node {
+        Node::Type(ty) => unknown_name(meanings, ty),
+        Node::Attribute(_)
+        | Node::Literal(_)
+        | Node::Name(_)
+        | Node::Member(_)
+        | Node::CallbackMember(_) => None,
     }
 }
 
-fn unknown_name(meanings: &Meanings<'_, '_>, ty: &WrittenType) -> Option<Spot>
-    ensures { LeastWhere (IsUnknownType (plain_definitions meanings.now) (TypeThing (type_of ty.now))) result }
+fn unknown_name(meanings: &Meanings<'_, '_>, ty: &WrittenType) -> Option<Violation>
+    ensures { FirstWhere (IsUnknownType (plain_definitions meanings.now) (TypeNode (type_of ty.now))) result }
 {
     match &ty.form {
         TypeForm::Named(name) => if is_type_kind(meanings.kind(name.text.as_str())) {
             None
         } else {
-            Some(Spot::at(name.at))
+            Some(Violation::at(name.at))
         },
         TypeForm::Any
         | TypeForm::Undefined

@@ -1,25 +1,23 @@
 //! The rule on types that nest too deep.
 
 ghost use Rattle.std.specs.Prelude.{◌≡◌, slice_index_or, IfOk, None, Some, if◌then◌else◌, option_map, slice_get, replicate};
-ghost use Rattle.widl_idl.specs.Least.{LeastWhere};
+ghost use Rattle.widl_idl.specs.First.{FirstWhere};
 ghost use Rattle.widl_idl.specs.MergingRules.{NestsDeep};
 ghost use Rattle.widl_idl.specs.Nesting.{deeper, one_deeper, form_depth, type_depth, annotated_depth, union_depth, meant_depth, typedef_links};
 ghost use Rattle.widl_idl.specs.PlainTrees.{definition_kind_of, plain_definitions};
 ghost use Rattle.widl_idl.specs.PlainTypes.{name_of, form_term, type_of, annotated_of, union_of};
-ghost use Rattle.widl_idl.specs.Things.{TypeThing};
+ghost use Rattle.widl_idl.specs.Nodes.{TypeNode};
 ghost use Rattle.widl_merge.specs.Depths.{capped, is_deep, is_flagged, AreCapped, TellsDepths, number_depth, table_depth};
 ghost use Rattle.widl_merge.specs.Links.{IsWalk};
-ghost use Rattle.widl_names.specs.Listings.{thing_of};
+ghost use Rattle.widl_names.specs.Listings.{node_of};
 
 use crate::cycles::is_set;
 use std::alloc::{AllocError, Global};
 use widl_graph::Walk;
-use widl_idl::Spot;
+use widl_idl::Violation;
 use widl_idl::tree::{AnnotatedType, DefinitionKind, Name, TypeForm, WrittenType};
-use widl_names::{Meanings, Thing, kind_at};
-
-// How deep types may nest. One more stands for all that nest deeper.
-const LIMIT: usize = 16;
+use widl_names::{Meanings, Node, kind_at};
+use widl_text::limits::MOST_TYPE_LEVELS;
 
 /// The depths of the definitions as types, each by its number; none where a name in one is no type or
 /// a typedef reaches itself.
@@ -108,19 +106,19 @@ fn kind_depth(
 pub fn too_deep(
     meanings: &Meanings<'_, '_>,
     depths: &[Option<usize>],
-    thing: Thing<'_>,
-) -> Option<Spot>
+    node: Node<'_>,
+) -> Option<Violation>
     requires capped { AreCapped depths.now }
     requires tells { TellsDepths (plain_definitions meanings.now) depths.now }
-    ensures { LeastWhere (NestsDeep (plain_definitions meanings.now) (thing_of thing.entry)) result }
+    ensures { FirstWhere (NestsDeep (plain_definitions meanings.now) (node_of node.entry)) result }
 {
-    match thing {
-        Thing::Type(ty) => too_deep_type(meanings, depths, ty),
-        Thing::Attribute(_)
-        | Thing::Literal(_)
-        | Thing::Name(_)
-        | Thing::Member(_)
-        | Thing::CallbackMember(_) => None,
+    match node {
+        Node::Type(ty) => too_deep_type(meanings, depths, ty),
+        Node::Attribute(_)
+        | Node::Literal(_)
+        | Node::Name(_)
+        | Node::Member(_)
+        | Node::CallbackMember(_) => None,
     }
 }
 
@@ -128,13 +126,13 @@ fn too_deep_type(
     meanings: &Meanings<'_, '_>,
     depths: &[Option<usize>],
     ty: &WrittenType,
-) -> Option<Spot>
+) -> Option<Violation>
     requires capped { AreCapped depths.now }
     requires tells { TellsDepths (plain_definitions meanings.now) depths.now }
-    ensures { LeastWhere (NestsDeep (plain_definitions meanings.now) (TypeThing (type_of ty.now))) result }
+    ensures { FirstWhere (NestsDeep (plain_definitions meanings.now) (TypeNode (type_of ty.now))) result }
 {
     if is_deep(type_depth(meanings, depths, ty)) {
-        Some(Spot::at(ty.at))
+        Some(Violation::at(ty.at))
     } else {
         None
     }
@@ -146,7 +144,7 @@ fn is_deep(depth: Option<usize>) -> bool
 {
     match depth {
         None => false,
-        Some(depth) => depth > LIMIT,
+        Some(depth) => depth > MOST_TYPE_LEVELS,
     }
 }
 
@@ -279,6 +277,6 @@ fn one_deeper(depth: Option<usize>) -> Option<usize>
 {
     match depth {
         None => None,
-        Some(depth) => Some(depth.min(LIMIT) + 1),
+        Some(depth) => Some(depth.min(MOST_TYPE_LEVELS) + 1),
     }
 }

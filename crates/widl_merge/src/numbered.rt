@@ -16,7 +16,7 @@ use widl_idl::tree::{AnnotatedType, ExtendedAttribute, WrittenType};
 use widl_idl::{IdlType, IdlTypes};
 use widl_names::Resolver;
 
-// The most items that a list may have whose items are numbered by 32 bits.
+/// The most items that a list may have whose items are numbered by 32 bits.
 const MOST: usize = 4_294_967_295;
 
 /// Checks that 32 bits can number so many items.
@@ -52,7 +52,7 @@ pub fn check_numbered(t: &IdlType) -> Result<(), AllocError>
     }
 }
 
-// The same of a union with these members.
+/// The same of a union with these members.
 #[cycle(numbered)]
 fn check_members(members: &IdlTypes) -> Result<(), AllocError>
     ensures { OnOk result (NumberedType (UnionType (packed (type_terms members.now)))) }

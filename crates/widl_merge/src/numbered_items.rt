@@ -3,7 +3,7 @@
 ghost use Rattle.std.specs.Prelude.{◌≡◌, ◌<◌, [], ◌∷◌, ◌++◌, length, IfOk, OnOk};
 
 use std::alloc::{AllocError, Global};
-use widl_idl::Items;
+use widl_text::Items;
 
 /// Adds an item at the end, and gives its number.
 ///

@@ -11,9 +11,9 @@ use std::alloc::{AllocError, Global};
 /// The numbers of the names of operations. Static operations have names of their own.
 #[derive(Drop)]
 pub struct OperationNumbers<'a> {
-    // Those of operations that aren't static.
+    /// Those of operations that aren't static.
     regular: IndexMap<&'a str, u32>,
-    // Those of static operations.
+    /// Those of static operations.
     fixed: IndexMap<&'a str, u32>,
 }
 
@@ -55,7 +55,7 @@ impl<'a> OperationNumbers<'a> {
     }
 }
 
-// Gives a text this number.
+/// Gives a text this number.
 fn keep_number<'a>(
     numbers: &mut IndexMap<&'a str, u32>,
     text: &'a str,

@@ -2,7 +2,7 @@
 
 ghost use Rattle.std.specs.Prelude.{◌≡◌, ◌++◌, ◌∷◌, [], IfOk, OnOk, option_to_list};
 ghost use Rattle.widl_idl.specs.declared.merging_rule.MergingRule.TheVariants as rule;
-ghost use Rattle.widl_idl.specs.Least.{LeastWhere};
+ghost use Rattle.widl_idl.specs.First.{FirstWhere};
 ghost use Rattle.widl_idl.specs.Meanings.{kind_of, meaning, meant_kind};
 ghost use Rattle.widl_idl.specs.MergingRules.{BreaksMerging, number_of_kind, parent_links, parent_numbers, parent_of};
 ghost use Rattle.widl_idl.specs.PlainTrees.{definition_kind_of, plain_definitions};
@@ -12,10 +12,10 @@ use crate::reference_rules::parent_of;
 use std::alloc::{AllocError, Global};
 use widl_graph::{Graph, Walk};
 use widl_idl::tree::DefinitionKind;
-use widl_idl::{Kind, Spot};
+use widl_idl::{Kind, Violation};
 use widl_names::{Meanings, kind_of, number_meant};
 
-/// The least place of the name of an interface or a dictionary that inherits from itself.
+/// The first place of the name of an interface or a dictionary that inherits from itself.
 ///
 /// # Errors
 ///
@@ -23,8 +23,8 @@ use widl_names::{Meanings, kind_of, number_meant};
 pub fn first_inheriting_from_itself(
     alloc: Global,
     meanings: &Meanings<'_, '_>,
-) -> Result<Option<Spot>, AllocError>
-    ensures { IfOk result (λ found. LeastWhere (BreaksMerging (plain_definitions meanings.now) rule.InheritsFromItself) found) }
+) -> Result<Option<Violation>, AllocError>
+    ensures { IfOk result (λ found. FirstWhere (BreaksMerging (plain_definitions meanings.now) rule.InheritsFromItself) found) }
 {
     let graph = parents(alloc, meanings)?;
     let walk = Walk::over(alloc, &graph)?;

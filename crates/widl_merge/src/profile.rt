@@ -1,68 +1,68 @@
-//! The forms of Web IDL that are left out.
+//! The forms of Web IDL that the profile leaves unsupported.
 
 ghost use Rattle.std.specs.Prelude.{◌≡◌, option_map};
-ghost use Rattle.widl_idl.specs.Profile.{attributes_without_effect, annotation_names, is_among, is_listed, container_rule, form_rule, is_floating_point, left_out_type, left_out_literal, left_out_attribute, left_out_operation, left_out_attribute_kind, left_out_iterable, left_out_member, left_out_callback_member, left_out_of, left_out_at, LeavesOut, profile_number, profile_rules};
-ghost use Rattle.widl_idl.specs.LeastRefusal.{LeastBroken};
+ghost use Rattle.widl_idl.specs.Profile.{attributes_without_effect, annotation_names, is_among, is_listed, container_rule, form_rule, is_floating_point, unsupported_type, unsupported_literal, unsupported_attribute, unsupported_operation, unsupported_attribute_kind, unsupported_iterable, unsupported_member, unsupported_callback_member, unsupported_of, unsupported_at, LeavesOut, profile_number, profile_rules};
+ghost use Rattle.widl_idl.specs.FirstRefusal.{FirstBroken};
 ghost use Rattle.widl_idl.specs.PlainTypes.{attribute_of, value_of, literal_of, form_term, type_of, annotated_of};
 ghost use Rattle.widl_idl.specs.PlainTrees.{member_kind_of};
 ghost use Rattle.widl_merge.specs.Refusals.{join_form};
-ghost use Rattle.widl_names.specs.Listings.{thing_of, things_listed};
+ghost use Rattle.widl_names.specs.Listings.{node_of, nodes_listed};
 
 use widl_idl::tree::{
     AnnotatedType, AttributeKind, Container, ExtendedAttribute, Literal, LiteralValue, MemberKind,
     OperationKind, TypeForm, WrittenType,
 };
-use widl_idl::{LeftOut, ProfileRule, Refusal, Spot, joined};
-use widl_names::Thing;
+use widl_idl::{ProfileRule, Refusal, Unsupported, Violation, joined};
+use widl_names::Node;
 use widl_text::Place;
 
-/// The least refusal by a rule of the profile, or none where no form that is left out is written.
-pub fn first_left_out(things: &[Thing<'_>]) -> Option<Refusal>
-    ensures { LeastBroken profile_number (LeavesOut (things_listed things.now)) profile_rules result }
+/// The first refusal by a rule of the profile, or none where no form that the profile leaves unsupported is written.
+pub fn first_unsupported(nodes: &[Node<'_>]) -> Option<Refusal>
+    ensures { FirstBroken profile_number (LeavesOut (nodes_listed nodes.now)) profile_rules result }
 {
     let mut best = None;
-    for thing in things {
-        best = join_form(left_out(*thing), best);
+    for node in nodes {
+        best = join_form(unsupported(*node), best);
     }
     best
 }
 
-/// The earlier of what was found before and of a form that is left out.
-fn join_form(form: Option<LeftOut>, best: Option<Refusal>) -> Option<Refusal>
+/// The earlier of what was found before and of a form that the profile leaves unsupported.
+fn join_form(form: Option<Unsupported>, best: Option<Refusal>) -> Option<Refusal>
     ensures { result ≡ join_form form best }
 {
     match form {
         None => best,
-        Some(form) => joined(form.rule.number(), Some(Spot::at(form.at)), best),
+        Some(form) => joined(form.rule.number(), Some(Violation::at(form.at)), best),
     }
 }
 
-/// The form of a thing, where that is left out.
-fn left_out(thing: Thing<'_>) -> Option<LeftOut>
-    ensures { result ≡ left_out_of (thing_of thing.entry) }
+/// The form of a node, where that the profile leaves unsupported.
+fn unsupported(node: Node<'_>) -> Option<Unsupported>
+    ensures { result ≡ unsupported_of (node_of node.entry) }
 {
-    match thing {
-        Thing::Type(ty) => left_out_type(ty),
-        Thing::Attribute(attribute) => left_out_attribute(attribute),
-        Thing::Literal(literal) => left_out_literal(literal),
-        Thing::Name(_) => None,
-        Thing::Member(kind) => left_out_member(kind),
-        Thing::CallbackMember(kind) => left_out_callback_member(kind),
+    match node {
+        Node::Type(ty) => unsupported_type(ty),
+        Node::Attribute(attribute) => unsupported_attribute(attribute),
+        Node::Literal(literal) => unsupported_literal(literal),
+        Node::Name(_) => None,
+        Node::Member(kind) => unsupported_member(kind),
+        Node::CallbackMember(kind) => unsupported_callback_member(kind),
     }
 }
 
-fn left_out_at(rule: ProfileRule, at: Place) -> Option<LeftOut>
-    ensures { result ≡ left_out_at rule at }
+fn unsupported_at(rule: ProfileRule, at: Place) -> Option<Unsupported>
+    ensures { result ≡ unsupported_at rule at }
 {
-    Some(LeftOut { rule, at })
+    Some(Unsupported { rule, at })
 }
 
-fn left_out_type(ty: &WrittenType) -> Option<LeftOut>
-    ensures { result ≡ left_out_type (type_of ty.now) }
+fn unsupported_type(ty: &WrittenType) -> Option<Unsupported>
+    ensures { result ≡ unsupported_type (type_of ty.now) }
 {
     match form_rule(&ty.form) {
         None => None,
-        Some(rule) => left_out_at(rule, ty.at),
+        Some(rule) => unsupported_at(rule, ty.at),
     }
 }
 
@@ -99,11 +99,11 @@ fn container_rule(container: Container) -> Option<ProfileRule>
     }
 }
 
-fn left_out_literal(literal: &Literal) -> Option<LeftOut>
-    ensures { result ≡ left_out_literal (literal_of literal.now) }
+fn unsupported_literal(literal: &Literal) -> Option<Unsupported>
+    ensures { result ≡ unsupported_literal (literal_of literal.now) }
 {
     if is_floating_point(&literal.value) {
-        left_out_at(ProfileRule::FloatingPoint, literal.at)
+        unsupported_at(ProfileRule::FloatingPoint, literal.at)
     } else {
         None
     }
@@ -121,13 +121,13 @@ fn is_floating_point(value: &LiteralValue) -> bool
     )
 }
 
-fn left_out_attribute(attribute: &ExtendedAttribute) -> Option<LeftOut>
-    ensures { result ≡ left_out_attribute (attribute_of attribute.now) }
+fn unsupported_attribute(attribute: &ExtendedAttribute) -> Option<Unsupported>
+    ensures { result ≡ unsupported_attribute (attribute_of attribute.now) }
 {
     if is_listed(attribute) {
         None
     } else {
-        left_out_at(ProfileRule::UnlistedAttribute, attribute.name.at)
+        unsupported_at(ProfileRule::UnlistedAttribute, attribute.name.at)
     }
 }
 
@@ -163,53 +163,56 @@ fn is_annotation(name: &str) -> bool
     name == "Clamp" || name == "EnforceRange" || name == "LegacyNullToEmptyString"
 }
 
-fn left_out_member(kind: &MemberKind) -> Option<LeftOut>
-    ensures { result ≡ left_out_member (member_kind_of kind.now) }
+fn unsupported_member(kind: &MemberKind) -> Option<Unsupported>
+    ensures { result ≡ unsupported_member (member_kind_of kind.now) }
 {
     match kind {
-        MemberKind::Operation(operation) => left_out_operation(operation.kind),
-        MemberKind::Attribute(attribute) => left_out_attribute_kind(attribute.kind),
-        MemberKind::Iterable(iterable) => left_out_iterable(iterable.at, &iterable.second),
-        MemberKind::AsyncIterable(iterable) => left_out_at(ProfileRule::Asynchronous, iterable.at),
-        MemberKind::Maplike(maplike) => left_out_at(ProfileRule::MapOrSet, maplike.at),
-        MemberKind::Setlike(setlike) => left_out_at(ProfileRule::MapOrSet, setlike.at),
+        MemberKind::Operation(operation) => unsupported_operation(operation.kind),
+        MemberKind::Attribute(attribute) => unsupported_attribute_kind(attribute.kind),
+        MemberKind::Iterable(iterable) => unsupported_iterable(iterable.at, &iterable.second),
+        MemberKind::AsyncIterable(iterable) => unsupported_at(
+            ProfileRule::Asynchronous,
+            iterable.at,
+        ),
+        MemberKind::Maplike(maplike) => unsupported_at(ProfileRule::MapOrSet, maplike.at),
+        MemberKind::Setlike(setlike) => unsupported_at(ProfileRule::MapOrSet, setlike.at),
         MemberKind::Constant(_) | MemberKind::Constructor(_) | MemberKind::Stringifier(_) => None,
     }
 }
 
-fn left_out_operation(kind: OperationKind) -> Option<LeftOut>
-    ensures { result ≡ left_out_operation kind }
+fn unsupported_operation(kind: OperationKind) -> Option<Unsupported>
+    ensures { result ≡ unsupported_operation kind }
 {
     match kind {
-        OperationKind::Special(_, at) => left_out_at(ProfileRule::SpecialOperation, at),
+        OperationKind::Special(_, at) => unsupported_at(ProfileRule::SpecialOperation, at),
         OperationKind::Regular | OperationKind::Static => None,
     }
 }
 
-fn left_out_attribute_kind(kind: AttributeKind) -> Option<LeftOut>
-    ensures { result ≡ left_out_attribute_kind kind }
+fn unsupported_attribute_kind(kind: AttributeKind) -> Option<Unsupported>
+    ensures { result ≡ unsupported_attribute_kind kind }
 {
     match kind {
-        AttributeKind::Inherited(at) => left_out_at(ProfileRule::InheritedAttribute, at),
+        AttributeKind::Inherited(at) => unsupported_at(ProfileRule::InheritedAttribute, at),
         AttributeKind::Regular | AttributeKind::Static | AttributeKind::Stringifier(_) => None,
     }
 }
 
-fn left_out_iterable(at: Place, second: &Option<AnnotatedType>) -> Option<LeftOut>
-    ensures { result ≡ left_out_iterable at (option_map annotated_of second.now) }
+fn unsupported_iterable(at: Place, second: &Option<AnnotatedType>) -> Option<Unsupported>
+    ensures { result ≡ unsupported_iterable at (option_map annotated_of second.now) }
 {
     match second {
-        None => left_out_at(ProfileRule::ValueIterable, at),
+        None => unsupported_at(ProfileRule::ValueIterable, at),
         Some(_) => None,
     }
 }
 
-fn left_out_callback_member(kind: &MemberKind) -> Option<LeftOut>
-    ensures { result ≡ left_out_callback_member (member_kind_of kind.now) }
+fn unsupported_callback_member(kind: &MemberKind) -> Option<Unsupported>
+    ensures { result ≡ unsupported_callback_member (member_kind_of kind.now) }
 {
     match kind {
         MemberKind::Constant(constant) => {
-            left_out_at(ProfileRule::CallbackInterfaceConstant, constant.at)
+            unsupported_at(ProfileRule::CallbackInterfaceConstant, constant.at)
         }
         _ => None,
     }

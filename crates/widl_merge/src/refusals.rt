@@ -1,19 +1,19 @@
-//! The least refusal of a set of files.
+//! The first refusal of a set of files.
 
 ghost use Rattle.std.specs.Prelude.{◌≡◌, IfOk, Some, None};
 ghost use Rattle.widl_idl.specs.Meanings.{definitions_of};
-ghost use Rattle.widl_idl.specs.Things.{things_of};
-ghost use Rattle.widl_names.specs.Listings.{listed_definitions, things_listed};
+ghost use Rattle.widl_idl.specs.Nodes.{nodes_of};
+ghost use Rattle.widl_names.specs.Listings.{listed_definitions, nodes_listed};
 ghost use Rattle.widl_merge.specs.Refusals.{IsRefusal};
 
 use crate::merging::first_unmerged;
-use crate::profile::first_left_out;
+use crate::profile::first_unsupported;
 use std::alloc::{AllocError, Global};
 use widl_idl::tree::Definition;
 use widl_idl::{Fragments, Refusal};
-use widl_names::{Thing, list_definitions, list_things};
+use widl_names::{Node, list_definitions, list_nodes};
 
-/// The least refusal of a set of files: by the rules of the profile, or, where none of these is broken, by
+/// The first refusal of a set of files: by the rules of the profile, or, where none of these is broken, by
 /// the rules of merging. None where all of them are kept.
 ///
 /// # Errors
@@ -23,8 +23,8 @@ pub fn find_refusal(alloc: Global, fragments: &Fragments) -> Result<Option<Refus
     ensures { IfOk result (λ refusal. IsRefusal (definitions_of fragments.now) refusal) }
 {
     let definitions = list_definitions(alloc, fragments.as_slice())?;
-    let things = list_things(alloc, &definitions)?;
-    find_in_things(alloc, &definitions, &things)
+    let nodes = list_nodes(alloc, &definitions)?;
+    find_in_nodes(alloc, &definitions, &nodes)
 }
 
 /// The same, where everything that is written in the definitions is listed.
@@ -32,16 +32,16 @@ pub fn find_refusal(alloc: Global, fragments: &Fragments) -> Result<Option<Refus
 /// # Errors
 ///
 /// `AllocError` where there is no memory.
-pub fn find_in_things(
+pub fn find_in_nodes(
     alloc: Global,
     definitions: &[&Definition],
-    things: &[Thing<'_>],
+    nodes: &[Node<'_>],
 ) -> Result<Option<Refusal>, AllocError>
-    requires { things_listed things.now ≡ things_of (listed_definitions definitions.now) }
+    requires { nodes_listed nodes.now ≡ nodes_of (listed_definitions definitions.now) }
     ensures { IfOk result (λ refusal. IsRefusal (listed_definitions definitions.now) refusal) }
 {
-    match first_left_out(things) {
+    match first_unsupported(nodes) {
         Some(refusal) => Ok(Some(refusal)),
-        None => Ok(first_unmerged(alloc, definitions, things)?),
+        None => Ok(first_unmerged(alloc, definitions, nodes)?),
     }
 }

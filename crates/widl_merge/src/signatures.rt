@@ -41,7 +41,7 @@ pub fn operation_sig<'a>(
     })
 }
 
-// Where an operation's name stands, or else the parenthesis that follows.
+/// Where an operation's name stands, or else the parenthesis that follows.
 fn operation_place(operation: &Operation) -> Place
     ensures { result ≡ operation_place (option_map name_of operation.now.name) operation.now.open }
 {
@@ -127,7 +127,7 @@ fn optionality_of(kind: &ArgumentKind) -> Optionality
     }
 }
 
-// The default value of an argument, if it has one.
+/// The default value of an argument, if it has one.
 fn default_in(alloc: Global, kind: &ArgumentKind) -> Result<Option<Literal>, AllocError>
     ensures { IfOk result (λ value. value ≡ default_in (argument_kind_of kind.now)) }
 {

@@ -109,7 +109,7 @@ impl<'m, 'd, 'a> Sources<'m, 'd, 'a> {
     }
 }
 
-// The members of all of these parts.
+/// The members of all of these parts.
 fn list_members<'a>(
     alloc: Global,
     parts: &[&'a DefinitionKind],

@@ -4,7 +4,7 @@ ghost use Rattle.std.specs.Prelude.{◌≡◌, ◌+◌, ℕ, List, None, Some, o
 ghost use Rattle.std.specs.Option.{option_map_or};
 ghost use Rattle.widl_idl.specs.declared.kind.Kind.TheVariants as kinds;
 ghost use Rattle.widl_idl.specs.declared.merging_rule.MergingRule.TheVariants as rule;
-ghost use Rattle.widl_idl.specs.Least.{LeastWhere, spot_at};
+ghost use Rattle.widl_idl.specs.First.{FirstWhere, violation_at};
 ghost use Rattle.widl_idl.specs.Meanings.{meant_kind};
 ghost use Rattle.widl_idl.specs.MergingRules.{BreaksMerging, includes_portion, is_kind, member_total, part_portion, portion_of, takes_part};
 ghost use Rattle.widl_idl.specs.Parts.{adds_to, is_mixin, members_in, own_parts};
@@ -16,12 +16,10 @@ ghost use Rattle.widl_merge.specs.Portions.{AreFound, KeepsAdded, added_in, capp
 use indexmap::IndexMap;
 use std::alloc::{AllocError, Global};
 use widl_idl::tree::{Definition, DefinitionKind, Includes, Member, Mixin, Name};
-use widl_idl::{Kind, Spot, lesser_spot};
+use widl_idl::{Kind, Violation, earlier_violation};
 use widl_names::{Meanings, is_partial, kind_of, means_kind, means_number};
 use widl_text::Place;
-
-// The greatest sum that is allowed. Sums and sizes stop at one past it.
-const LIMIT: u32 = 1_000_000;
+use widl_text::limits::MOST_MEMBERS;
 
 /// What a definition or an includes statement adds to the sum.
 #[derive(Clone, Copy)]
@@ -38,8 +36,8 @@ pub struct Portion {
 /// # Errors
 ///
 /// `AllocError` where there is no memory.
-pub fn first_past_limit(alloc: Global, meanings: &Meanings) -> Result<Option<Spot>, AllocError>
-    ensures { IfOk result (λ found. LeastWhere (BreaksMerging (plain_definitions meanings.now) rule.TooManyMembers) found) }
+pub fn first_past_limit(alloc: Global, meanings: &Meanings) -> Result<Option<Violation>, AllocError>
+    ensures { IfOk result (λ found. FirstWhere (BreaksMerging (plain_definitions meanings.now) rule.TooManyMembers) found) }
 {
     let definitions = meanings.all();
     let added = added_members(alloc, definitions)?;
@@ -48,25 +46,25 @@ pub fn first_past_limit(alloc: Global, meanings: &Meanings) -> Result<Option<Spo
     for (number, definition) in definitions.iter().enumerate() {
         let portion = portion_of(meanings, &added, number, &definition.kind);
         let found = passed(sum, portion);
-        best = lesser_spot(best, found);
+        best = earlier_violation(best, found);
         sum = summed(sum, portion);
     }
     Ok(best)
 }
 
-// The spot of a portion with which the sum passes the limit.
-fn passed(sum: u32, portion: Option<Portion>) -> Option<Spot>
-    ensures { result ≡ option_and_then (λ p. if nat_lt sum 1000001 && nat_lt 1000000 (capped (sum + p.size)) then Some (spot_at p.at) else None) portion }
+/// The violation of a portion with which the sum passes the limit.
+fn passed(sum: u32, portion: Option<Portion>) -> Option<Violation>
+    ensures { result ≡ option_and_then (λ p. if nat_lt sum 1000001 && nat_lt 1000000 (capped (sum + p.size)) then Some (violation_at p.at) else None) portion }
 {
     let portion = portion?;
-    if sum <= LIMIT && plus(sum, portion.size) > LIMIT {
-        Some(Spot::at(portion.at))
+    if sum <= MOST_MEMBERS && plus(sum, portion.size) > MOST_MEMBERS {
+        Some(Violation::at(portion.at))
     } else {
         None
     }
 }
 
-// The sum with a portion, if there is one.
+/// The sum with a portion, if there is one.
 fn summed(sum: u32, portion: Option<Portion>) -> u32
     ensures { result ≡ option_map_or (λ p. capped (sum + p.size)) portion sum }
 {
@@ -76,21 +74,21 @@ fn summed(sum: u32, portion: Option<Portion>) -> u32
     }
 }
 
-// The sum of two numbers.
+/// The sum of two numbers.
 fn plus(sum: u32, size: u32) -> u32
     ensures { result ≡ capped (sum + size) }
 {
-    sum.saturating_add(size).min(LIMIT + 1)
+    sum.saturating_add(size).min(MOST_MEMBERS + 1)
 }
 
-// How many members there are.
+/// How many members there are.
 fn count(members: &[Member]) -> u32
     ensures { result ≡ capped (length (members_of members.now)) }
 {
-    members.len().min(LIMIT as usize + 1) as u32
+    members.len().min(MOST_MEMBERS as usize + 1) as u32
 }
 
-// What a definition adds to the sum.
+/// What a definition adds to the sum.
 fn portion_of(
     meanings: &Meanings,
     added: &IndexMap<&str, u32>,
@@ -124,7 +122,7 @@ fn portion_of(
     }
 }
 
-// What a part of an interface or a namespace adds.
+/// What a part of an interface or a namespace adds.
 fn part_portion(
     meanings: &Meanings,
     number: usize,
@@ -144,7 +142,7 @@ fn part_portion(
     }
 }
 
-// Whether the definition of this number is the one that its name means, or a partial one of it.
+/// Whether the definition of this number is the one that its name means, or a partial one of it.
 fn takes_part(meanings: &Meanings, number: usize, kind: &DefinitionKind, text: &str) -> bool
     ensures { result ≡ takes_part (plain_definitions meanings.now) number (definition_kind_of kind.now) text.now }
 {
@@ -155,7 +153,7 @@ fn takes_part(meanings: &Meanings, number: usize, kind: &DefinitionKind, text: &
     }
 }
 
-// What an includes statement adds.
+/// What an includes statement adds.
 fn includes_portion(
     meanings: &Meanings,
     added: &IndexMap<&str, u32>,
@@ -175,7 +173,7 @@ fn includes_portion(
     }
 }
 
-// One and the number of the members of the mixin that a name means.
+/// One and the number of the members of the mixin that a name means.
 fn mixin_size(meanings: &Meanings, added: &IndexMap<&str, u32>, text: &str) -> Option<u32>
     requires { KeepsAdded added.now (plain_definitions meanings.now) }
     ensures { result ≡ (if is_kind kinds.Mixin (meant_kind (plain_definitions meanings.now) text.now) then Some (capped (1 + member_total (own_parts is_mixin (plain_definitions meanings.now) text.now))) else None) }
@@ -189,14 +187,14 @@ fn mixin_size(meanings: &Meanings, added: &IndexMap<&str, u32>, text: &str) -> O
     }
 }
 
-// The number of members that is kept for a text.
+/// The number of members that is kept for a text.
 fn added_for(added: &IndexMap<&str, u32>, text: &str) -> u32
     ensures { result ≡ added_in added.now text.now }
 {
     added.get(text).copied().unwrap_or(0)
 }
 
-// The number of the members of the partial mixins of each name.
+/// The number of the members of the partial mixins of each name.
 fn added_members<'a>(
     alloc: Global,
     definitions: &[&'a Definition],
@@ -210,7 +208,7 @@ fn added_members<'a>(
     Ok(added)
 }
 
-// Adds the members of a definition, if it is a partial mixin.
+/// Adds the members of a definition, if it is a partial mixin.
 fn add_part<'a>(
     added: &mut IndexMap<&'a str, u32>,
     kind: &'a DefinitionKind,

@@ -2,7 +2,7 @@
 
 ghost use Rattle.std.specs.Prelude.{◌≡◌, ◌++◌, IfOk, OnOk, flat_map, option_to_list};
 ghost use Rattle.widl_idl.specs.declared.merging_rule.MergingRule.TheVariants as rule;
-ghost use Rattle.widl_idl.specs.Least.{LeastWhere};
+ghost use Rattle.widl_idl.specs.First.{FirstWhere};
 ghost use Rattle.widl_idl.specs.Meanings.{meaning, meant};
 ghost use Rattle.widl_idl.specs.MergingRules.{BreaksMerging};
 ghost use Rattle.widl_idl.specs.Nesting.{number_if_typedef, typedef_links, typedef_named, typedefs_in, form_names, type_names, annotated_names, union_names};
@@ -14,13 +14,13 @@ use crate::cycles::{add_linked, first_coming_back};
 use std::alloc::{AllocError, Global};
 use widl_graph::{Graph, Walk};
 use widl_idl::tree::{AnnotatedType, DefinitionKind, Name, TypeForm, WrittenType};
-use widl_idl::{Kind, Spot};
+use widl_idl::{Kind, Violation};
 use widl_names::{Meanings, number_meant};
 
-/// The least place of the name of a typedef that reaches itself.
-pub fn first_typedef_reaching_itself(meanings: &Meanings<'_, '_>, walk: &Walk) -> Option<Spot>
+/// The first place of the name of a typedef that reaches itself.
+pub fn first_typedef_reaching_itself(meanings: &Meanings<'_, '_>, walk: &Walk) -> Option<Violation>
     requires { IsWalk (typedef_links (plain_definitions meanings.now)) walk.now }
-    ensures { LeastWhere (BreaksMerging (plain_definitions meanings.now) rule.TypedefReachesItself) result }
+    ensures { FirstWhere (BreaksMerging (plain_definitions meanings.now) rule.TypedefReachesItself) result }
 {
     first_coming_back(walk.cyclic.as_slice(), meanings.all())
 }

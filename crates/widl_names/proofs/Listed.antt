@@ -2,7 +2,7 @@
 use Rattle.std.proofs.Common.{◌≡◌, refl, ℕ, ◌+◌, ◌<◌, ◌≤◌, ◌++◌, List, [], ◌∷◌, length, take, flat_map, get_or, sym, ap, ◌∙◌}
 use Rattle.std.proofs.lemmas.List.{take_more, take_all, flat_map_more}
 use Rattle.widl_idl.specs.declared.tree.types.AnnotatedType.{AnnotatedType}
-use Rattle.widl_idl.specs.Things.{things_of_annotated, things_of_union}
+use Rattle.widl_idl.specs.Nodes.{nodes_of_annotated, nodes_of_union}
 use Rattle.widl_idl.specs.PlainTypes.{annotated_of, union_of}
 
 -- with one item more
@@ -15,7 +15,7 @@ listed_more f xs i x start old new below is added so =
 pub listed_all : {X A : Type 0} (f : X → List A) (xs : List X) (i : ℕ) (start new whole : List A) → length xs ≤ i → flat_map f xs ≡ whole → new ≡ start ++ flat_map f (take i xs) → new ≡ start ++ whole
 listed_all f xs i start new whole past is so = so ∙ ap (λ l. start ++ flat_map f l) (take_all i xs past) ∙ ap (λ l. start ++ l) is
 
--- the things of a union's members, as a loop over them lists them
-pub union_listed : (members : List AnnotatedType) → flat_map (λ m. things_of_annotated (annotated_of m)) members ≡ things_of_union (union_of members)
+-- the nodes of a union's members, as a loop over them lists them
+pub union_listed : (members : List AnnotatedType) → flat_map (λ m. nodes_of_annotated (annotated_of m)) members ≡ nodes_of_union (union_of members)
 union_listed [] = refl
-union_listed (m ∷ members) = ap (λ things. things_of_annotated (annotated_of m) ++ things) (union_listed members)
+union_listed (m ∷ members) = ap (λ nodes. nodes_of_annotated (annotated_of m) ++ nodes) (union_listed members)

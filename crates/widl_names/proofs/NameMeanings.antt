@@ -22,7 +22,7 @@ meaning_push n (first ∷ more) d text =
     let k : n + 1 + length more ≡ n + length (first ∷ more) = omega arith in
     by_first (is_text_of text (main_name first.kind)) n _ _ _ (meaning_push (n + 1) more d text ∙ ap (λ m. option_or (meaning_from (n + 1) more text) (number_here text d m)) k)
 
--- the definitions behind references, as definitions see them
+-- the definitions after references, as definitions see them
 pub all_plain : (list : List (Bor Definition)) (definitions : List Definition) → map (λ d. d.now) list ≡ definitions → listed_definitions list ≡ plain_definitions definitions
 all_plain list definitions same = sym (twice list) ∙ ap plain_definitions same
   where

@@ -8,7 +8,7 @@ use Rattle.widl_names.specs.Listings.{listed_definitions}
 use Rattle.widl_names.specs.PartTables.{Grouped, Puts}
 use Rattle.widl_names.proofs.PlainLists.{listed_more}
 
--- one item is put behind the group of its owner
+-- one item is put after the group of its owner
 put_at : {X : Type 0} (old : List (List X)) (owner number : ℕ) (item : X) (b : Bool) → nat_eq number owner ≡ b → owner < length old → get_or (slice_set old owner (get_or old owner [] ++ item ∷ [])) number [] ≡ get_or old number [] ++ cond b (item ∷ []) []
 put_at old owner number item true h below =
     let same : number ≡ owner = grind arith in

@@ -5,7 +5,7 @@ use Rattle.std.specs.List.{cons_option}
 use Rattle.std.proofs.lemmas.List.{take_more, map-append}
 use Rattle.std.proofs.lemmas.List.Elements.{filter_map-append}
 use Rattle.widl_idl.specs.declared.tree.extended_attributes.ExtendedAttribute.{ExtendedAttribute}
-use Rattle.widl_idl.specs.Least.{is_before}
+use Rattle.widl_idl.specs.First.{is_before}
 use Rattle.widl_idl.specs.PlainTypes.{attribute_of}
 use Rattle.widl_idl.specs.Resolution.{Note, ModeNote, earlier_mode, first_mode, has_null_to_empty, is_null_to_empty, mode_note}
 use Rattle.widl_idl.specs.WrittenTypes.{note_of, notes_of}

@@ -73,10 +73,10 @@ module _ (definitions : List PlainDefinition) where
   means_at_end form end e = absurd e
 
   -- the chain of a type that names a typedef, whose own chain has this end
-  pub ends_behind : (t : PlainAnnotated) (form : PlainForm) (next end : ChainEnd) (attributes : List PlainAttribute) (at inner_at : Place) (question : Option Place) → t ≡ plain_annotated at attributes (plain_type inner_at form question) → IsEndOf definitions (typedef_of_form definitions form) next → end.form ≡ next.form → end.passed ≡ next.passed + 1 → end.questions ≡ question_count question + next.questions
+  pub ends_after : (t : PlainAnnotated) (form : PlainForm) (next end : ChainEnd) (attributes : List PlainAttribute) (at inner_at : Place) (question : Option Place) → t ≡ plain_annotated at attributes (plain_type inner_at form question) → IsEndOf definitions (typedef_of_form definitions form) next → end.form ≡ next.form → end.passed ≡ next.passed + 1 → end.questions ≡ question_count question + next.questions
       → ((more : List Note) → Says next.annotations more → Says end.annotations (notes_of attributes ++ more)) → EndsAt definitions t end
-  ends_behind t form next end attributes at inner_at question is behind form_is passed count both =
-      let m = means_at_end form next behind in
+  ends_after t form next end attributes at inner_at question is after form_is passed count both =
+      let m = means_at_end form next after in
       record {
         notes = notes_of attributes ++ m.notes;
         said = both m.notes m.said;

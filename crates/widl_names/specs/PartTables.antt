@@ -61,7 +61,7 @@ own_at definitions number = part_kept (option_map (λ d. d.kind) (slice_get defi
 abbrev pub listed_at : List PlainDefinition → ℕ → List PlainKind
 listed_at definitions number = own_at definitions number ++ flat_map (own_at definitions) (flat_map (mixin_at definitions number) definitions)
 
--- a list is put behind the group of the owner, if there is one
+-- a list is put after the group of the owner, if there is one
 pub record Puts {X : Type 0} (old new : List (List X)) (owner : Option ℕ) (added : List X) : Type 0 where
   pub size : length new ≡ length old
   pub each : (number : ℕ) → slice_index_or new number [] ≡ slice_index_or old number [] ++ (if is_number number owner then added else [])

@@ -20,7 +20,7 @@ abbrev pub question_count : Option Place → ℕ
 question_count None = 0
 question_count (Some question) = 1
 
--- a type with so many `?`s behind it
+-- a type with so many `?`s after it
 abbrev pub questioned : ℕ → TypeTerm → TypeTerm
 questioned zero t = t
 questioned (suc count) t = NullableType (questioned count t)
@@ -87,9 +87,9 @@ abbrev pub IsLast : List PlainDefinition → Use → Type 0
 IsLast definitions u = is_followed definitions u.typedefs (form_term u.form.now) ≡ false
 
 -- where a use of a type leads, with fewer typedefs left, or none where it is the last
-abbrev pub Behind : List PlainDefinition → Use → Option Use → Type 0
-Behind definitions u None = IsLast definitions u
-Behind definitions u (Some next) = Leads definitions u next × (next.typedefs < u.typedefs)
+abbrev pub After : List PlainDefinition → Use → Option Use → Type 0
+After definitions u None = IsLast definitions u
+After definitions u (Some next) = Leads definitions u next × (next.typedefs < u.typedefs)
 
 -- the type of a typedef
 abbrev pub typedef_type : Option PlainKind → Option PlainAnnotated

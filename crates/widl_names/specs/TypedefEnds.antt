@@ -32,7 +32,7 @@ IsNext definitions typedefs t (Some end) = IsEndOf definitions t end × (end.pas
 abbrev pub CanGrow : ChainEnd → Type 0
 CanGrow end = (end.passed < 2 ^ 32 - 1) × (end.questions < 16)
 
--- the next use is the end of a chain, behind the annotations and the `?`s of the first use
+-- the next use is the end of a chain, after the annotations and the `?`s of the first use
 pub record GoesTo (u : Use) (end : ChainEnd) (next : Use) : Type 0 where
   pub fewer : u.typedefs ≡ next.typedefs + end.passed + 1
   pub said : (notes more : List Note) → Says u.annotations notes → Says end.annotations more → Says next.annotations (notes ++ more)

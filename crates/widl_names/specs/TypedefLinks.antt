@@ -1,4 +1,4 @@
--- Graphs of the typedefs that the types of typedefs name.
+-- For proofs alone. Graphs of the typedefs that the types of typedefs name.
 use Rattle.std.specs.Prelude.{◌≡◌, ℕ, List, length}
 use Rattle.widl_graph.specs.Reaching.{AreBelow}
 

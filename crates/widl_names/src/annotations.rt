@@ -1,7 +1,7 @@
 //! What the annotations before a type say of it.
 
 ghost use Rattle.std.specs.Prelude.{◌≡◌, ◌++◌, List, [], map, option_to_list, false, Some};
-ghost use Rattle.widl_idl.specs.Least.{is_before};
+ghost use Rattle.widl_idl.specs.First.{is_before};
 ghost use Rattle.widl_idl.specs.PlainTypes.{attribute_of};
 ghost use Rattle.widl_idl.specs.Resolution.{Note, annotated, earlier_mode, mode_or_wrap, takes_null_to_empty};
 ghost use Rattle.widl_idl.specs.Terms.{type_term, IntegerType, StringType};
@@ -80,7 +80,7 @@ impl Annotations {
         }
     }
 
-    // What one extended attribute says.
+    /// What one extended attribute says.
     fn of_one(attribute: &ExtendedAttribute) -> Annotations
         ensures { Says result (option_to_list (note_of (attribute_of attribute.now))) }
     {
@@ -97,7 +97,7 @@ impl Annotations {
         }
     }
 
-    // What an annotation that sets a mode says.
+    /// What an annotation that sets a mode says.
     fn with_mode(mode: Mode, at: Place) -> Annotations
         ensures { result ≡ record { mode = Some (record { mode = mode; at = at }); null_to_empty = false } }
     {
@@ -108,7 +108,7 @@ impl Annotations {
     }
 }
 
-// Of two annotations that set a mode, the one whose name comes first.
+/// Of two annotations that set a mode, the one whose name comes first.
 fn earlier_mode(
     first: Option<ModeAnnotation>,
     second: Option<ModeAnnotation>,
@@ -141,7 +141,7 @@ fn mode_or_wrap(said: Option<ModeAnnotation>) -> Mode
     }
 }
 
-// Whether the annotation for null applies to a string type.
+/// Whether the annotation for null applies to a string type.
 fn takes_null_to_empty(kind: TextKind) -> bool
     ensures { result ≡ takes_null_to_empty kind }
 {

@@ -23,7 +23,7 @@ pub fn list_definitions<'a>(
     Ok(list)
 }
 
-// Adds the definitions of one file.
+/// Adds the definitions of one file.
 fn add_definitions<'a>(
     list: &mut Vec<&'a Definition>,
     definitions: &'a [Definition],

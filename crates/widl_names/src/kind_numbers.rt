@@ -88,7 +88,7 @@ impl Counts {
         }
     }
 
-    // The counts with one definition more.
+    /// The counts with one definition more.
     fn with(self, definition: &Definition) -> Result<Counts, AllocError>
         ensures { IfOk result (λ counts. (kind : Kind) → count_of counts kind ≡ (if is_main_of kind (definition_of definition.now) then count_of self kind + 1 else count_of self kind)) }
     {
@@ -99,7 +99,7 @@ impl Counts {
         }
     }
 
-    // The counts with one more of a kind.
+    /// The counts with one more of a kind.
     fn with_one(self, kind: Kind) -> Result<Counts, AllocError>
         ensures { IfOk result (λ counts. counts ≡ with_count self kind (count_of self kind + 1)) }
     {
@@ -107,7 +107,7 @@ impl Counts {
         Ok(self.with_count(kind, count))
     }
 
-    // The counts with another count of a kind.
+    /// The counts with another count of a kind.
     fn with_count(self, kind: Kind, count: u32) -> Counts
         ensures { result ≡ with_count self kind count }
     {

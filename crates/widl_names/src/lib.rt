@@ -2,7 +2,7 @@
 //! definitions: the tables that the rules of merging and of validity read. It stands on the trees and
 //! their plain terms in `widl_idl`. The contracts that the crates above use most: [`Meanings`] tells
 //! which definition a name means, [`Resolver`] gives a written type without its typedefs,
-//! [`list_things`] lists everything that is written, and [`Parts`] the parts of a definition in merged
+//! [`list_nodes`] lists everything that is written, and [`Parts`] the parts of a definition in merged
 //! order.
 #![tactic(auto)]
 
@@ -13,24 +13,24 @@ mod listings;
 mod meanings;
 mod meant;
 mod names;
+mod nodes;
 mod part_limit;
 mod parts;
 mod resolver;
 mod steps;
-mod things;
 mod typedef_ends;
 mod typedef_links;
 mod written_values;
 
 pub use annotations::Annotations;
 pub use definitions::list_definitions;
-pub use listings::list_things;
+pub use listings::list_nodes;
 pub use meanings::{Meanings, kind_at};
 pub use meant::{means_kind, means_number, number_meant};
 pub use names::{is_partial, kind_of, main_name, name_declared, partial_name};
+pub use nodes::Node;
 pub use parts::{Parts, group_at, members_in, no_groups, put_in_group};
 pub use resolver::Resolver;
 pub use steps::steps_of;
-pub use things::Thing;
 pub use typedef_links::{number_named, typedef_at, typedef_order};
 pub use written_values::{default_meant, value_meant};

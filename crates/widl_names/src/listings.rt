@@ -1,342 +1,336 @@
 //! Lists what is written in a set of files.
 
 ghost use Rattle.std.specs.Prelude.{◌≡◌, ◌++◌, List, [], ◌∷◌, map, flat_map, option_map, IfOk, OnOk};
-ghost use Rattle.widl_idl.specs.Things.{things_of, things_of_attributes, things_of_form, things_of_type, things_of_annotated, things_of_union, things_of_default, things_of_argument_kind, things_of_argument, things_of_arguments, things_of_optional_arguments, things_of_optional_name, things_of_optional_type, things_of_member_kind, things_of_member, things_of_callback_member, things_of_dictionary_member, things_inside, things_of_definition};
+ghost use Rattle.widl_idl.specs.Nodes.{nodes_of, nodes_of_attributes, nodes_of_form, nodes_of_type, nodes_of_annotated, nodes_of_union, nodes_of_default, nodes_of_argument_kind, nodes_of_argument, nodes_of_arguments, nodes_of_optional_arguments, nodes_of_optional_name, nodes_of_optional_type, nodes_of_member_kind, nodes_of_member, nodes_of_callback_member, nodes_of_dictionary_member, nodes_inside, nodes_of_definition};
 ghost use Rattle.widl_idl.specs.Meanings.{declared_name};
 ghost use Rattle.widl_idl.specs.PlainTypes.{name_of, attribute_of, literal_of, form_term, type_of, annotated_of, union_of};
 ghost use Rattle.widl_idl.specs.PlainTrees.{argument_kind_of, argument_of, arguments_of, member_kind_of, member_of, members_of, dictionary_member_of, definition_kind_of, definition_of};
-ghost use Rattle.widl_names.specs.Listings.{Adds, thing_of, things_listed, listed_definitions};
+ghost use Rattle.widl_names.specs.Listings.{Adds, node_of, nodes_listed, listed_definitions};
 
 use crate::names::name_declared;
-use crate::things::Thing;
+use crate::nodes::Node;
 use std::alloc::{AllocError, Global};
 use widl_idl::tree::{
     AnnotatedType, Argument, ArgumentKind, Arguments, Definition, DefinitionKind, DictionaryMember,
     ExtendedAttribute, Literal, Member, MemberKind, Name, TypeForm, WrittenType,
 };
 
-/// Adds a thing.
-fn list_thing<'a>(things: &mut Vec<Thing<'a>>, thing: Thing<'a>) -> Result<(), AllocError>
-    ensures { OnOk result (Adds things.old.items things.new.items (thing_of thing.entry ∷ [])) }
+/// Adds a node.
+fn list_node<'a>(nodes: &mut Vec<Node<'a>>, node: Node<'a>) -> Result<(), AllocError>
+    ensures { OnOk result (Adds nodes.old.items nodes.new.items (node_of node.entry ∷ [])) }
 {
-    things.push(thing)?;
+    nodes.push(node)?;
     Ok(())
 }
 
 /// Adds extended attributes.
 fn list_attributes<'a>(
-    things: &mut Vec<Thing<'a>>,
+    nodes: &mut Vec<Node<'a>>,
     attributes: &'a [ExtendedAttribute],
 ) -> Result<(), AllocError>
-    ensures { OnOk result (Adds things.old.items things.new.items (things_of_attributes (map attribute_of attributes.now))) }
+    ensures { OnOk result (Adds nodes.old.items nodes.new.items (nodes_of_attributes (map attribute_of attributes.now))) }
 {
     for attribute in attributes {
-        list_thing(things, Thing::Attribute(attribute))?;
+        list_node(nodes, Node::Attribute(attribute))?;
     }
     Ok(())
 }
 
 /// Adds a type and what stands inside it.
 #[cycle(list)]
-fn list_type<'a>(things: &mut Vec<Thing<'a>>, ty: &'a WrittenType) -> Result<(), AllocError>
-    ensures { OnOk result (Adds things.old.items things.new.items (things_of_type (type_of ty.now))) }
+fn list_type<'a>(nodes: &mut Vec<Node<'a>>, ty: &'a WrittenType) -> Result<(), AllocError>
+    ensures { OnOk result (Adds nodes.old.items nodes.new.items (nodes_of_type (type_of ty.now))) }
 {
-    list_thing(things, Thing::Type(ty))?;
-    list_form(things, &ty.form)
+    list_node(nodes, Node::Type(ty))?;
+    list_form(nodes, &ty.form)
 }
 
 /// Adds what stands inside a type.
 #[cycle(list)]
-fn list_form<'a>(things: &mut Vec<Thing<'a>>, form: &'a TypeForm) -> Result<(), AllocError>
-    ensures { OnOk result (Adds things.old.items things.new.items (things_of_form (form_term form.now))) }
+fn list_form<'a>(nodes: &mut Vec<Node<'a>>, form: &'a TypeForm) -> Result<(), AllocError>
+    ensures { OnOk result (Adds nodes.old.items nodes.new.items (nodes_of_form (form_term form.now))) }
 {
     match form {
-        TypeForm::Container(_, inner) => list_annotated(things, inner),
-        TypeForm::Record(_, inner) => list_annotated(things, inner),
-        TypeForm::Promise(inner) => list_type(things, inner),
-        TypeForm::Union(members) => list_union(things, members.as_slice()),
+        TypeForm::Container(_, inner) => list_annotated(nodes, inner),
+        TypeForm::Record(_, inner) => list_annotated(nodes, inner),
+        TypeForm::Promise(inner) => list_type(nodes, inner),
+        TypeForm::Union(members) => list_union(nodes, members.as_slice()),
         _ => Ok(()),
     }
 }
 
 /// Adds a type with the extended attributes before it.
 #[cycle(list)]
-fn list_annotated<'a>(things: &mut Vec<Thing<'a>>, ty: &'a AnnotatedType) -> Result<(), AllocError>
-    ensures { OnOk result (Adds things.old.items things.new.items (things_of_annotated (annotated_of ty.now))) }
+fn list_annotated<'a>(nodes: &mut Vec<Node<'a>>, ty: &'a AnnotatedType) -> Result<(), AllocError>
+    ensures { OnOk result (Adds nodes.old.items nodes.new.items (nodes_of_annotated (annotated_of ty.now))) }
 {
-    list_attributes(things, ty.attributes.as_slice())?;
-    list_type(things, &ty.ty)
+    list_attributes(nodes, ty.attributes.as_slice())?;
+    list_type(nodes, &ty.ty)
 }
 
 /// Adds the members of a union.
 #[cycle(list)]
-fn list_union<'a>(
-    things: &mut Vec<Thing<'a>>,
-    members: &'a [AnnotatedType],
-) -> Result<(), AllocError>
-    ensures { OnOk result (Adds things.old.items things.new.items (things_of_union (union_of members.now))) }
+fn list_union<'a>(nodes: &mut Vec<Node<'a>>, members: &'a [AnnotatedType]) -> Result<(), AllocError>
+    ensures { OnOk result (Adds nodes.old.items nodes.new.items (nodes_of_union (union_of members.now))) }
 {
     for member in members {
-        list_annotated(things, member)?;
+        list_annotated(nodes, member)?;
     }
     Ok(())
 }
 
 /// Adds a default value, if there is one.
 fn list_default<'a>(
-    things: &mut Vec<Thing<'a>>,
+    nodes: &mut Vec<Node<'a>>,
     default: &'a Option<Literal>,
 ) -> Result<(), AllocError>
-    ensures { OnOk result (Adds things.old.items things.new.items (things_of_default (option_map literal_of default.now))) }
+    ensures { OnOk result (Adds nodes.old.items nodes.new.items (nodes_of_default (option_map literal_of default.now))) }
 {
     match default {
         None => Ok(()),
-        Some(literal) => list_thing(things, Thing::Literal(literal)),
+        Some(literal) => list_node(nodes, Node::Literal(literal)),
     }
 }
 
 /// Adds the default value of an argument, if it has one.
 fn list_argument_kind<'a>(
-    things: &mut Vec<Thing<'a>>,
+    nodes: &mut Vec<Node<'a>>,
     kind: &'a ArgumentKind,
 ) -> Result<(), AllocError>
-    ensures { OnOk result (Adds things.old.items things.new.items (things_of_argument_kind (argument_kind_of kind.now))) }
+    ensures { OnOk result (Adds nodes.old.items nodes.new.items (nodes_of_argument_kind (argument_kind_of kind.now))) }
 {
     match kind {
-        ArgumentKind::Optional(default) => list_default(things, default),
+        ArgumentKind::Optional(default) => list_default(nodes, default),
         ArgumentKind::Required | ArgumentKind::Variadic(_) => Ok(()),
     }
 }
 
 /// Adds an argument.
-fn list_argument<'a>(things: &mut Vec<Thing<'a>>, argument: &'a Argument) -> Result<(), AllocError>
-    ensures { OnOk result (Adds things.old.items things.new.items (things_of_argument (argument_of argument.now))) }
+fn list_argument<'a>(nodes: &mut Vec<Node<'a>>, argument: &'a Argument) -> Result<(), AllocError>
+    ensures { OnOk result (Adds nodes.old.items nodes.new.items (nodes_of_argument (argument_of argument.now))) }
 {
-    list_attributes(things, argument.attributes.as_slice())?;
-    list_annotated(things, &argument.ty)?;
-    list_argument_kind(things, &argument.kind)
+    list_attributes(nodes, argument.attributes.as_slice())?;
+    list_annotated(nodes, &argument.ty)?;
+    list_argument_kind(nodes, &argument.kind)
 }
 
 /// Adds arguments.
 fn list_arguments<'a>(
-    things: &mut Vec<Thing<'a>>,
+    nodes: &mut Vec<Node<'a>>,
     arguments: &'a [Argument],
 ) -> Result<(), AllocError>
-    ensures { OnOk result (Adds things.old.items things.new.items (things_of_arguments (arguments_of arguments.now))) }
+    ensures { OnOk result (Adds nodes.old.items nodes.new.items (nodes_of_arguments (arguments_of arguments.now))) }
 {
     for argument in arguments {
-        list_argument(things, argument)?;
+        list_argument(nodes, argument)?;
     }
     Ok(())
 }
 
 /// Adds arguments, if there are parentheses for them.
 fn list_optional_arguments<'a>(
-    things: &mut Vec<Thing<'a>>,
+    nodes: &mut Vec<Node<'a>>,
     arguments: &'a Option<Arguments>,
 ) -> Result<(), AllocError>
-    ensures { OnOk result (Adds things.old.items things.new.items (things_of_optional_arguments (option_map arguments_of arguments.now))) }
+    ensures { OnOk result (Adds nodes.old.items nodes.new.items (nodes_of_optional_arguments (option_map arguments_of arguments.now))) }
 {
     match arguments {
         None => Ok(()),
-        Some(arguments) => list_arguments(things, arguments.as_slice()),
+        Some(arguments) => list_arguments(nodes, arguments.as_slice()),
     }
 }
 
 /// Adds a name, if there is one.
 fn list_optional_name<'a>(
-    things: &mut Vec<Thing<'a>>,
+    nodes: &mut Vec<Node<'a>>,
     name: &'a Option<Name>,
 ) -> Result<(), AllocError>
-    ensures { OnOk result (Adds things.old.items things.new.items (things_of_optional_name (option_map name_of name.now))) }
+    ensures { OnOk result (Adds nodes.old.items nodes.new.items (nodes_of_optional_name (option_map name_of name.now))) }
 {
     match name {
         None => Ok(()),
-        Some(name) => list_thing(things, Thing::Name(name)),
+        Some(name) => list_node(nodes, Node::Name(name)),
     }
 }
 
 /// Adds a type, if there is one.
 fn list_optional_type<'a>(
-    things: &mut Vec<Thing<'a>>,
+    nodes: &mut Vec<Node<'a>>,
     ty: &'a Option<AnnotatedType>,
 ) -> Result<(), AllocError>
-    ensures { OnOk result (Adds things.old.items things.new.items (things_of_optional_type (option_map annotated_of ty.now))) }
+    ensures { OnOk result (Adds nodes.old.items nodes.new.items (nodes_of_optional_type (option_map annotated_of ty.now))) }
 {
     match ty {
         None => Ok(()),
-        Some(ty) => list_annotated(things, ty),
+        Some(ty) => list_annotated(nodes, ty),
     }
 }
 
 /// Adds the parts of a member.
-fn list_member_kind<'a>(things: &mut Vec<Thing<'a>>, kind: &'a MemberKind) -> Result<(), AllocError>
-    ensures { OnOk result (Adds things.old.items things.new.items (things_of_member_kind (member_kind_of kind.now))) }
+fn list_member_kind<'a>(nodes: &mut Vec<Node<'a>>, kind: &'a MemberKind) -> Result<(), AllocError>
+    ensures { OnOk result (Adds nodes.old.items nodes.new.items (nodes_of_member_kind (member_kind_of kind.now))) }
 {
     match kind {
         MemberKind::Constant(constant) => {
-            list_thing(things, Thing::Name(&constant.name))?;
-            list_thing(things, Thing::Literal(&constant.value))?;
-            list_type(things, &constant.ty)
+            list_node(nodes, Node::Name(&constant.name))?;
+            list_node(nodes, Node::Literal(&constant.value))?;
+            list_type(nodes, &constant.ty)
         }
         MemberKind::Attribute(attribute) => {
-            list_thing(things, Thing::Name(&attribute.name))?;
-            list_annotated(things, &attribute.ty)
+            list_node(nodes, Node::Name(&attribute.name))?;
+            list_annotated(nodes, &attribute.ty)
         }
         MemberKind::Operation(operation) => {
-            list_optional_name(things, &operation.name)?;
-            list_type(things, &operation.result)?;
-            list_arguments(things, operation.arguments.as_slice())
+            list_optional_name(nodes, &operation.name)?;
+            list_type(nodes, &operation.result)?;
+            list_arguments(nodes, operation.arguments.as_slice())
         }
         MemberKind::Constructor(constructor) => {
-            list_arguments(things, constructor.arguments.as_slice())
+            list_arguments(nodes, constructor.arguments.as_slice())
         }
         MemberKind::Stringifier(_) => Ok(()),
         MemberKind::Iterable(iterable) => {
-            list_annotated(things, &iterable.first)?;
-            list_optional_type(things, &iterable.second)
+            list_annotated(nodes, &iterable.first)?;
+            list_optional_type(nodes, &iterable.second)
         }
         MemberKind::AsyncIterable(iterable) => {
-            list_annotated(things, &iterable.first)?;
-            list_optional_type(things, &iterable.second)?;
-            list_optional_arguments(things, &iterable.arguments)
+            list_annotated(nodes, &iterable.first)?;
+            list_optional_type(nodes, &iterable.second)?;
+            list_optional_arguments(nodes, &iterable.arguments)
         }
         MemberKind::Maplike(maplike) => {
-            list_annotated(things, &maplike.key)?;
-            list_annotated(things, &maplike.value)
+            list_annotated(nodes, &maplike.key)?;
+            list_annotated(nodes, &maplike.value)
         }
-        MemberKind::Setlike(setlike) => list_annotated(things, &setlike.value),
+        MemberKind::Setlike(setlike) => list_annotated(nodes, &setlike.value),
     }
 }
 
 /// Adds a member of an interface, a mixin or a namespace.
-fn list_member<'a>(things: &mut Vec<Thing<'a>>, member: &'a Member) -> Result<(), AllocError>
-    ensures { OnOk result (Adds things.old.items things.new.items (things_of_member (member_of member.now))) }
+fn list_member<'a>(nodes: &mut Vec<Node<'a>>, member: &'a Member) -> Result<(), AllocError>
+    ensures { OnOk result (Adds nodes.old.items nodes.new.items (nodes_of_member (member_of member.now))) }
 {
-    list_thing(things, Thing::Member(&member.kind))?;
-    list_attributes(things, member.attributes.as_slice())?;
-    list_member_kind(things, &member.kind)
+    list_node(nodes, Node::Member(&member.kind))?;
+    list_attributes(nodes, member.attributes.as_slice())?;
+    list_member_kind(nodes, &member.kind)
 }
 
 /// Adds a member of a callback interface.
-fn list_callback_member<'a>(
-    things: &mut Vec<Thing<'a>>,
-    member: &'a Member,
-) -> Result<(), AllocError>
-    ensures { OnOk result (Adds things.old.items things.new.items (things_of_callback_member (member_of member.now))) }
+fn list_callback_member<'a>(nodes: &mut Vec<Node<'a>>, member: &'a Member) -> Result<(), AllocError>
+    ensures { OnOk result (Adds nodes.old.items nodes.new.items (nodes_of_callback_member (member_of member.now))) }
 {
-    list_thing(things, Thing::CallbackMember(&member.kind))?;
-    list_attributes(things, member.attributes.as_slice())?;
-    list_member_kind(things, &member.kind)
+    list_node(nodes, Node::CallbackMember(&member.kind))?;
+    list_attributes(nodes, member.attributes.as_slice())?;
+    list_member_kind(nodes, &member.kind)
 }
 
 /// Adds a member of a dictionary.
 fn list_dictionary_member<'a>(
-    things: &mut Vec<Thing<'a>>,
+    nodes: &mut Vec<Node<'a>>,
     member: &'a DictionaryMember,
 ) -> Result<(), AllocError>
-    ensures { OnOk result (Adds things.old.items things.new.items (things_of_dictionary_member (dictionary_member_of member.now))) }
+    ensures { OnOk result (Adds nodes.old.items nodes.new.items (nodes_of_dictionary_member (dictionary_member_of member.now))) }
 {
-    list_thing(things, Thing::Name(&member.name))?;
-    list_attributes(things, member.attributes.as_slice())?;
-    list_annotated(things, &member.ty)?;
-    list_default(things, &member.default)
+    list_node(nodes, Node::Name(&member.name))?;
+    list_attributes(nodes, member.attributes.as_slice())?;
+    list_annotated(nodes, &member.ty)?;
+    list_default(nodes, &member.default)
 }
 
 /// Adds the members of an interface, a mixin or a namespace.
-fn list_members<'a>(things: &mut Vec<Thing<'a>>, members: &'a [Member]) -> Result<(), AllocError>
-    ensures { OnOk result (Adds things.old.items things.new.items (flat_map things_of_member (members_of members.now))) }
+fn list_members<'a>(nodes: &mut Vec<Node<'a>>, members: &'a [Member]) -> Result<(), AllocError>
+    ensures { OnOk result (Adds nodes.old.items nodes.new.items (flat_map nodes_of_member (members_of members.now))) }
 {
     for member in members {
-        list_member(things, member)?;
+        list_member(nodes, member)?;
     }
     Ok(())
 }
 
 /// Adds the members of a callback interface.
 fn list_callback_members<'a>(
-    things: &mut Vec<Thing<'a>>,
+    nodes: &mut Vec<Node<'a>>,
     members: &'a [Member],
 ) -> Result<(), AllocError>
-    ensures { OnOk result (Adds things.old.items things.new.items (flat_map things_of_callback_member (members_of members.now))) }
+    ensures { OnOk result (Adds nodes.old.items nodes.new.items (flat_map nodes_of_callback_member (members_of members.now))) }
 {
     for member in members {
-        list_callback_member(things, member)?;
+        list_callback_member(nodes, member)?;
     }
     Ok(())
 }
 
 /// Adds the members of a dictionary.
 fn list_dictionary_members<'a>(
-    things: &mut Vec<Thing<'a>>,
+    nodes: &mut Vec<Node<'a>>,
     members: &'a [DictionaryMember],
 ) -> Result<(), AllocError>
-    ensures { OnOk result (Adds things.old.items things.new.items (flat_map things_of_dictionary_member (map dictionary_member_of members.now))) }
+    ensures { OnOk result (Adds nodes.old.items nodes.new.items (flat_map nodes_of_dictionary_member (map dictionary_member_of members.now))) }
 {
     for member in members {
-        list_dictionary_member(things, member)?;
+        list_dictionary_member(nodes, member)?;
     }
     Ok(())
 }
 
-/// Adds what stands in a definition behind its name.
-fn list_inside<'a>(things: &mut Vec<Thing<'a>>, kind: &'a DefinitionKind) -> Result<(), AllocError>
-    ensures { OnOk result (Adds things.old.items things.new.items (things_inside (definition_kind_of kind.now))) }
+/// Adds what stands in a definition after its name.
+fn list_inside<'a>(nodes: &mut Vec<Node<'a>>, kind: &'a DefinitionKind) -> Result<(), AllocError>
+    ensures { OnOk result (Adds nodes.old.items nodes.new.items (nodes_inside (definition_kind_of kind.now))) }
 {
     match kind {
         DefinitionKind::Callback(callback) => {
-            list_type(things, &callback.result)?;
-            list_arguments(things, callback.arguments.as_slice())
+            list_type(nodes, &callback.result)?;
+            list_arguments(nodes, callback.arguments.as_slice())
         }
         DefinitionKind::CallbackInterface(callback) => {
-            list_callback_members(things, callback.members.as_slice())
+            list_callback_members(nodes, callback.members.as_slice())
         }
-        DefinitionKind::Interface(interface) => list_members(things, interface.members.as_slice()),
-        DefinitionKind::Mixin(mixin) => list_members(things, mixin.members.as_slice()),
-        DefinitionKind::Namespace(namespace) => list_members(things, namespace.members.as_slice()),
+        DefinitionKind::Interface(interface) => list_members(nodes, interface.members.as_slice()),
+        DefinitionKind::Mixin(mixin) => list_members(nodes, mixin.members.as_slice()),
+        DefinitionKind::Namespace(namespace) => list_members(nodes, namespace.members.as_slice()),
         DefinitionKind::Dictionary(dictionary) => {
-            list_dictionary_members(things, dictionary.members.as_slice())
+            list_dictionary_members(nodes, dictionary.members.as_slice())
         }
         DefinitionKind::Enumeration(_) | DefinitionKind::Includes(_) => Ok(()),
-        DefinitionKind::Typedef(typedef) => list_annotated(things, &typedef.ty),
+        DefinitionKind::Typedef(typedef) => list_annotated(nodes, &typedef.ty),
     }
 }
 
 /// Adds the name of a definition, if it has one.
 fn list_declared_name<'a>(
-    things: &mut Vec<Thing<'a>>,
+    nodes: &mut Vec<Node<'a>>,
     kind: &'a DefinitionKind,
 ) -> Result<(), AllocError>
-    ensures { OnOk result (Adds things.old.items things.new.items (things_of_optional_name (declared_name (definition_kind_of kind.now)))) }
+    ensures { OnOk result (Adds nodes.old.items nodes.new.items (nodes_of_optional_name (declared_name (definition_kind_of kind.now)))) }
 {
     match name_declared(kind) {
         None => Ok(()),
-        Some(name) => list_thing(things, Thing::Name(name)),
+        Some(name) => list_node(nodes, Node::Name(name)),
     }
 }
 
 /// Adds a definition.
 fn list_definition<'a>(
-    things: &mut Vec<Thing<'a>>,
+    nodes: &mut Vec<Node<'a>>,
     definition: &'a Definition,
 ) -> Result<(), AllocError>
-    ensures { OnOk result (Adds things.old.items things.new.items (things_of_definition (definition_of definition.now))) }
+    ensures { OnOk result (Adds nodes.old.items nodes.new.items (nodes_of_definition (definition_of definition.now))) }
 {
-    list_attributes(things, definition.attributes.as_slice())?;
-    list_declared_name(things, &definition.kind)?;
-    list_inside(things, &definition.kind)
+    list_attributes(nodes, definition.attributes.as_slice())?;
+    list_declared_name(nodes, &definition.kind)?;
+    list_inside(nodes, &definition.kind)
 }
 
 /// Everything that is written in these definitions.
-pub fn list_things<'a>(
+pub fn list_nodes<'a>(
     alloc: Global,
     definitions: &[&'a Definition],
-) -> Result<Vec<Thing<'a>>, AllocError>
-    ensures { IfOk result (λ things. things_listed things.items ≡ things_of (listed_definitions definitions.now)) }
+) -> Result<Vec<Node<'a>>, AllocError>
+    ensures { IfOk result (λ nodes. nodes_listed nodes.items ≡ nodes_of (listed_definitions definitions.now)) }
 {
-    let mut things = Vec::new(alloc);
+    let mut nodes = Vec::new(alloc);
     for definition in definitions {
-        list_definition(&mut things, definition)?;
+        list_definition(&mut nodes, definition)?;
     }
-    Ok(things)
+    Ok(nodes)
 }

@@ -97,7 +97,7 @@ impl<'d, 'a> Meanings<'d, 'a> {
     }
 }
 
-// The definition of this number.
+/// The definition of this number.
 pub fn kind_at<'a>(definitions: &[&'a Definition], number: usize) -> Option<&'a DefinitionKind>
     ensures { option_map (λ k. definition_kind_of k.now) result ≡ option_map (λ d. d.kind) (slice_get (plain_definitions (map (λ d. d.now) definitions.now)) number) }
 {
@@ -107,7 +107,7 @@ pub fn kind_at<'a>(definitions: &[&'a Definition], number: usize) -> Option<&'a 
     }
 }
 
-// Keeps the number of a main definition under its name, unless an earlier one has the name.
+/// Keeps the number of a main definition under its name, unless an earlier one has the name.
 fn add_definition<'a>(
     numbers: &mut IndexMap<&'a str, usize>,
     definition: &'a Definition,

@@ -7,11 +7,11 @@
 
 use crate::parts::{group_at, members_in};
 use std::alloc::{AllocError, Global};
-use widl_idl::Items;
 use widl_idl::tree::{Definition, DefinitionKind};
+use widl_text::Items;
 
-// The greatest number of members that are mixed into interfaces. It is eight times what the rule on the
-// number of members allows.
+/// The greatest number of members that are mixed into interfaces. It is eight times what the rule on the
+/// number of members allows.
 const LIMIT: usize = 8_000_000;
 
 /// Refuses definitions that mix too many members into interfaces.
@@ -37,7 +37,7 @@ pub fn check_mixed(
     }
 }
 
-// How many members each definition and its partials have.
+/// How many members each definition and its partials have.
 fn own_sizes(
     alloc: Global,
     definitions: &[&Definition],
@@ -51,7 +51,7 @@ fn own_sizes(
     Ok(sizes)
 }
 
-// How many members these parts have.
+/// How many members these parts have.
 fn count_members(parts: &[&DefinitionKind]) -> usize {
     let mut count: usize = 0;
     for part in parts {
@@ -60,7 +60,7 @@ fn count_members(parts: &[&DefinitionKind]) -> usize {
     count
 }
 
-// The sum of the sizes of the mixins of these numbers.
+/// The sum of the sizes of the mixins of these numbers.
 fn total_size(sizes: &[usize], mixins: &[usize]) -> usize {
     let mut total: usize = 0;
     for mixin in mixins {

@@ -16,8 +16,9 @@ use crate::names::{kind_of, partial_name};
 use crate::part_limit::check_mixed;
 use std::alloc::{AllocError, Global};
 use std::marker::Model;
+use widl_idl::Kind;
 use widl_idl::tree::{Definition, DefinitionKind, Includes, Member};
-use widl_idl::{Items, Kind};
+use widl_text::Items;
 
 /// The definitions of a set of files with their parts, by the number of the definition.
 #[derive(Drop)]
@@ -79,7 +80,7 @@ impl<'d, 'a> Parts<'d, 'a> {
         self.list_numbered(alloc, number)
     }
 
-    // The same, by numbers alone.
+    /// The same, by numbers alone.
     fn list_numbered(
         &self,
         alloc: Global,
@@ -95,7 +96,7 @@ impl<'d, 'a> Parts<'d, 'a> {
         Ok(list)
     }
 
-    // Adds the parts that stand under the definition's own name.
+    /// Adds the parts that stand under the definition's own name.
     fn add_own(&self, list: &mut Vec<&'a DefinitionKind>, number: usize) -> Result<(), AllocError>
         ensures { OnOk result (listed_parts list.new.items ≡ listed_parts list.old.items ++ own_at (plain_definitions self.now) number) }
     {
@@ -107,7 +108,7 @@ impl<'d, 'a> Parts<'d, 'a> {
     }
 }
 
-// Adds the definition of this number, if it has members.
+/// Adds the definition of this number, if it has members.
 fn add_main<'a>(
     list: &mut Vec<&'a DefinitionKind>,
     definitions: &[&'a Definition],
@@ -161,7 +162,7 @@ pub fn group_at<T>(groups: &[Items<T>], number: usize) -> &[T]
     }
 }
 
-// The partial definitions of each definition.
+/// The partial definitions of each definition.
 fn group_partials<'a>(
     alloc: Global,
     meanings: &Meanings<'_, 'a>,
@@ -177,7 +178,7 @@ fn group_partials<'a>(
     Ok(groups)
 }
 
-// The mixins of each interface.
+/// The mixins of each interface.
 fn group_mixins(
     alloc: Global,
     meanings: &Meanings,
@@ -224,7 +225,7 @@ pub fn put_in_group<T: Drop>(
     groups[number].push(item)
 }
 
-// Adds a definition to the group of the definition that it adds to, if it is a partial one.
+/// Adds a definition to the group of the definition that it adds to, if it is a partial one.
 fn add_partial<'a>(
     meanings: &Meanings,
     groups: &mut Vec<Items<&'a DefinitionKind>>,
@@ -239,7 +240,7 @@ fn add_partial<'a>(
     }
 }
 
-// The number of the definition that a partial one with members adds to.
+/// The number of the definition that a partial one with members adds to.
 fn owner_of(meanings: &Meanings, part: &DefinitionKind) -> Option<usize>
     ensures { result ≡ owner_of (plain_definitions meanings.now) (definition_kind_of part.now) }
 {
@@ -251,7 +252,7 @@ fn owner_of(meanings: &Meanings, part: &DefinitionKind) -> Option<usize>
     }
 }
 
-// Adds the mixin of an includes statement to the group of its interface.
+/// Adds the mixin of an includes statement to the group of its interface.
 fn add_mixin(
     meanings: &Meanings,
     groups: &mut Vec<Items<usize>>,

@@ -17,7 +17,7 @@ ghost use Rattle.widl_idl.specs.Terms.{packed, type_term, type_terms};
 ghost use Rattle.widl_idl.specs.WrittenTypes.{meaning_alone, meaning_of_type, meaning_with, type_of_kind, type_of_meaning, typedefs, written_members};
 ghost use Rattle.widl_names.specs.SaidNotes.{Says};
 ghost use Rattle.widl_names.specs.TypedefEnds.{GoesTo, IsNext};
-ghost use Rattle.widl_names.specs.TypeUses.{Behind, IsKnown, IsLast, Leads, MeansWritten, container_meaning, form_meaning, meaning_at, meaning_of_use, numbered_kind, own_meaning, questioned, typedef_at, without_parts};
+ghost use Rattle.widl_names.specs.TypeUses.{After, IsKnown, IsLast, Leads, MeansWritten, container_meaning, form_meaning, meaning_at, meaning_of_use, numbered_kind, own_meaning, questioned, typedef_at, without_parts};
 
 use crate::annotations::Annotations;
 use crate::kind_numbers::{KindNumbers, number_kinds};
@@ -29,11 +29,9 @@ use std::alloc::{AllocError, Global};
 use std::marker::Model;
 use widl_idl::tree::{AnnotatedType, Container, ExtendedAttribute, TypeForm, WrittenType};
 use widl_idl::{IdlType, IdlTypes, Kind};
+use widl_text::limits::MOST_TYPE_LEVELS;
 
-// How deep types may nest, each with the `?`s behind it.
-const LEVELS: usize = 16;
-
-// How many bytes of a name are looked up in one step.
+/// How many bytes of a name are looked up in one step.
 const NAME_BYTES: usize = 64;
 
 /// The definitions of a set of files with their numbers, by which types are resolved.
@@ -41,7 +39,7 @@ const NAME_BYTES: usize = 64;
 pub struct Resolver<'m, 'd, 'a> {
     meanings: &'m Meanings<'d, 'a>,
     kinds: KindNumbers,
-    // For each definition the end of its chain, if it is a typedef.
+    /// For each definition the end of its chain, if it is a typedef.
     ends: Vec<Option<ChainEnd<'a>>>,
 }
 
@@ -63,21 +61,21 @@ impl<'m, 'd, 'a> Model for Resolver<'m, 'd, 'a> {
     ghost invariant = { λ r. AreNumbers (plain_definitions r.meanings.now) r.kinds.numbers.items × AreCounts (plain_definitions r.meanings.now) r.kinds.counts × AreEnds (plain_definitions r.meanings.now) r.ends.items };
 }
 
-// A type as it is used.
+/// A type as it is used.
 #[derive(Clone, Copy)]
 pub struct Use<'t> {
-    // The type without its `?`.
+    /// The type without its `?`.
     pub form: &'t TypeForm,
-    // What the annotations before it say.
+    /// What the annotations before it say.
     pub annotations: Annotations,
-    // How many typedefs it may still lead to.
+    /// How many typedefs it may still lead to.
     pub typedefs: u32,
-    // How many `?`s stand behind it.
+    /// How many `?`s stand after it.
     pub questions: usize,
 }
 
 impl<'t> Use<'t> {
-    // A type behind these annotations.
+    /// A type after these annotations.
     fn of(ty: &'t WrittenType, annotations: Annotations, typedefs: u32) -> Use<'t>
         ensures annotations { result.annotations ≡ annotations }
         ensures same { MeansWritten result (type_of ty.now) }
@@ -91,7 +89,7 @@ impl<'t> Use<'t> {
         }
     }
 
-    // The end of the chain of the typedef that is named where this one stands.
+    /// The end of the chain of the typedef that is named where this one stands.
     fn through(&self, end: &ChainEnd<'t>) -> Result<Use<'t>, AllocError>
         requires { end.now.passed < self.now.typedefs }
         ensures { IfOk result (λ next. GoesTo self.now end.now next) }
@@ -105,15 +103,15 @@ impl<'t> Use<'t> {
     }
 }
 
-// A use of a type whose name is looked up.
+/// A use of a type whose name is looked up.
 #[derive(Clone, Copy)]
 pub struct KnownUse<'t> {
     pub usage: Use<'t>,
-    // The number of the definition that the type names, if it is a name with a meaning.
+    /// The number of the definition that the type names, if it is a name with a meaning.
     pub meaning: Option<usize>,
 }
 
-// So many `?`s, and so many more.
+/// So many `?`s, and so many more.
 fn more_questions(questions: usize, more: usize) -> Result<usize, AllocError>
     ensures { IfOk result (λ all. all ≡ questions + more) }
 {
@@ -146,7 +144,7 @@ impl<'m, 'd, 'a> Resolver<'m, 'd, 'a> {
         })
     }
 
-    /// What a type means behind these annotations (Web IDL, "Typedefs" and "Annotated types").
+    /// What a type means after these annotations (Web IDL, "Typedefs" and "Annotated types").
     ///
     /// Typedefs of typedefs may make types and take time that grow far faster than their source. So
     /// `steps` bounds both: it counts down with each type that is made or followed, each 64 bytes of a
@@ -166,7 +164,7 @@ impl<'m, 'd, 'a> Resolver<'m, 'd, 'a> {
         ensures { IfOk result (λ t. (notes : List Note) → Says annotations notes → type_term t ≡ meaning_of_type (plain_definitions self.now) notes (type_of ty.now)) }
     {
         let start = Use::of(ty, annotations, self.kinds.counts.count(Kind::Typedef));
-        self.use_type(alloc, steps, LEVELS, &start)
+        self.use_type(alloc, steps, MOST_TYPE_LEVELS, &start)
     }
 
     /// What a type without annotations means, as that of a result or a constant.
@@ -219,7 +217,7 @@ impl<'m, 'd, 'a> Resolver<'m, 'd, 'a> {
         }
     }
 
-    // The type that a name with this meaning stands for, where a typedef is `any`.
+    /// The type that a name with this meaning stands for, where a typedef is `any`.
     fn meant_type(&self, meaning: Option<usize>) -> IdlType
         ensures { type_term result ≡ without_parts (type_of_meaning (plain_definitions self.now) meaning (numbered_kind (plain_definitions self.now) meaning)) }
     {
@@ -229,7 +227,7 @@ impl<'m, 'd, 'a> Resolver<'m, 'd, 'a> {
         }
     }
 
-    // The type that the definition of this number is, where a typedef is `any`.
+    /// The type that the definition of this number is, where a typedef is `any`.
     fn numbered_type(&self, number: usize) -> IdlType
         ensures { type_term result ≡ without_parts (type_of_meaning (plain_definitions self.now) (Some number) (numbered_kind (plain_definitions self.now) (Some number))) }
     {
@@ -239,10 +237,10 @@ impl<'m, 'd, 'a> Resolver<'m, 'd, 'a> {
         }
     }
 
-    // Where a use of a type leads, if that type is a typedef's name.
-    fn behind(&self, steps: &mut usize, from: &KnownUse<'a>) -> Result<Option<Use<'a>>, AllocError>
+    /// Where a use of a type leads, if that type is a typedef's name.
+    fn after(&self, steps: &mut usize, from: &KnownUse<'a>) -> Result<Option<Use<'a>>, AllocError>
         requires { IsKnown (plain_definitions self.now) from.now }
-        ensures { IfOk result (λ next. Behind (plain_definitions self.now) from.now.usage next) }
+        ensures { IfOk result (λ next. After (plain_definitions self.now) from.now.usage next) }
     {
         if from.usage.typedefs == 0 {
             return Ok(None);
@@ -256,8 +254,8 @@ impl<'m, 'd, 'a> Resolver<'m, 'd, 'a> {
         }
     }
 
-    // The end of the chain of the definition with this number, if it is a typedef: the kept one, or its
-    // type alone where so few typedefs may be followed that the kept one is too far away.
+    /// The end of the chain of the definition with this number, if it is a typedef: the kept one, or its
+    /// type alone where so few typedefs may be followed that the kept one is too far away.
     fn next_end(
         &self,
         steps: &mut usize,
@@ -277,7 +275,7 @@ impl<'m, 'd, 'a> Resolver<'m, 'd, 'a> {
         }
     }
 
-    // The type of the definition with this number as the end of a chain, if it is a typedef.
+    /// The type of the definition with this number as the end of a chain, if it is a typedef.
     fn first_end(
         &self,
         steps: &mut usize,
@@ -294,20 +292,20 @@ impl<'m, 'd, 'a> Resolver<'m, 'd, 'a> {
         }
     }
 
-    // The last type of a chain of typedefs.
+    /// The last type of a chain of typedefs.
     fn follow(&self, steps: &mut usize, start: &Use<'a>) -> Result<KnownUse<'a>, AllocError>
         ensures leads { IfOk result (λ last. Leads (plain_definitions self.now) start.now last.usage) }
         ensures last { IfOk result (λ last. IsLast (plain_definitions self.now) last.usage) }
         ensures known { IfOk result (λ last. IsKnown (plain_definitions self.now) last) }
     {
         let mut reached = self.look_up(steps, *start)?;
-        while let Some(next) = self.behind(steps, &reached)? {
+        while let Some(next) = self.after(steps, &reached)? {
             reached = self.look_up(steps, next)?;
         }
         Ok(reached)
     }
 
-    // A use of a type with what its name means.
+    /// A use of a type with what its name means.
     fn look_up(&self, steps: &mut usize, usage: Use<'a>) -> Result<KnownUse<'a>, AllocError>
         ensures same { IfOk result (λ known. known.usage ≡ usage.entry) }
         ensures known { IfOk result (λ known. IsKnown (plain_definitions self.now) known) }
@@ -317,8 +315,8 @@ impl<'m, 'd, 'a> Resolver<'m, 'd, 'a> {
         Ok(KnownUse { usage, meaning })
     }
 
-    // What a use of a type means. `levels` is how deep its parts may nest; below, `left` is how many
-    // typedefs may still be followed.
+    /// What a use of a type means. `levels` is how deep its parts may nest; below, `left` is how many
+    /// typedefs may still be followed.
     #[cycle(resolve)]
     fn use_type(
         &self,
@@ -337,7 +335,7 @@ impl<'m, 'd, 'a> Resolver<'m, 'd, 'a> {
         with_questions(alloc, inner, last.usage.questions)
     }
 
-    // The same of a use of a type that is no typedef's name, without its `?`s.
+    /// The same of a use of a type that is no typedef's name, without its `?`s.
     #[cycle(resolve)]
     fn form_type(
         &self,
@@ -377,7 +375,7 @@ impl<'m, 'd, 'a> Resolver<'m, 'd, 'a> {
         }
     }
 
-    // What a container of this type means; only a sequence is a type.
+    /// What a container of this type means; only a sequence is a type.
     #[cycle(resolve)]
     fn container_type(
         &self,
@@ -401,7 +399,7 @@ impl<'m, 'd, 'a> Resolver<'m, 'd, 'a> {
         }
     }
 
-    // What a type means behind no annotations.
+    /// What a type means after no annotations.
     #[cycle(resolve)]
     fn promised_type(
         &self,
@@ -418,7 +416,7 @@ impl<'m, 'd, 'a> Resolver<'m, 'd, 'a> {
         Ok(Box::new(alloc, value)?)
     }
 
-    // What a type means behind its own annotations alone.
+    /// What a type means after its own annotations alone.
     #[cycle(resolve)]
     fn annotated_type(
         &self,
@@ -435,7 +433,7 @@ impl<'m, 'd, 'a> Resolver<'m, 'd, 'a> {
         self.use_type(alloc, steps, levels, &start)
     }
 
-    // The same in memory of its own.
+    /// The same in memory of its own.
     #[cycle(resolve)]
     fn boxed_type(
         &self,
@@ -451,7 +449,7 @@ impl<'m, 'd, 'a> Resolver<'m, 'd, 'a> {
         Ok(Box::new(alloc, value)?)
     }
 
-    // What the members of a union mean.
+    /// What the members of a union mean.
     #[cycle(resolve)]
     fn member_types(
         &self,
@@ -472,7 +470,7 @@ impl<'m, 'd, 'a> Resolver<'m, 'd, 'a> {
     }
 }
 
-// The type that a definition of the kind is, by its number; what is no type stands as `any`.
+/// The type that a definition of the kind is, by its number; what is no type stands as `any`.
 fn type_of_kind(kind: Kind, number: u32) -> IdlType
     ensures { type_term result ≡ without_parts (type_of_kind kind number) }
 {
@@ -486,7 +484,7 @@ fn type_of_kind(kind: Kind, number: u32) -> IdlType
     }
 }
 
-// Counts down by what a step costs.
+/// Counts down by what a step costs.
 fn spend(steps: &mut usize, cost: usize) -> Result<(), AllocError>
     ensures { OnOk result (steps.new + cost ≡ steps.old) }
 {
@@ -497,7 +495,7 @@ fn spend(steps: &mut usize, cost: usize) -> Result<(), AllocError>
     Ok(())
 }
 
-// What it costs to look at a form: 1, and the length of its name.
+/// What it costs to look at a form: 1, and the length of its name.
 fn form_size(form: &TypeForm) -> usize {
     match form {
         TypeForm::Named(name) => 1 + name.text.len() / NAME_BYTES,
@@ -505,7 +503,7 @@ fn form_size(form: &TypeForm) -> usize {
     }
 }
 
-// A type with so many `?`s behind it.
+/// A type with so many `?`s after it.
 fn with_questions(alloc: Global, inner: IdlType, questions: usize) -> Result<IdlType, AllocError>
     ensures { IfOk result (λ t. type_term t ≡ questioned questions (type_term inner)) }
 {

@@ -18,7 +18,7 @@ use std::alloc::{AllocError, Global};
 use widl_idl::tree::{AnnotatedType, TypeForm};
 use widl_text::Place;
 
-/// How many `?`s may stand behind one type and the typedefs that it leads to. A rule allows one.
+/// How many `?`s may stand after one type and the typedefs that it leads to. A rule allows one.
 pub const QUESTIONS: usize = 16;
 
 /// Where a chain of typedefs ends that begins with a type.
@@ -28,9 +28,9 @@ pub struct ChainEnd<'a> {
     pub form: &'a TypeForm,
     /// What the annotations of the chain's types say, in their order.
     pub annotations: Annotations,
-    /// How many typedefs are passed behind the first type.
+    /// How many typedefs are passed after the first type.
     pub passed: u32,
-    /// How many `?`s stand behind the chain's types.
+    /// How many `?`s stand after the chain's types.
     pub questions: usize,
 }
 
@@ -48,8 +48,8 @@ impl<'a> ChainEnd<'a> {
         }
     }
 
-    // The end of the chain that begins with a type which names the typedef whose chain ends here.
-    fn behind(&self, ty: &'a AnnotatedType) -> ChainEnd<'a>
+    /// The end of the chain that begins with a type which names the typedef whose chain ends here.
+    fn after(&self, ty: &'a AnnotatedType) -> ChainEnd<'a>
         requires { CanGrow self.now }
         ensures { (definitions : List PlainDefinition) → IsEndOf definitions (typedef_of_form definitions (form_term ty.now.ty.form)) self.now → EndsAt definitions (annotated_of ty.now) result }
     {
@@ -62,7 +62,7 @@ impl<'a> ChainEnd<'a> {
         }
     }
 
-    // Whether the chain may be one typedef longer.
+    /// Whether the chain may be one typedef longer.
     fn can_grow(&self) -> bool
         ensures { IsTrue result ↔ CanGrow self.now }
     {
@@ -90,7 +90,7 @@ pub fn typedef_ends<'a>(
     Ok(ends)
 }
 
-// The end of the chain of a definition, if it is a typedef, where those of others are kept.
+/// The end of the chain of a definition, if it is a typedef, where those of others are kept.
 fn end_of<'a>(
     meanings: &Meanings<'_, 'a>,
     ends: &[Option<ChainEnd<'a>>],
@@ -105,7 +105,7 @@ fn end_of<'a>(
     }
 }
 
-// The end of the chain that begins with a type.
+/// The end of the chain that begins with a type.
 fn chain_end<'a>(
     meanings: &Meanings<'_, 'a>,
     ends: &[Option<ChainEnd<'a>>],
@@ -117,14 +117,14 @@ fn chain_end<'a>(
     match end_named(meanings, ends, &ty.ty.form) {
         None => ChainEnd::of(ty),
         Some(next) => if next.can_grow() {
-            next.behind(ty)
+            next.after(ty)
         } else {
             ChainEnd::of(ty)
         },
     }
 }
 
-// The end of the chain of the typedef that a form names, if it is kept.
+/// The end of the chain of the typedef that a form names, if it is kept.
 fn end_named<'a>(
     meanings: &Meanings<'_, 'a>,
     ends: &[Option<ChainEnd<'a>>],
@@ -149,7 +149,7 @@ pub fn kept_end<'a>(ends: &[Option<ChainEnd<'a>>], number: usize) -> Option<Chai
     }
 }
 
-// Keeps an end under the number, if there is a place for it.
+/// Keeps an end under the number, if there is a place for it.
 fn keep_end<'a>(ends: &mut Vec<Option<ChainEnd<'a>>>, number: usize, end: Option<ChainEnd<'a>>)
     ensures { (definitions : List PlainDefinition) → AreEnds definitions ends.old.items → IfSome end.entry (IsEndOf definitions (typedef_at definitions number)) → AreEnds definitions ends.new.items }
 {
@@ -158,7 +158,7 @@ fn keep_end<'a>(ends: &mut Vec<Option<ChainEnd<'a>>>, number: usize, end: Option
     }
 }
 
-/// How many `?`s stand behind a type: 1 or none.
+/// How many `?`s stand after a type: 1 or none.
 pub fn count_question(question: Option<Place>) -> usize
     ensures { result ≡ question_count question }
 {

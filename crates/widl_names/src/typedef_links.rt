@@ -69,7 +69,7 @@ pub fn typedef_order(alloc: Global, meanings: &Meanings<'_, '_>) -> Result<Vec<u
     Ok(walk.order)
 }
 
-// A node for each definition, with the one that its type names, if it is a typedef.
+/// A node for each definition, with the one that its type names, if it is a typedef.
 fn whole_types(alloc: Global, meanings: &Meanings<'_, '_>) -> Result<Graph, AllocError>
     ensures { IfOk result (λ graph. HasNodes graph (length meanings.now) (length meanings.now)) }
 {
@@ -83,7 +83,7 @@ fn whole_types(alloc: Global, meanings: &Meanings<'_, '_>) -> Result<Graph, Allo
     Ok(graph)
 }
 
-// The number of the definition that the type of a typedef names.
+/// The number of the definition that the type of a typedef names.
 fn number_led_to(meanings: &Meanings<'_, '_>, definition: &DefinitionKind) -> Option<usize>
     ensures { IfSome result (λ number. number < length meanings.now) }
 {

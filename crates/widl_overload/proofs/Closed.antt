@@ -90,7 +90,7 @@ module _ (ifaces : List Iface) where
   unfolding all_apart
   all_self t ts = ap (λ b. (b && list_all (λ n. are_apart ifaces t n) ts) && list_all (λ m. list_all (λ n. are_apart ifaces m n) (t ∷ ts)) ts) (not_apart (category t))
 
-  -- a type that is flattened to some type isn't told apart from itself
+  -- a type that is flattened to some type isn't distinguished from itself
   self_by : (t : TypeTerm) (ts : List TypeTerm) → flattened_member t ≡ ts → (ts ≡ [] → ⊥) → distinguishable ifaces t t ≡ false
   self_by t [] e some = absurd (some refl)
   self_by t (u ∷ us) e some = closed t t ∙ (λ i. not (nullable_clash t t) && all_apart (e i) (e i)) ∙ ap (λ b. not (nullable_clash t t) && b) (all_self u us) ∙ and_false (not (nullable_clash t t))

@@ -6,9 +6,9 @@ use Rattle.std.proofs.lemmas.List.Elements.{All-contains, All-append, All-cons, 
 use Rattle.std.proofs.lemmas.Option.{slice_get_within, get_or_from_slice_get}
 use Rattle.widl_idl.specs.declared.interface.Iface.{Iface}
 use Rattle.widl_overload.specs.declared.tuple.Tuple.{Tuple}
-use Rattle.widl_overload.specs.Index.{IsIndex, has_length, of_one_length, tells_apart, terms_of_length}
+use Rattle.widl_overload.specs.Index.{IsIndex, has_length, of_one_length, distinguishes, terms_of_length}
 use Rattle.widl_overload.specs.OverloadRules.{DifferEarly}
-use Rattle.widl_overload.specs.OverloadSpots.{AgreeBefore, DifferBefore, DiffersFromOne, IsSmallest, IsSmallestBelow, TwoDiffer}
+use Rattle.widl_overload.specs.OverloadViolations.{AgreeBefore, DifferBefore, DiffersFromOne, IsSmallest, IsSmallestBelow, TwoDiffer}
 use Rattle.widl_overload.specs.Sets.{TupleTerm, tuple_term}
 use Rattle.widl_overload.proofs.OneLength.{term_listed, terms_more}
 
@@ -22,12 +22,12 @@ when_false b P Q e h = subst (λ c. MatchBool c P Q) e h
 pub smallest_more : (P : ℕ → Type 0) (m : ℕ) (found now : Option ℕ) (broken : Bool) → IsSmallestBelow P m found → MatchBool broken (P m) (P m → ⊥) → MatchOption found (MatchBool broken (now ≡ Some m) (now ≡ None)) (λ n. now ≡ Some n) → IsSmallestBelow P (m + 1) now
 smallest_more P m None now true below holds is = subst (IsSmallestBelow P (m + 1)) (sym is) (record { holds = holds; first = below })
 smallest_more P m None now false below holds is = subst (IsSmallestBelow P (m + 1)) (sym is) (below_more _ _ below holds)
-smallest_more P m (Some n) now broken least holds is = subst (IsSmallestBelow P (m + 1)) (sym is) least
+smallest_more P m (Some n) now broken earliest holds is = subst (IsSmallestBelow P (m + 1)) (sym is) earliest
 
 -- the smallest up to the greatest number
 pub smallest_all : (P : ℕ → Type 0) (m most : ℕ) (found : Option ℕ) → most < m → IsSmallestBelow P m found → IsSmallest P most found
 smallest_all P m most None last below = λ k within. below k (omega arith)
-smallest_all P m most (Some n) last least = least
+smallest_all P m most (Some n) last earliest = earliest
 
 no_first : (tuples : List TupleTerm) (t : TupleTerm) → None ≡ slice_get tuples 0 → Contains tuples t → ⊥
 no_first [] t e c = omega (arith, c.1)
@@ -69,8 +69,8 @@ module _ (ifaces : List Iface) (tuples : List TupleTerm) (m : ℕ) where
 
   one_index : (i j : ℕ) → IsIndex ifaces tuples m i → IsIndex ifaces tuples m j → i ≡ j
   one_index i j a b =
-      let not_below : i < j → ⊥ = λ l. not_both (tells_apart ifaces tuples m i) a.tells (b.lowest i l) in
-      let not_above : j < i → ⊥ = λ l. not_both (tells_apart ifaces tuples m j) b.tells (a.lowest j l) in
+      let not_below : i < j → ⊥ = λ l. not_both (distinguishes ifaces tuples m i) a.tells (b.lowest i l) in
+      let not_above : j < i → ⊥ = λ l. not_both (distinguishes ifaces tuples m j) b.tells (a.lowest j l) in
       omega (arith, not_below, not_above)
 
   early_of : (index : ℕ) → IsIndex ifaces tuples m index → TwoDiffer index (of_one_length m tuples) → DifferEarly ifaces tuples m

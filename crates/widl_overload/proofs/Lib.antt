@@ -7,8 +7,9 @@ pub mod Constructed
 pub mod Numbered
 pub mod OneLength
 pub mod DifferingTuples
-pub mod OnlySpots
-pub mod SpotSteps
+pub mod OnlyViolations
+pub mod ViolationSteps
 pub mod SameInterfaces
 pub mod SameTuples
 pub mod SameOverloads
+pub mod OverTerms

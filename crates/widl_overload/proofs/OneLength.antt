@@ -125,11 +125,11 @@ terms_more tuples m i t below is =
 pub term_listed : (tuples : List Tuple) (m i : ℕ) (t : Tuple) → i < length tuples → t ≡ get_or tuples i t → has_length m (tuple_term t) ≡ true → Contains (terms_of_length m tuples) (tuple_term t)
 term_listed [] m i t below is h = absurd (omega arith)
 term_listed (u ∷ tuples) m zero t below is h = subst (λ v. Contains (cond (has_length m (tuple_term v)) (tuple_term v ∷ terms_of_length m tuples) (terms_of_length m tuples)) (tuple_term t)) is (subst (λ b. Contains (cond b (tuple_term t ∷ terms_of_length m tuples) (terms_of_length m tuples)) (tuple_term t)) (sym h) (0, omega arith, refl))
-term_listed (u ∷ tuples) m (suc i) t below is h = behind (has_length m (tuple_term u)) (term_listed tuples m i t (omega arith) is h)
+term_listed (u ∷ tuples) m (suc i) t below is h = after (has_length m (tuple_term u)) (term_listed tuples m i t (omega arith) is h)
   where
-    behind : (b : Bool) → Contains (terms_of_length m tuples) (tuple_term t) → Contains (cond b (tuple_term u ∷ terms_of_length m tuples) (terms_of_length m tuples)) (tuple_term t)
-    behind true c = (suc c.0, omega (arith, c.1), c.2)
-    behind false c = c
+    after : (b : Bool) → Contains (terms_of_length m tuples) (tuple_term t) → Contains (cond b (tuple_term u ∷ terms_of_length m tuples) (terms_of_length m tuples)) (tuple_term t)
+    after true c = (suc c.0, omega (arith, c.1), c.2)
+    after false c = c
 
 terms_split : (tuples : List Tuple) (m i : ℕ) → terms_of_length m tuples ≡ terms_of_length m (take i tuples) ++ terms_of_length m (drop i tuples)
 terms_split tuples m i =

@@ -1,4 +1,4 @@
--- Which types can be told apart depends on which interfaces inherit from which alone.
+-- Which types are distinguishable depends on which interfaces inherit from which alone.
 use Rattle.std.proofs.Common.{◌≡◌, ℕ, zero, suc, Bool, true, cond, not, ◌&&◌, ◌||◌, nat_eq, List, [], ◌∷◌, length, map, Option, None, Some, option_map, slice_get, refl, sym, ap, ◌∙◌}
 use Rattle.std.specs.List.{list_all}
 use Rattle.std.specs.Prelude.{option_and_then}
@@ -10,7 +10,7 @@ use Rattle.widl_idl.specs.Terms.{TypeTerm}
 use Rattle.widl_overload.specs.declared.category.Category.{Category}
 use Rattle.widl_overload.specs.declared.category.Category.TheVariants.{Interface}
 use Rattle.widl_overload.specs.Distinct.{are_unrelated, categories_apart, category, distinguishable, innermost, is_never, is_same, nullable_clash, overlaps, parts_apart, union_members}
-use Rattle.widl_overload.specs.Index.{apart_at, each_two, of_one_length, tells_apart, types_apart}
+use Rattle.widl_overload.specs.Index.{apart_at, each_two, of_one_length, distinguishes, types_apart}
 use Rattle.widl_overload.specs.Inheritance.{inherits, is_among, parent_of}
 use Rattle.widl_overload.specs.Sets.{TupleTerm}
 
@@ -57,7 +57,7 @@ module _ (xs ys : List Iface) (same : map iface_term xs ≡ map iface_term ys) w
   parts_same None (Some us) t u = all_same _ _ (λ n. categories_same (category t) (category n)) us
   parts_same None None t u = categories_same (category t) (category u)
 
-  -- the same types can be told apart
+  -- the same types are distinguishable
   pub apart_same : (t u : TypeTerm) → distinguishable xs t u ≡ distinguishable ys t u
   apart_same t u = ap (λ b. not (nullable_clash t u) && b) (parts_same (union_members t) (union_members u) (innermost t) (innermost u))
 
@@ -75,5 +75,5 @@ module _ (xs ys : List Iface) (same : map iface_term xs ≡ map iface_term ys) w
   two_same place (t ∷ tuples) = ap (λ b. b && each_two (apart_at xs place) tuples) (all_same (apart_at xs place t) (apart_at ys place t) (at_same place t) tuples) ∙ ap (λ b. list_all (apart_at ys place t) tuples && b) (two_same place tuples)
 
   -- the same places tell the same tuples apart
-  pub tells_same : (tuples : List TupleTerm) (m place : ℕ) → tells_apart xs tuples m place ≡ tells_apart ys tuples m place
+  pub tells_same : (tuples : List TupleTerm) (m place : ℕ) → distinguishes xs tuples m place ≡ distinguishes ys tuples m place
   tells_same tuples m place = two_same place (of_one_length m tuples)

@@ -1,4 +1,4 @@
--- The rules on overloads ask of a list of definitions its term alone. So two lists with the same term break them at the same spots.
+-- The rules on overloads ask of a list of definitions its term alone. So two lists with the same term break them at the same violations.
 use Rattle.std.proofs.Common.{◌≡◌, ℕ, ◌++◌, Bool, true, false, cond, List, [], ◌∷◌, map, arith, refl, sym, ap, subst, ◌∙◌, inl, inr}
 use Rattle.std.specs.List.{filter, flat_map}
 use Rattle.std.proofs.lemmas.List.{map-append}
@@ -7,12 +7,12 @@ use Rattle.widl_idl.specs.declared.interface.Iface.{Iface}
 use Rattle.widl_idl.specs.declared.namespace.Space.{Space}
 use Rattle.widl_idl.specs.declared.operation.OpName.{OpName}
 use Rattle.widl_idl.specs.declared.signature.Sig.{Sig}
-use Rattle.widl_idl.specs.declared.spot.Spot.{Spot}
+use Rattle.widl_idl.specs.declared.violation.Violation.{Violation}
 use Rattle.widl_idl.specs.DefinitionTerms.{DefsTerm, IfaceTerm, OpNameTerm, SigTerm, SpaceTerm, defs_term, iface_term, op_name_term, sig_term, space_term}
-use Rattle.widl_idl.specs.Least.{Somewhere}
+use Rattle.widl_idl.specs.First.{Somewhere}
 use Rattle.widl_idl.proofs.Somewhere.{nowhere, one_item, somewhere_cases, somewhere_right}
 use Rattle.widl_overload.specs.Index.{IsIndex, of_one_length}
-use Rattle.widl_overload.specs.OverloadRules.{AtOverloads, AtSmallestLength, DifferEarly, HasAlikeOverloads, HasEarlyDifference, IsLeastNumber, LacksIndex, has_name, operation_lists, overload_lists}
+use Rattle.widl_overload.specs.OverloadRules.{AtOverloads, AtSmallestLength, DifferEarly, HasIndistinguishableOverloads, HasEarlyDifference, IsLeastNumber, LacksIndex, has_name, operation_lists, overload_lists}
 use Rattle.widl_overload.specs.Sets.{TupleTerm, effective_tuples}
 use Rattle.widl_overload.proofs.SameInterfaces.{tells_same}
 use Rattle.widl_overload.proofs.SameTuples.{same_places, same_tuples}
@@ -73,7 +73,7 @@ lists_are defs =
     ∙ (λ k. interfaces_are defs.ifaces k ++ namespaces_are defs.spaces k)
 
 -- lists with the same terms, of which a rule asks the terms alone
-somewhere_same : (P Q : List Sig → Spot → Type 0) (s : Spot) → ((xs ys : List Sig) → sig_terms xs ≡ sig_terms ys → P xs s → Q ys s) → (lists others : List (List Sig)) → map sig_terms lists ≡ map sig_terms others → Somewhere P lists s → Somewhere Q others s
+somewhere_same : (P Q : List Sig → Violation → Type 0) (s : Violation) → ((xs ys : List Sig) → sig_terms xs ≡ sig_terms ys → P xs s → Q ys s) → (lists others : List (List Sig)) → map sig_terms lists ≡ map sig_terms others → Somewhere P lists s → Somewhere Q others s
 somewhere_same P Q s step [] others e h = absurd (nowhere P s h)
 somewhere_same P Q s step (xs ∷ lists) [] e h = absurd (cc)
 somewhere_same P Q s step (xs ∷ lists) (ys ∷ others) e h =
@@ -88,10 +88,10 @@ module _ (P Q : List TupleTerm → ℕ → Type 0) (to : (tuples : List TupleTer
   number_same : (tuples : List TupleTerm) (m : ℕ) → IsLeastNumber (P tuples) m → IsLeastNumber (Q tuples) m
   number_same tuples m h = record { holds = to tuples m h.holds; first = λ n below q. h.first n below (from tuples n q) }
 
-  names_same : (xs ys : List Sig) → sig_terms xs ≡ sig_terms ys → (tuples : List TupleTerm) (s : Spot) → AtOverloads xs tuples s → AtOverloads ys tuples s
+  names_same : (xs ys : List Sig) → sig_terms xs ≡ sig_terms ys → (tuples : List TupleTerm) (s : Violation) → AtOverloads xs tuples s → AtOverloads ys tuples s
   names_same xs ys e tuples s h = record { first = h.first; last = h.last; is_first = h.is_first; is_last = h.is_last; at_last = sym (same_places xs ys e h.last) ∙ h.at_last; other_first = sym (same_places xs ys e h.first) ∙ h.other_first }
 
-  smallest_same : (s : Spot) (xs ys : List Sig) → sig_terms xs ≡ sig_terms ys → AtSmallestLength P xs s → AtSmallestLength Q ys s
+  smallest_same : (s : Violation) (xs ys : List Sig) → sig_terms xs ≡ sig_terms ys → AtSmallestLength P xs s → AtSmallestLength Q ys s
   smallest_same s xs ys e h = record {
     size = h.size;
     smallest = subst (λ tuples. IsLeastNumber (Q tuples) h.size) (same_tuples xs ys e 0) (number_same (effective_tuples xs 0) h.size h.smallest);
@@ -100,7 +100,7 @@ module _ (P Q : List TupleTerm → ℕ → Type 0) (to : (tuples : List TupleTer
 
 module _ (xs ys : List Iface) (same : map iface_term xs ≡ map iface_term ys) where
   lacks_same : (tuples : List TupleTerm) (m : ℕ) → LacksIndex xs tuples m → LacksIndex ys tuples m
-  lacks_same tuples m h = record { several = h.several; alike = λ place within. sym (tells_same xs ys same tuples m place) ∙ h.alike place within }
+  lacks_same tuples m h = record { several = h.several; indistinguishable = λ place within. sym (tells_same xs ys same tuples m place) ∙ h.indistinguishable place within }
 
   index_same : (tuples : List TupleTerm) (m place : ℕ) → IsIndex xs tuples m place → IsIndex ys tuples m place
   index_same tuples m place h = record { several = h.several; within = h.within; tells = sym (tells_same xs ys same tuples m place) ∙ h.tells; lowest = λ p below. sym (tells_same xs ys same tuples m p) ∙ h.lowest p below }
@@ -115,10 +115,10 @@ module _ (defs other : Defs) (same : defs_term defs ≡ defs_term other) where
   same_lists : map sig_terms (overload_lists defs) ≡ map sig_terms (overload_lists other)
   same_lists = lists_are defs ∙ ap term_lists same ∙ sym (lists_are other)
 
-  -- overloads that can't be told apart
-  pub alike_overloads_same : (s : Spot) → HasAlikeOverloads defs s → HasAlikeOverloads other s
-  alike_overloads_same s h = somewhere_same (AtSmallestLength (LacksIndex defs.ifaces)) (AtSmallestLength (LacksIndex other.ifaces)) s (smallest_same (LacksIndex defs.ifaces) (LacksIndex other.ifaces) (lacks_same defs.ifaces other.ifaces same_interfaces) (lacks_same other.ifaces defs.ifaces (sym same_interfaces)) s) (overload_lists defs) (overload_lists other) same_lists h
+  -- overloads that aren't distinguishable
+  pub indistinguishable_overloads_same : (s : Violation) → HasIndistinguishableOverloads defs s → HasIndistinguishableOverloads other s
+  indistinguishable_overloads_same s h = somewhere_same (AtSmallestLength (LacksIndex defs.ifaces)) (AtSmallestLength (LacksIndex other.ifaces)) s (smallest_same (LacksIndex defs.ifaces) (LacksIndex other.ifaces) (lacks_same defs.ifaces other.ifaces same_interfaces) (lacks_same other.ifaces defs.ifaces (sym same_interfaces)) s) (overload_lists defs) (overload_lists other) same_lists h
 
   -- overloads that differ too early
-  pub early_difference_same : (s : Spot) → HasEarlyDifference defs s → HasEarlyDifference other s
+  pub early_difference_same : (s : Violation) → HasEarlyDifference defs s → HasEarlyDifference other s
   early_difference_same s h = somewhere_same (AtSmallestLength (DifferEarly defs.ifaces)) (AtSmallestLength (DifferEarly other.ifaces)) s (smallest_same (DifferEarly defs.ifaces) (DifferEarly other.ifaces) (early_same defs.ifaces other.ifaces same_interfaces) (early_same other.ifaces defs.ifaces (sym same_interfaces)) s) (overload_lists defs) (overload_lists other) same_lists h

@@ -3,8 +3,9 @@
 use Rattle.std.specs.Prelude.{◌≡◌, ℕ, Bool, true, false, List, [], ◌∷◌, length, flat_map, Option, bytes_eq}
 use Rattle.std.specs.Option.{option_to_list}
 use Rattle.std.specs.List.{list_any}
-use Rattle.widl_idl.specs.declared.spot.Spot.{Spot}
-use Rattle.widl_idl.specs.Least.{AtOne, Somewhere}
+use Rattle.widl_text.specs.Limits.{most_arguments}
+use Rattle.widl_idl.specs.declared.violation.Violation.{Violation}
+use Rattle.widl_idl.specs.First.{AtOne, Somewhere}
 use Rattle.widl_idl.specs.MergingRules.{IsAt}
 use Rattle.widl_idl.specs.PlainTrees.{PlainArgument, PlainArgumentKind, RequiredArgument, OptionalArgument, VariadicArgument, PlainMember, PlainMemberKind, OperationMember, ConstructorMember, AsyncIterableMember, PlainDefinition, PlainKind, CallbackFunctionDefinition, CallbackInterfaceDefinition, InterfaceDefinition, MixinDefinition, NamespaceDefinition}
 
@@ -30,17 +31,17 @@ lists_in_definition kind = []
 abbrev pub argument_lists_of : List PlainDefinition → List (List PlainArgument)
 argument_lists_of definitions = flat_map (λ (d : PlainDefinition). lists_in_definition d.kind) definitions
 
--- an earlier argument has the name: at the name
-abbrev pub RepeatsArgument : List PlainArgument → PlainArgument → Spot → Type 0
+-- rule 13: an earlier argument has the name: at the name
+abbrev pub RepeatsArgument : List PlainArgument → PlainArgument → Violation → Type 0
 RepeatsArgument before a s = (list_any (λ (b : PlainArgument). bytes_eq b.name.text a.name.text) before ≡ true) × IsAt a.name.at s
 
 -- the ellipsis of an argument, if it has one
-abbrev pub AtEllipsis : PlainArgumentKind → Spot → Type 0
+abbrev pub AtEllipsis : PlainArgumentKind → Violation → Type 0
 AtEllipsis (VariadicArgument ellipsis) s = IsAt ellipsis s
 AtEllipsis kind s = ⊥
 
--- an argument follows one with an ellipsis: at the ellipsis
-abbrev pub FollowsEllipsis : List PlainArgument → PlainArgument → Spot → Type 0
+-- rule 14: an argument follows one with an ellipsis: at the ellipsis
+abbrev pub FollowsEllipsis : List PlainArgument → PlainArgument → Violation → Type 0
 FollowsEllipsis before a s = Somewhere (λ (b : PlainArgument). AtEllipsis b.kind) before s
 
 abbrev pub is_required : PlainArgumentKind → Bool
@@ -51,14 +52,14 @@ abbrev pub is_optional : PlainArgumentKind → Bool
 is_optional (OptionalArgument default) = true
 is_optional kind = false
 
--- a required argument follows an optional one: at its name
-abbrev pub FollowsOptional : List PlainArgument → PlainArgument → Spot → Type 0
+-- rule 15: a required argument follows an optional one: at its name
+abbrev pub FollowsOptional : List PlainArgument → PlainArgument → Violation → Type 0
 FollowsOptional before a s = ((is_required a.kind ≡ true) × (list_any (λ (b : PlainArgument). is_optional b.kind) before ≡ true)) × IsAt a.name.at s
 
--- 64 arguments stand before this one: at its name
-abbrev pub IsArgument65 : List PlainArgument → PlainArgument → Spot → Type 0
-IsArgument65 before a s = (length before ≡ 64) × IsAt a.name.at s
+-- rule 45: as many arguments as a list may have stand before this one: at its name
+abbrev pub IsArgumentPastLimit : List PlainArgument → PlainArgument → Violation → Type 0
+IsArgumentPastLimit before a s = (length before ≡ most_arguments) × IsAt a.name.at s
 
 -- in one of the lists an argument breaks the rule
-abbrev pub InOneList : (List PlainArgument → PlainArgument → Spot → Type 0) → List PlainDefinition → Spot → Type 0
+abbrev pub InOneList : (List PlainArgument → PlainArgument → Violation → Type 0) → List PlainDefinition → Violation → Type 0
 InOneList Breaks definitions s = Somewhere (AtOne Breaks) (argument_lists_of definitions) s

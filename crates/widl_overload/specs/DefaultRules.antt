@@ -3,12 +3,12 @@
 use Rattle.std.specs.Prelude.{◌≡◌, ◌⊎◌, ℕ, Bool, true, false, List, [], ◌∷◌, ◌++◌, Contains, flat_map, slice_get, nat_le, Option, None, Some, bytes_eq}
 use Rattle.std.specs.List.{list_all, list_any}
 use Rattle.widl_idl.specs.declared.enumeration.Choice.{Choice}
-use Rattle.widl_idl.specs.declared.spot.Spot.{Spot}
+use Rattle.widl_idl.specs.declared.violation.Violation.{Violation}
 use Rattle.widl_idl.specs.declared.text_kind.TextKind.{TextKind}
 use Rattle.widl_idl.specs.declared.text_kind.TextKind.TheVariants as texts
 use Rattle.widl_idl.specs.DefinitionTerms.{DefsTerm}
 use Rattle.widl_idl.specs.Flattened.{flattened_member, includes_nullable_type}
-use Rattle.widl_idl.specs.Least.{Somewhere}
+use Rattle.widl_idl.specs.First.{Somewhere}
 use Rattle.widl_idl.specs.MergingRules.{IsAt}
 use Rattle.widl_idl.specs.PlainTypes.{PlainAnnotated, PlainAttribute, PlainLiteral, PlainValue, NullValue, UndefinedValue, BooleanValue, IntegerValue, TextValue, EmptySequenceValue, EmptyDictionaryValue}
 use Rattle.widl_idl.specs.PlainTrees.{PlainArgument, PlainArgumentKind, RequiredArgument, OptionalArgument, VariadicArgument, PlainMember, PlainMemberKind, OperationMember, ConstructorMember, PlainDictionaryMember, PlainDefinition, PlainKind, InterfaceDefinition, MixinDefinition, NamespaceDefinition, DictionaryDefinition}
@@ -87,10 +87,11 @@ defaults_of definitions = flat_map defaults_of_arguments (argument_lists_of defi
 
 module _ (list : DefsTerm) (definitions : List PlainDefinition) where
   -- a default value doesn't fit its type: at the value
-  abbrev pub IsOtherDefault : Defaulted → Spot → Type 0
+  abbrev pub IsOtherDefault : Defaulted → Violation → Type 0
   IsOtherDefault d s = (Fits list (meaning_with definitions d.attributes d.ty) d.value.value → ⊥) × IsAt d.value.at s
 
-  abbrev pub HasOtherDefault : Spot → Type 0
+  -- rule 16: a default value does not fit its type: at the value
+  abbrev pub HasOtherDefault : Violation → Type 0
   HasOtherDefault s = Somewhere IsOtherDefault (defaults_of definitions) s
 
   -- the types that a call may give values of: the flattened members of a union, or the type itself; a nullable type is neither
@@ -115,7 +116,7 @@ module _ (list : DefsTerm) (definitions : List PlainDefinition) where
   HasNoDefault kind = ⊥
 
   -- an argument of such a type is required though a call may leave out all that follow it, or it is optional without a default value: at its name
-  pub record LacksEmptyDefault (arguments : List PlainArgument) (s : Spot) : Type 0 where
+  pub record LacksEmptyDefault (arguments : List PlainArgument) (s : Violation) : Type 0 where
     pub before : List PlainArgument
     pub argument : PlainArgument
     pub following : List PlainArgument
@@ -142,5 +143,6 @@ call_lists_in_definition kind = []
 abbrev pub call_lists_of : List PlainDefinition → List (List PlainArgument)
 call_lists_of definitions = flat_map (λ (d : PlainDefinition). call_lists_in_definition d.kind) definitions
 
-abbrev pub HasNoEmptyDefault : DefsTerm → List PlainDefinition → Spot → Type 0
+-- rule 26: an argument that takes a dictionary without required members has no default value: at its name
+abbrev pub HasNoEmptyDefault : DefsTerm → List PlainDefinition → Violation → Type 0
 HasNoEmptyDefault list definitions s = Somewhere (LacksEmptyDefault list definitions) (call_lists_of definitions) s

@@ -2,8 +2,8 @@
 -- Source: Web IDL, "Enumerations", "Annotated types", "Operations" and "Callback interfaces".
 use Rattle.std.specs.Prelude.{◌≡◌, ◌≢◌, ◌⊎◌, ℕ, Bool, true, false, ◌||◌, List, [], ◌∷◌, length, flat_map, Option, None, Some, bytes_eq, is_some}
 use Rattle.std.specs.List.{list_any}
-use Rattle.widl_idl.specs.declared.spot.Spot.{Spot}
-use Rattle.widl_idl.specs.Least.{AtOne, Somewhere}
+use Rattle.widl_idl.specs.declared.violation.Violation.{Violation}
+use Rattle.widl_idl.specs.First.{AtOne, Somewhere}
 use Rattle.widl_idl.specs.MergedMembers.{operations_in}
 use Rattle.widl_idl.specs.MergingRules.{IsAt}
 use Rattle.widl_idl.specs.PlainTypes.{PlainName, PlainAttribute}
@@ -11,11 +11,11 @@ use Rattle.widl_idl.specs.PlainTrees.{PlainArgument, PlainArgumentKind, Variadic
 use Rattle.widl_idl.specs.WrittenTypes.{annotation_of}
 
 -- an earlier value of the enumeration is the same text: at the text
-abbrev pub RepeatsValue : List PlainEnumerationValue → PlainEnumerationValue → Spot → Type 0
+abbrev pub RepeatsValue : List PlainEnumerationValue → PlainEnumerationValue → Violation → Type 0
 RepeatsValue before v s = (list_any (λ (w : PlainEnumerationValue). bytes_eq w.text v.text) before ≡ true) × IsAt v.at s
 
--- an enumeration has a value twice
-abbrev pub HasValueTwice : PlainKind → Spot → Type 0
+-- rule 12: an enumeration has a value twice
+abbrev pub HasValueTwice : PlainKind → Violation → Type 0
 HasValueTwice (EnumerationDefinition e) s = AtOne RepeatsValue e.values s
 HasValueTwice kind s = ⊥
 
@@ -37,24 +37,25 @@ abbrev pub attribute_lists_of : PlainDefinition → List (List PlainAttribute)
 attribute_lists_of d = d.attributes ∷ flat_map (λ (m : PlainMember). attributes_of_no_type m.attributes m.kind ∷ []) (members_written d.kind)
 
 -- an annotation of types: at its name
-abbrev pub IsAnnotation : PlainAttribute → Spot → Type 0
+abbrev pub IsAnnotation : PlainAttribute → Violation → Type 0
 IsAnnotation a s = (is_some (annotation_of a.name.text) ≡ true) × IsAt a.name.at s
 
--- an annotation of types stands before what is no type
-abbrev pub AnnotatesNoType : PlainDefinition → Spot → Type 0
+-- rule 30: an annotation of types stands before what is no type
+abbrev pub AnnotatesNoType : PlainDefinition → Violation → Type 0
 AnnotatesNoType d s = Somewhere (Somewhere IsAnnotation) (attribute_lists_of d) s
 
--- a callback interface that hasn't exactly one operation: at its name
-abbrev pub HasOtherThanOne : PlainKind → Spot → Type 0
+-- rule 33: a callback interface that hasn't exactly one operation: at its name
+abbrev pub HasOtherThanOne : PlainKind → Violation → Type 0
 HasOtherThanOne (CallbackInterfaceDefinition c) s = (length (operations_in c.members) ≢ 1) × IsAt c.name.at s
 HasOtherThanOne kind s = ⊥
 
 -- an operation without a name: at its `(`
-abbrev pub IsNameless : PlainMemberKind → Spot → Type 0
+abbrev pub IsNameless : PlainMemberKind → Violation → Type 0
 IsNameless (OperationMember o) s = (is_some o.name ≡ false) × IsAt o.open_place s
 IsNameless kind s = ⊥
 
-abbrev pub HasNameless : PlainKind → Spot → Type 0
+-- rule 39: an operation has no name: at its `(`
+abbrev pub HasNameless : PlainKind → Violation → Type 0
 HasNameless kind s = Somewhere (λ (m : PlainMember). IsNameless m.kind) (members_written kind) s
 
 abbrev pub is_variadic : PlainArgumentKind → Bool
@@ -68,10 +69,11 @@ has_early_ellipsis (a ∷ []) = false
 has_early_ellipsis (a ∷ b ∷ more) = is_variadic a.kind || has_early_ellipsis (b ∷ more)
 
 -- an operation of a callback interface without a name, or with an ellipsis in a place other than the last: at its `(`
-abbrev pub IsMisformed : PlainMemberKind → Spot → Type 0
+abbrev pub IsMisformed : PlainMemberKind → Violation → Type 0
 IsMisformed (OperationMember o) s = ((is_some o.name ≡ false) ⊎ (has_early_ellipsis o.arguments ≡ true)) × IsAt o.open_place s
 IsMisformed kind s = ⊥
 
-abbrev pub HasMisformed : PlainKind → Spot → Type 0
+-- rule 46: an operation of a callback interface has no name, or an ellipsis before its last argument: at its `(`
+abbrev pub HasMisformed : PlainKind → Violation → Type 0
 HasMisformed (CallbackInterfaceDefinition c) s = Somewhere (λ (m : PlainMember). IsMisformed m.kind) c.members s
 HasMisformed kind s = ⊥

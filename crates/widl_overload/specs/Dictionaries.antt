@@ -68,4 +68,4 @@ module _ (dicts : List DictTerm) where
   -- a chain of so many dictionaries begins with this one, each next one in the type of a member of the one before
   pub data BeginsChain : ℕ → ℕ → Type 0 where
     alone : {n : ℕ} → BeginsChain 1 n
-    behind : {count n m : ℕ} → HoldsIn n m → BeginsChain count m → BeginsChain (count + 1) n
+    after : {count n m : ℕ} → HoldsIn n m → BeginsChain count m → BeginsChain (count + 1) n

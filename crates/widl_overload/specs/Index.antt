@@ -26,19 +26,19 @@ abbrev pub of_one_length : ℕ → List TupleTerm → List TupleTerm
 of_one_length m tuples = filter (has_length m) tuples
 
 -- whether each two tuples of a length are distinguishable at a place
-abbrev pub tells_apart : List Iface → List TupleTerm → ℕ → ℕ → Bool
-tells_apart ifaces tuples m place = each_two (apart_at ifaces place) (of_one_length m tuples)
+abbrev pub distinguishes : List Iface → List TupleTerm → ℕ → ℕ → Bool
+distinguishes ifaces tuples m place = each_two (apart_at ifaces place) (of_one_length m tuples)
 
 -- the lowest place at which each two of the several tuples of a length are distinguishable
 pub record IsIndex (ifaces : List Iface) (tuples : List TupleTerm) (m place : ℕ) : Type 0 where
   pub several : 2 ≤ length (of_one_length m tuples)
   pub within : place < m
-  pub tells : tells_apart ifaces tuples m place ≡ true
-  pub lowest : (p : ℕ) → p < place → tells_apart ifaces tuples m p ≡ false
+  pub tells : distinguishes ifaces tuples m place ≡ true
+  pub lowest : (p : ℕ) → p < place → distinguishes ifaces tuples m p ≡ false
 
 -- fewer than two tuples have the length, or no place will do
 abbrev pub HasNoIndex : List Iface → List TupleTerm → ℕ → Type 0
-HasNoIndex ifaces tuples m = 2 ≤ length (of_one_length m tuples) → (p : ℕ) → p < m → tells_apart ifaces tuples m p ≡ false
+HasNoIndex ifaces tuples m = 2 ≤ length (of_one_length m tuples) → (p : ℕ) → p < m → distinguishes ifaces tuples m p ≡ false
 
 abbrev pub IsDistinguishingIndex : List Iface → List TupleTerm → ℕ → Option ℕ → Type 0
 IsDistinguishingIndex ifaces tuples m index = MatchOption index (HasNoIndex ifaces tuples m) (IsIndex ifaces tuples m)

@@ -4,8 +4,8 @@ use Rattle.std.specs.Prelude.{◌≡◌, ◌⊎◌, ℕ, Bool, true, false, ◌|
 use Rattle.std.specs.List.{list_any}
 use Rattle.widl_graph.specs.Reaching.{Reaches}
 use Rattle.widl_idl.specs.declared.kind.Kind.TheVariants as kinds
-use Rattle.widl_idl.specs.declared.spot.Spot.{Spot}
-use Rattle.widl_idl.specs.Least.{AtOne, Somewhere}
+use Rattle.widl_idl.specs.declared.violation.Violation.{Violation}
+use Rattle.widl_idl.specs.First.{AtOne, Somewhere}
 use Rattle.widl_idl.specs.Meanings.{meaning, meant_kind}
 use Rattle.widl_idl.specs.MergingRules.{IsAt, parent_links}
 use Rattle.widl_idl.specs.Parts.{merged_members}
@@ -21,7 +21,7 @@ abbrev pub has_iterable : List PlainMember → Bool
 has_iterable members = list_any (λ (m : PlainMember). is_iterable m.kind) members
 
 -- at the word `iterable`
-abbrev pub AtIterable : PlainMemberKind → Spot → Type 0
+abbrev pub AtIterable : PlainMemberKind → Violation → Type 0
 AtIterable (IterableMember i) s = IsAt i.at s
 AtIterable kind s = ⊥
 
@@ -62,10 +62,11 @@ module _ (definitions : List PlainDefinition) where
     pub has : has_iterable (members_of_interface other) ≡ true
 
   -- an iterable of an interface that has an earlier one, or inherits one: at its word
-  abbrev pub IsSecondIterable : List ℕ → List PlainMember → PlainMember → Spot → Type 0
+  abbrev pub IsSecondIterable : List ℕ → List PlainMember → PlainMember → Violation → Type 0
   IsSecondIterable text before m s = ((has_iterable before ≡ true) ⊎ InheritsIterable text) × AtIterable m.kind s
 
-  pub record HasSecondIterable (s : Spot) : Type 0 where
+  -- rule 31: an iterable whose interface has an earlier one or inherits one: at its word
+  pub record HasSecondIterable (s : Violation) : Type 0 where
     pub text : List ℕ
     pub number : ℕ
     pub is : IsInterface text number
@@ -77,8 +78,8 @@ module _ (definitions : List PlainDefinition) where
     pub of_line : (text ≡ other) ⊎ InheritsFrom text other
     pub has : has_iteration_name (members_of_interface other) ≡ true
 
-  -- an iterable of such an interface: at its word
-  pub record HidesIterationMethod (s : Spot) : Type 0 where
+  -- rule 32: an iterable of such an interface: at its word
+  pub record HidesIterationMethod (s : Violation) : Type 0 where
     pub text : List ℕ
     pub number : ℕ
     pub is : IsInterface text number

@@ -2,6 +2,7 @@ pub mod Inheritance
 pub mod Distinct
 pub mod Pairs
 pub mod Sets
+pub mod Served
 pub mod Index
 pub mod Construction
 pub mod TypeUses
@@ -17,5 +18,5 @@ pub mod IterableRules
 pub mod OverloadRules
 pub mod OverloadLists
 pub mod OverloadNames
-pub mod OverloadSpots
+pub mod OverloadViolations
 pub mod Validity

@@ -2,13 +2,14 @@
 -- Source: Web IDL, "Members", "Constants", "Overloading" and "Stringifiers".
 use Rattle.std.specs.Prelude.{◌≡◌, ℕ, Bool, true, false, ◌||◌, ◌&&◌, not, List, [], ◌∷◌, length, filter, filter_map, Option, None, Some, bytes_eq, codes}
 use Rattle.std.specs.List.{list_any}
+use Rattle.widl_text.specs.Limits.{most_overloads}
 use Rattle.widl_text.specs.declared.place.Place.{Place}
 use Rattle.widl_idl.specs.declared.kind.Kind.{Kind}
 use Rattle.widl_idl.specs.declared.kind.Kind.TheVariants as kinds
-use Rattle.widl_idl.specs.declared.spot.Spot.{Spot}
+use Rattle.widl_idl.specs.declared.violation.Violation.{Violation}
 use Rattle.widl_idl.specs.declared.tree.members.AttributeKind.{AttributeKind}
 use Rattle.widl_idl.specs.declared.tree.members.AttributeKind.TheVariants as attribute_kind
-use Rattle.widl_idl.specs.Least.{AtOne}
+use Rattle.widl_idl.specs.First.{AtOne}
 use Rattle.widl_idl.specs.Meanings.{meant_kind, same_kind}
 use Rattle.widl_idl.specs.MergedMembers.{are_overloads, has, is_static_attribute, is_stringifier, operations_in}
 use Rattle.widl_idl.specs.MergingRules.{AtName, IsAt, both_or_none, is_static}
@@ -19,7 +20,7 @@ use Rattle.widl_idl.specs.Terms.{TypeTerm, PromiseType}
 use Rattle.widl_idl.specs.WrittenTypes.{meaning_alone}
 
 -- of the interface or the namespace that a name means one of the members, which are seen in merged order with those before it, breaks the rule
-pub record InOneOwner (asked : Kind → Bool) (Breaks : List PlainMember → PlainMember → Spot → Type 0) (definitions : List PlainDefinition) (s : Spot) : Type 0 where
+pub record InOneOwner (asked : Kind → Bool) (Breaks : List PlainMember → PlainMember → Violation → Type 0) (definitions : List PlainDefinition) (s : Violation) : Type 0 where
   pub text : List ℕ
   pub kind : Kind
   pub means : meant_kind definitions text ≡ Some kind
@@ -51,8 +52,8 @@ is_named text (Some name) = bytes_eq name.text text
 abbrev pub excludes : PlainMemberKind → PlainMemberKind → Bool
 excludes a b = not (is_operation a && is_operation b)
 
--- an earlier member has the identifier, and not both are operations: at the identifier
-abbrev pub RepeatsMember : List PlainMember → PlainMember → Spot → Type 0
+-- rule 42: an earlier member has the identifier, and not both are operations: at the identifier
+abbrev pub RepeatsMember : List PlainMember → PlainMember → Violation → Type 0
 RepeatsMember before m s = AtName (identifier m.kind) (λ name. list_any (λ (b : PlainMember). is_named name.text (identifier b.kind) && excludes b.kind m.kind) before ≡ true) s
 
 -- whether a member is static
@@ -71,8 +72,8 @@ is_kept_name kind text =
     (bytes_eq text (codes "prototype") && (is_static_member kind || is_constant kind))
     || (is_constant kind && (bytes_eq text (codes "length") || bytes_eq text (codes "name")))
 
--- a static member or a constant of an interface has a name that it may not have: at the name
-abbrev pub HasKeptName : List PlainMember → PlainMember → Spot → Type 0
+-- rule 43: a static member or a constant of an interface has a name that it may not have: at the name
+abbrev pub HasKeptName : List PlainMember → PlainMember → Violation → Type 0
 HasKeptName before m s = AtName (identifier m.kind) (λ name. is_kept_name m.kind name.text ≡ true) s
 
 abbrev pub constructor_place : PlainMemberKind → Option Place
@@ -83,14 +84,15 @@ constructor_place kind = None
 abbrev pub constructor_count : List PlainMember → ℕ
 constructor_count members = length (filter_map (λ (m : PlainMember). constructor_place m.kind) members)
 
--- 64 operations of its name, static or not as it is, or 64 constructors stand before the member: at its name or its word
-abbrev pub IsOverload65 : List PlainMember → PlainMemberKind → Spot → Type 0
-IsOverload65 before (OperationMember o) s = AtName o.name (λ name. length (filter (are_overloads o) (operations_in before)) ≡ 64) s
-IsOverload65 before (ConstructorMember c) s = (constructor_count before ≡ 64) × IsAt c.at s
-IsOverload65 before kind s = ⊥
+-- as many operations of its name, static or not as it is, or as many constructors, as may be stand before the member: at its name or its word
+abbrev pub IsOverloadPastLimit : List PlainMember → PlainMemberKind → Violation → Type 0
+IsOverloadPastLimit before (OperationMember o) s = AtName o.name (λ name. length (filter (are_overloads o) (operations_in before)) ≡ most_overloads) s
+IsOverloadPastLimit before (ConstructorMember c) s = (constructor_count before ≡ most_overloads) × IsAt c.at s
+IsOverloadPastLimit before kind s = ⊥
 
-abbrev pub HasOverload65 : List PlainMember → PlainMember → Spot → Type 0
-HasOverload65 before m s = IsOverload65 before m.kind s
+-- rule 44: a member is an overload past the limit: at its name or its word
+abbrev pub HasOverloadPastLimit : List PlainMember → PlainMember → Violation → Type 0
+HasOverloadPastLimit before m s = IsOverloadPastLimit before m.kind s
 
 abbrev pub is_promise : TypeTerm → Bool
 is_promise (PromiseType t) = true
@@ -101,15 +103,16 @@ abbrev pub returns_promise : List PlainDefinition → PlainOperation → Bool
 returns_promise definitions o = is_promise (meaning_alone definitions o.returned)
 
 -- whether two operations are overloads, and both return promises or both return none
-abbrev pub are_alike : List PlainDefinition → PlainOperation → PlainOperation → Bool
-are_alike definitions o p = are_overloads o p && both_or_none (returns_promise definitions o) (returns_promise definitions p)
+abbrev pub agree_on_promises : List PlainDefinition → PlainOperation → PlainOperation → Bool
+agree_on_promises definitions o p = are_overloads o p && both_or_none (returns_promise definitions o) (returns_promise definitions p)
 
 -- the first of its overloads to return a promise where earlier ones return none, or to return none where earlier ones return promises: at its name
-abbrev pub DiffersInPromise : List PlainDefinition → List PlainMember → PlainMemberKind → Spot → Type 0
-DiffersInPromise definitions before (OperationMember o) s = AtName o.name (λ name. (list_any (are_overloads o) (operations_in before) ≡ true) × (list_any (are_alike definitions o) (operations_in before) ≡ false)) s
+abbrev pub DiffersInPromise : List PlainDefinition → List PlainMember → PlainMemberKind → Violation → Type 0
+DiffersInPromise definitions before (OperationMember o) s = AtName o.name (λ name. (list_any (are_overloads o) (operations_in before) ≡ true) × (list_any (agree_on_promises definitions o) (operations_in before) ≡ false)) s
 DiffersInPromise definitions before kind s = ⊥
 
-abbrev pub MixesPromises : List PlainDefinition → List PlainMember → PlainMember → Spot → Type 0
+-- rule 38: of the operations of a name some return a promise and some do not: at the first that differs
+abbrev pub MixesPromises : List PlainDefinition → List PlainMember → PlainMember → Violation → Type 0
 MixesPromises definitions before m s = DiffersInPromise definitions before m.kind s
 
 -- where the word `stringifier` of a member stands
@@ -122,10 +125,10 @@ stringifier_place (StringifierMember at) = Some at
 stringifier_place (AttributeMember a) = word_of_attribute a.kind
 stringifier_place kind = None
 
-abbrev pub AtPlace : Option Place → Spot → Type 0
+abbrev pub AtPlace : Option Place → Violation → Type 0
 AtPlace None s = ⊥
 AtPlace (Some place) s = IsAt place s
 
--- an earlier member is a stringifier too: at the word
-abbrev pub IsSecondStringifier : List PlainMember → PlainMember → Spot → Type 0
+-- rule 34: an earlier member is a stringifier too: at the word
+abbrev pub IsSecondStringifier : List PlainMember → PlainMember → Violation → Type 0
 IsSecondStringifier before m s = (has is_stringifier before ≡ true) × AtPlace (stringifier_place m.kind) s

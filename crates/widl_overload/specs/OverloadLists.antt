@@ -1,4 +1,4 @@
--- The lists of overloads of one thing.
+-- For proofs alone. The lists of overloads of one node.
 use Rattle.std.specs.Prelude.{List, ◌∷◌, flat_map}
 use Rattle.widl_idl.specs.declared.interface.Iface.{Iface}
 use Rattle.widl_idl.specs.declared.namespace.Space.{Space}

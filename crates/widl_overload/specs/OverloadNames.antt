@@ -1,4 +1,4 @@
--- The numbers and the names of overloads.
+-- For proofs alone. The numbers and the names of overloads.
 use Rattle.std.specs.Prelude.{ℕ, List, slice_get, Option, option_map}
 use Rattle.widl_text.specs.declared.place.Place.{Place}
 use Rattle.widl_idl.specs.declared.signature.Sig.{Sig}

@@ -7,9 +7,9 @@ use Rattle.widl_idl.specs.declared.interface.Iface.{Iface}
 use Rattle.widl_idl.specs.declared.namespace.Space.{Space}
 use Rattle.widl_idl.specs.declared.operation.OpName.{OpName}
 use Rattle.widl_idl.specs.declared.signature.Sig.{Sig}
-use Rattle.widl_idl.specs.declared.spot.Spot.{Spot}
-use Rattle.widl_idl.specs.Least.{Somewhere}
-use Rattle.widl_overload.specs.Index.{IsIndex, of_one_length, tells_apart}
+use Rattle.widl_idl.specs.declared.violation.Violation.{Violation}
+use Rattle.widl_idl.specs.First.{Somewhere}
+use Rattle.widl_overload.specs.Index.{IsIndex, of_one_length, distinguishes}
 use Rattle.widl_overload.specs.Sets.{TupleTerm, effective_tuples}
 
 -- whether operations have a name; those without one can't be called
@@ -32,10 +32,10 @@ pub record IsLeastNumber (P : ℕ → Type 0) (n : ℕ) : Type 0 where
   pub holds : P n
   pub first : (m : ℕ) → m < n → P m → ⊥
 
--- several tuples have the length, and at no place can they all be told apart
+-- several tuples have the length, and at no place can they all be distinguished
 pub record LacksIndex (ifaces : List Iface) (tuples : List TupleTerm) (m : ℕ) : Type 0 where
   pub several : 2 ≤ length (of_one_length m tuples)
-  pub alike : (place : ℕ) → place < m → tells_apart ifaces tuples m place ≡ false
+  pub indistinguishable : (place : ℕ) → place < m → distinguishes ifaces tuples m place ≡ false
 
 -- the types or the optionality values of two tuples at a place differ
 abbrev pub DifferAt : TupleTerm → TupleTerm → ℕ → Type 0
@@ -57,8 +57,8 @@ pub record DifferEarly (ifaces : List Iface) (tuples : List TupleTerm) (m : ℕ)
 abbrev pub overload_place : List Sig → TupleTerm → Option Place
 overload_place sigs t = option_map (λ (s : Sig). s.at) (slice_get sigs t.overload)
 
--- the spot is the name of the last overload of these tuples, and speaks of that of the first
-pub record AtOverloads (sigs : List Sig) (tuples : List TupleTerm) (s : Spot) : Type 0 where
+-- the violation is the name of the last overload of these tuples, and speaks of that of the first
+pub record AtOverloads (sigs : List Sig) (tuples : List TupleTerm) (s : Violation) : Type 0 where
   pub first : TupleTerm
   pub last : TupleTerm
   pub is_first : slice_get tuples 0 ≡ Some first
@@ -67,15 +67,15 @@ pub record AtOverloads (sigs : List Sig) (tuples : List TupleTerm) (s : Spot) : 
   pub other_first : overload_place sigs first ≡ s.other
 
 -- of the lengths of the effective overload set of which this holds the smallest one, at the names of its overloads
-pub record AtSmallestLength (P : List TupleTerm → ℕ → Type 0) (sigs : List Sig) (s : Spot) : Type 0 where
+pub record AtSmallestLength (P : List TupleTerm → ℕ → Type 0) (sigs : List Sig) (s : Violation) : Type 0 where
   pub size : ℕ
   pub smallest : IsLeastNumber (P (effective_tuples sigs 0)) size
   pub at_names : AtOverloads sigs (of_one_length size (effective_tuples sigs 0)) s
 
--- tuples of one length have no distinguishing index
-abbrev pub HasAlikeOverloads : Defs → Spot → Type 0
-HasAlikeOverloads defs s = Somewhere (AtSmallestLength (LacksIndex defs.ifaces)) (overload_lists defs) s
+-- rule 35: tuples of one length have no distinguishing index
+abbrev pub HasIndistinguishableOverloads : Defs → Violation → Type 0
+HasIndistinguishableOverloads defs s = Somewhere (AtSmallestLength (LacksIndex defs.ifaces)) (overload_lists defs) s
 
--- tuples of one length differ before their distinguishing index
-abbrev pub HasEarlyDifference : Defs → Spot → Type 0
+-- rule 36: tuples of one length differ before their distinguishing index
+abbrev pub HasEarlyDifference : Defs → Violation → Type 0
 HasEarlyDifference defs s = Somewhere (AtSmallestLength (DifferEarly defs.ifaces)) (overload_lists defs) s

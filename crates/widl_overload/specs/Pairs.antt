@@ -1,4 +1,4 @@
--- All pairs of innermost types, as one test each for the functions that walk them.
+-- For proofs alone. All pairs of innermost types, as one test each for the functions that walk them.
 use Rattle.std.specs.Prelude.{Bool, List}
 use Rattle.std.specs.List.{list_all}
 use Rattle.widl_idl.specs.declared.interface.Iface.{Iface}

@@ -16,7 +16,7 @@ pub record TypeUse : Type 0 where
   pub first : Place
   pub ty : PlainType
 
--- where the first token of a type stands behind its extended attributes
+-- where the first token of a type stands after its extended attributes
 abbrev pub type_place : PlainType → Place
 type_place (plain_type at form question) = at
 
@@ -33,7 +33,7 @@ abbrev mutual
   pub uses_of_plain : TypeRole → PlainType → List TypeUse
   uses_of_plain as_role (plain_type at form question) = record { role = as_role; attributes = []; first = at; ty = plain_type at form question } ∷ uses_in_form form
 
-  -- a type behind these extended attributes of the thing that it is the type of and behind its own, and those inside it
+  -- a type after these extended attributes of the node that it is the type of and after its own, and those inside it
   pub uses_of_annotated : TypeRole → List PlainAttribute → PlainAnnotated → List TypeUse
   uses_of_annotated as_role outer (plain_annotated first own (plain_type at form question)) = record { role = as_role; attributes = outer ++ own; first = first; ty = plain_type at form question } ∷ uses_in_form form
 

@@ -1,6 +1,6 @@
 //! The categories of innermost types.
 
-/// The kind of an innermost type, by which two of them are told apart (Web IDL,
+/// The kind of an innermost type, by which two of them are distinguished (Web IDL,
 /// "distinguishable").
 #[derive(Clone, Copy, Debug, PartialEq, Eq)]
 pub enum Category {

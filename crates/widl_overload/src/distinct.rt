@@ -1,4 +1,4 @@
-//! Which types can be told apart.
+//! Which types are distinguishable.
 
 ghost use Rattle.std.specs.Prelude.{◌≡◌, ◌&&◌, ◌||◌, not, false, List};
 ghost use Rattle.std.specs.List.{list_all, list_any};
@@ -12,7 +12,7 @@ use crate::category::Category;
 use crate::inheritance::inherits;
 use widl_idl::{Defs, IdlType, IdlTypes, Iface, includes_nullable};
 
-/// Whether values of the two types can be told apart (Web IDL, "distinguishable").
+/// Whether values of the two types are distinguishable (Web IDL, "distinguishable").
 pub fn distinguishable(defs: &Defs, a: &IdlType, b: &IdlType) -> bool
     ensures { result ≡ distinguishable_in defs.now.ifaces (type_term a.now) (type_term b.now) }
 {

@@ -23,7 +23,7 @@ pub fn distinguishing_index(defs: &Defs, set: &OverloadSet, len: u32) -> Option<
     }
 }
 
-/// The tuples of a length without those before the first and behind the last of them.
+/// The tuples of a length without those before the first and after the last of them.
 fn run(tuples: &[Tuple], m: usize) -> &[Tuple]
     ensures { terms_of_length m result.now ≡ terms_of_length m tuples.now }
 {
@@ -45,7 +45,7 @@ fn start_of_run(tuples: &[Tuple], m: usize) -> usize
     tuples.len()
 }
 
-/// The place behind the last tuple of a length.
+/// The place after the last tuple of a length.
 fn end_of_run(tuples: &[Tuple], m: usize) -> usize
     ensures within { result ≤ length tuples.now }
     ensures none { terms_of_length m (drop result tuples.now) ≡ [] }
@@ -86,7 +86,7 @@ fn first_telling(defs: &Defs, tuples: &[Tuple], len: u32) -> Option<u32>
         (λ place. (place < len) × (each_two (apart_at defs.now.ifaces place) (terms_of_length len tuples.now) ≡ true) × ((p : ℕ) → p < place → each_two (apart_at defs.now.ifaces p) (terms_of_length len tuples.now) ≡ false)) }
 {
     for place in 0..len {
-        if tells_apart(defs, tuples, len as usize, place as usize) {
+        if distinguishes(defs, tuples, len as usize, place as usize) {
             return Some(place);
         }
     }
@@ -94,7 +94,7 @@ fn first_telling(defs: &Defs, tuples: &[Tuple], len: u32) -> Option<u32>
 }
 
 /// Whether each two tuples of a length are distinguishable at a place.
-fn tells_apart(defs: &Defs, tuples: &[Tuple], m: usize, place: usize) -> bool
+fn distinguishes(defs: &Defs, tuples: &[Tuple], m: usize, place: usize) -> bool
     ensures { result ≡ each_two (apart_at defs.now.ifaces place) (terms_of_length m tuples.now) }
 {
     for (number, tuple) in tuples.iter().enumerate() {

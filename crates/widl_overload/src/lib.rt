@@ -1,6 +1,9 @@
-//! Overloads of Web IDL: which types can be told apart, the effective overload set of a callee, and
-//! the argument by which overloads are told apart. It stands on `widl_text` and `widl_idl`. The
-//! contract that the crates above use: [`effective_set`] lists each tuple of the standard's set once.
+//! Overloads of Web IDL and what validity means: which types are distinguishable, the effective overload
+//! set of a callee, the argument by which overloads are distinguished, the statements of all 36 rules of
+//! validity (`specs/Validity.antt` and the files that it joins; two of them, on overloads, are asked here,
+//! the others in `widl_valid` and `widl_inheritance`), and [`Accepted`], a set of files that breaks none of
+//! them. It stands on `widl_text`, `widl_graph` and `widl_idl`. The contract that the crates above use:
+//! [`effective_set`] lists each tuple of the standard's set once.
 #![tactic(auto)]
 
 mod accepted;
@@ -12,7 +15,8 @@ mod inheritance;
 mod overload_names;
 mod overload_rules;
 mod overload_sizes;
-mod overload_spots;
+mod overload_violations;
+mod served;
 mod sets;
 #[cfg(test)]
 mod tests;
@@ -26,8 +30,9 @@ pub use category::Category;
 pub use distinct::{distinguishable, distinguishable_from_itself, distinguishable_is_symmetric};
 pub use index::distinguishing_index;
 pub use inheritance::inherits;
-pub use overload_rules::{first_alike_overloads, first_early_difference, least_overload_spots};
-pub use overload_spots::OverloadSpots;
+pub use overload_rules::first_overload_violations;
+pub use overload_violations::OverloadViolations;
+pub use served::is_served;
 pub use sets::{effective_set, effective_set_is_as_constructed};
 pub use tuple::{OverloadSet, Tuple};
 pub use type_role::TypeRole;

@@ -3,18 +3,18 @@
 ghost use Rattle.std.specs.Prelude.{◌≡◌, ◌-◌, length, option_and_then, option_map, slice_get};
 ghost use Rattle.widl_overload.specs.Index.{terms_of_length};
 ghost use Rattle.widl_overload.specs.OverloadRules.{AtOverloads};
-ghost use Rattle.widl_overload.specs.OverloadSpots.{IsAtNames, IsOnly};
+ghost use Rattle.widl_overload.specs.OverloadViolations.{IsAtNames, IsOnly};
 ghost use Rattle.widl_overload.specs.OverloadNames.{number_of, place_of_number};
 ghost use Rattle.widl_overload.specs.Sets.{tuples_in};
 
 use crate::index::has_length;
 use crate::tuple::{OverloadSet, Tuple};
-use widl_idl::{Sig, Spot};
+use widl_idl::{Sig, Violation};
 use widl_text::Place;
 
-/// The spot at the name of the last overload with a tuple of a length, which speaks of that of the
+/// The violation at the name of the last overload with a tuple of a length, which speaks of that of the
 /// first.
-pub(crate) fn at_names(sigs: &[Sig], set: &OverloadSet, size: Option<u32>) -> Option<Spot>
+pub(crate) fn at_names(sigs: &[Sig], set: &OverloadSet, size: Option<u32>) -> Option<Violation>
     ensures { IsAtNames sigs.now (tuples_in set.now) size result }
 {
     match size {
@@ -23,13 +23,13 @@ pub(crate) fn at_names(sigs: &[Sig], set: &OverloadSet, size: Option<u32>) -> Op
     }
 }
 
-fn at_names_of_length(sigs: &[Sig], tuples: &[Tuple], m: usize) -> Option<Spot>
+fn at_names_of_length(sigs: &[Sig], tuples: &[Tuple], m: usize) -> Option<Violation>
     ensures { IsOnly (AtOverloads sigs.now (terms_of_length m tuples.now)) result }
 {
     let first = first_overload(tuples, m)?;
     let last = last_overload(tuples, m)?;
     let at = overload_place(sigs, last)?;
-    Some(Spot {
+    Some(Violation {
         at,
         other: overload_place(sigs, first),
     })

@@ -6,7 +6,7 @@ ghost use Rattle.std.specs.Option.{option_copied, option_map};
 ghost use Rattle.widl_idl.specs.declared.interface.Iface as interfaces;
 ghost use Rattle.widl_overload.specs.Index.{IsDistinguishingIndex, terms_of_length};
 ghost use Rattle.widl_overload.specs.OverloadRules.{DifferAt, DifferEarly, LacksIndex};
-ghost use Rattle.widl_overload.specs.OverloadSpots.{AgreeAt, AgreeBefore, DifferBefore, DiffersFromOne, IsSmallest, TwoDiffer};
+ghost use Rattle.widl_overload.specs.OverloadViolations.{AgreeAt, AgreeBefore, DifferBefore, DiffersFromOne, IsSmallest, TwoDiffer};
 ghost use Rattle.widl_overload.specs.Sets.{tuple_term, tuples_in};
 
 use crate::index::{are_several, distinguishing_index, has_length};
@@ -17,7 +17,7 @@ use widl_idl::{Defs, same_type};
 #[derive(Clone, Copy, Debug)]
 pub(crate) struct BreakingLengths {
     /// Of which there are several tuples without a distinguishing argument index.
-    pub(crate) alike: Option<u32>,
+    pub(crate) indistinguishable: Option<u32>,
     /// Of which two tuples differ before that index.
     pub(crate) early: Option<u32>,
 }
@@ -26,19 +26,22 @@ pub(crate) struct BreakingLengths {
 /// rules ask for the distinguishing argument index of a length, which is found once.
 pub(crate) fn breaking_lengths(defs: &Defs, set: &OverloadSet, most: usize) -> BreakingLengths
     requires { most < 4294967296 }
-    ensures alike { IsSmallest (LacksIndex defs.now.ifaces (tuples_in set.now)) most result.alike }
+    ensures indistinguishable { IsSmallest (LacksIndex defs.now.ifaces (tuples_in set.now)) most result.indistinguishable }
     ensures early { IsSmallest (DifferEarly defs.now.ifaces (tuples_in set.now)) most result.early }
 {
-    let mut alike = None;
+    let mut indistinguishable = None;
     let mut early = None;
     for m in 0..most + 1 {
         let index = distinguishing_index(defs, set, m as u32);
         let lacks = lacks_index(set, m as u32, index);
-        alike = found_or(alike, m as u32, lacks);
+        indistinguishable = found_or(indistinguishable, m as u32, lacks);
         let differ = differ_early(set, m as u32, index);
         early = found_or(early, m as u32, differ);
     }
-    BreakingLengths { alike, early }
+    BreakingLengths {
+        indistinguishable,
+        early,
+    }
 }
 
 /// The length that was found before, and else this one, if a rule is broken at it.
@@ -51,7 +54,7 @@ fn found_or(found: Option<u32>, m: u32, broken: bool) -> Option<u32>
     }
 }
 
-/// Whether several tuples have a length, and there is no place by which they are told apart, where
+/// Whether several tuples have a length, and there is no place by which they are distinguished, where
 /// `index` is the distinguishing argument index of the length.
 fn lacks_index(set: &OverloadSet, m: u32, index: Option<u32>) -> bool
     ensures { (ifaces : List interfaces.Iface) → IsDistinguishingIndex ifaces (tuples_in set.now) m index → MatchBool result (LacksIndex ifaces (tuples_in set.now) m) (LacksIndex ifaces (tuples_in set.now) m → ⊥) }

@@ -3,10 +3,10 @@
 ghost use Rattle.std.specs.Prelude.{IsTrue};
 ghost use Rattle.widl_overload.specs.Sets.{AreNumbered};
 
-use crate::overload_rules::spots_of_overloads;
+use crate::overload_rules::violations_of_overloads;
 use crate::{
-    OverloadSet, OverloadSpots, distinguishable, distinguishing_index, effective_set, inherits,
-    overloads,
+    OverloadSet, OverloadViolations, distinguishable, distinguishing_index, effective_set,
+    inherits, overloads,
 };
 use std::alloc::{AllocError, Global};
 use std::mem;
@@ -15,7 +15,7 @@ use std::test::Fail;
 use widl_idl::{
     Arg, Args, Attrs, Callbacks, Callee, Choices, Constants, Defs, Dicts, IdlType, IdlTypes, Iface,
     Ifaces, IntKind, Mode, OpName, OpNames, Optionality, Owner, Part, Sig, Sigs, Slots, Space,
-    Spaces, Spot, Stringify, TextKind, same_type,
+    Spaces, Stringify, TextKind, Violation, same_type,
 };
 use widl_text::{Place, Units};
 
@@ -116,7 +116,7 @@ fn without_parts(row: usize) -> IdlType {
     }
 }
 
-/// Which kinds can be told apart, a row for each.
+/// Which kinds are distinguishable, a row for each.
 const TABLE: [&str; 17] = [
     "01111111110001001",
     "10111111111111001",
@@ -511,14 +511,18 @@ fn two(alloc: Global, first: IdlType, last: IdlType, opt: Optionality) -> Result
     Ok(args)
 }
 
-fn spots_of(alloc: Global, rt: &impl Abort, sigs: &Sigs) -> Result<OverloadSpots, AllocError> {
+fn violations_of(
+    alloc: Global,
+    rt: &impl Abort,
+    sigs: &Sigs,
+) -> Result<OverloadViolations, AllocError> {
     assert!(rt; are_numbered(sigs.as_slice()));
     let defs = list_of(alloc, Ifaces::new(alloc), Spaces::new(alloc));
-    spots_of_overloads(alloc, &defs, sigs.as_slice())
+    violations_of_overloads(alloc, &defs, sigs.as_slice())
 }
 
-fn spot(at: u32, other: u32) -> Option<Spot> {
-    Some(Spot {
+fn violation(at: u32, other: u32) -> Option<Violation> {
+    Some(Violation {
         at: Place { file: 0, at },
         other: Some(Place { file: 0, at: other }),
     })
@@ -530,20 +534,20 @@ fn overloads_that_break_no_rule(rt: HostRuntime) -> Result<(), Fail> {
     let mut sigs = Sigs::new(alloc);
     let required = Optionality::Required;
     sigs.push(overload_at(10, two(alloc, long(), text(), required)?))?;
-    let spots = spots_of(alloc, &rt, &sigs)?;
+    let violations = violations_of(alloc, &rt, &sigs)?;
     assert_eq!(rt;
-        spots,
-        OverloadSpots {
-            alike: None,
+        violations,
+        OverloadViolations {
+            indistinguishable: None,
             early: None
         }
     );
     sigs.push(overload_at(20, two(alloc, long(), long(), required)?))?;
-    let spots = spots_of(alloc, &rt, &sigs)?;
+    let violations = violations_of(alloc, &rt, &sigs)?;
     assert_eq!(rt;
-        spots,
-        OverloadSpots {
-            alike: None,
+        violations,
+        OverloadViolations {
+            indistinguishable: None,
             early: None
         }
     );
@@ -560,11 +564,11 @@ fn overloads_that_cannot_be_told_apart(rt: HostRuntime) -> Result<(), Fail> {
     sigs.push(overload_at(10, two(alloc, long(), text(), optional)?))?;
     sigs.push(overload_at(20, Args::new(alloc)))?;
     sigs.push(overload_at(30, two(alloc, long(), text(), Optionality::Required)?))?;
-    let spots = spots_of(alloc, &rt, &sigs)?;
+    let violations = violations_of(alloc, &rt, &sigs)?;
     assert_eq!(rt;
-        spots,
-        OverloadSpots {
-            alike: spot(30, 10),
+        violations,
+        OverloadViolations {
+            indistinguishable: violation(30, 10),
             early: None
         }
     );
@@ -579,12 +583,12 @@ fn overloads_that_differ_too_early(rt: HostRuntime) -> Result<(), Fail> {
     let required = Optionality::Required;
     sigs.push(overload_at(10, two(alloc, text(), long(), required)?))?;
     sigs.push(overload_at(20, two(alloc, byte_text(), text(), required)?))?;
-    let spots = spots_of(alloc, &rt, &sigs)?;
+    let violations = violations_of(alloc, &rt, &sigs)?;
     assert_eq!(rt;
-        spots,
-        OverloadSpots {
-            alike: None,
-            early: spot(20, 10)
+        violations,
+        OverloadViolations {
+            indistinguishable: None,
+            early: violation(20, 10)
         }
     );
     Ok(())

@@ -7,77 +7,77 @@ ghost use Rattle.widl_overload.specs.Validity.{validity_number};
 /// tells.
 #[derive(Clone, Copy, Debug, PartialEq, Eq)]
 pub enum ValidityRule {
-    /// An enumeration has a value twice.
+    /// Rule 12: An enumeration has a value twice.
     RepeatedEnumerationValue,
-    /// Two arguments of a list share a name.
+    /// Rule 13: Two arguments of a list share a name.
     RepeatedArgumentName,
-    /// An argument follows one with an ellipsis.
-    ArgumentBehindEllipsis,
-    /// A required argument follows an optional one.
-    RequiredBehindOptional,
-    /// A default value doesn't fit its type.
+    /// Rule 14: An argument follows one with an ellipsis.
+    ArgumentAfterEllipsis,
+    /// Rule 15: A required argument follows an optional one.
+    RequiredAfterOptional,
+    /// Rule 16: A default value doesn't fit its type.
     OtherDefault,
-    /// The type of a constant is neither boolean nor an integer type.
+    /// Rule 17: The type of a constant is neither boolean nor an integer type.
     OtherConstantType,
-    /// The value of a constant is not of its type.
+    /// Rule 18: The value of a constant is not of its type.
     OtherConstantValue,
-    /// The type of an attribute is a sequence, a dictionary or a record, or a union with one.
+    /// Rule 19: The type of an attribute is a sequence, a dictionary or a record, or a union with one.
     CopiedAttribute,
-    /// A dictionary has a member name twice, inherited ones included.
+    /// Rule 20: A dictionary has a member name twice, inherited ones included.
     RepeatedDictionaryMember,
-    /// A type may not stand before its `?`.
+    /// Rule 21: A type may not stand before its `?`.
     WronglyNullable,
-    /// Several member types of a union are nullable.
+    /// Rule 22: Several member types of a union are nullable.
     SeveralNullableMembers,
-    /// A union includes a nullable type and has a dictionary.
+    /// Rule 23: A union includes a nullable type and has a dictionary.
     NullableBesideDictionary,
-    /// Two flattened member types of a union can't be told apart.
-    AlikeUnionMembers,
-    /// A member type of a union is annotated.
+    /// Rule 24: Two flattened member types of a union aren't distinguishable.
+    IndistinguishableUnionMembers,
+    /// Rule 25: A member type of a union is annotated.
     AnnotatedUnionMember,
-    /// An argument that takes a dictionary without required members has no default value.
+    /// Rule 26: An argument that takes a dictionary without required members has no default value.
     NoEmptyDefault,
-    /// The type of an argument or of a dictionary member is a nullable dictionary.
+    /// Rule 27: The type of an argument or of a dictionary member is a nullable dictionary.
     NullableDictionary,
-    /// An annotation doesn't apply to its type.
+    /// Rule 28: An annotation doesn't apply to its type.
     MisplacedAnnotation,
-    /// A type has `[Clamp]` and `[EnforceRange]`.
+    /// Rule 29: A type has `[Clamp]` and `[EnforceRange]`.
     ClampAndEnforceRange,
-    /// An annotation stands before what is no type.
+    /// Rule 30: An annotation stands before what is no type.
     AnnotationOfNoType,
-    /// An interface has two iterables, inherited ones included.
+    /// Rule 31: An interface has two iterables, inherited ones included.
     SecondIterable,
-    /// An interface with an iterable has or inherits a member named as one of its methods.
+    /// Rule 32: An interface with an iterable has or inherits a member named as one of its methods.
     HiddenIterationMethod,
-    /// A callback interface hasn't exactly one operation.
+    /// Rule 33: A callback interface hasn't exactly one operation.
     CallbackInterfaceOperations,
-    /// A stringifier attribute is neither a DOMString nor a USVString, or a stringifier is the second.
+    /// Rule 34: A stringifier attribute is neither a DOMString nor a USVString, or a stringifier is the second.
     Stringifiers,
-    /// Overloads can't be told apart.
-    AlikeOverloads,
-    /// Overloads differ before the argument by which they are told apart.
+    /// Rule 35: Overloads aren't distinguishable.
+    IndistinguishableOverloads,
+    /// Rule 36: Overloads differ before the argument by which they are distinguished.
     EarlyDifference,
-    /// An attribute of promise type isn't read only.
+    /// Rule 37: An attribute of promise type isn't read only.
     WritablePromise,
-    /// Some overloads of a name return a promise, and some don't.
+    /// Rule 38: Some overloads of a name return a promise, and some don't.
     PromisesAndOthers,
-    /// An operation has no name.
+    /// Rule 39: An operation has no name.
     NamelessOperation,
-    /// `undefined` stands inside a type, or where no value is returned.
+    /// Rule 40: `undefined` stands inside a type, or where no value is returned.
     UndefinedInside,
-    /// A dictionary stands in the type of a member of its own.
+    /// Rule 41: A dictionary stands in the type of a member of its own.
     DictionaryHoldsItself,
-    /// Two members share a name, and not both are operations.
+    /// Rule 42: Two members share a name, and not both are operations.
     RepeatedMember,
-    /// A static member or a constant has a name that the interface object keeps.
+    /// Rule 43: A static member or a constant has a name that the interface object keeps.
     KeptName,
-    /// A name has more than 64 overloads, or there are more than 64 constructors.
+    /// Rule 44: A name has more than 64 overloads, or there are more than 64 constructors.
     TooManyOverloads,
-    /// A list has more than 64 arguments.
+    /// Rule 45: A list has more than 64 arguments.
     TooManyArguments,
-    /// The operation of a callback interface has no name, or an ellipsis before its last argument.
+    /// Rule 46: The operation of a callback interface has no name, or an ellipsis before its last argument.
     MisformedCallbackOperation,
-    /// A chain of more than 256 dictionaries begins with this one.
+    /// Rule 47: A chain of more than 256 dictionaries begins with this one.
     LongDictionaryChain,
 }
 
@@ -89,8 +89,8 @@ impl ValidityRule {
         match self {
             ValidityRule::RepeatedEnumerationValue => 12,
             ValidityRule::RepeatedArgumentName => 13,
-            ValidityRule::ArgumentBehindEllipsis => 14,
-            ValidityRule::RequiredBehindOptional => 15,
+            ValidityRule::ArgumentAfterEllipsis => 14,
+            ValidityRule::RequiredAfterOptional => 15,
             ValidityRule::OtherDefault => 16,
             ValidityRule::OtherConstantType => 17,
             ValidityRule::OtherConstantValue => 18,
@@ -99,7 +99,7 @@ impl ValidityRule {
             ValidityRule::WronglyNullable => 21,
             ValidityRule::SeveralNullableMembers => 22,
             ValidityRule::NullableBesideDictionary => 23,
-            ValidityRule::AlikeUnionMembers => 24,
+            ValidityRule::IndistinguishableUnionMembers => 24,
             ValidityRule::AnnotatedUnionMember => 25,
             ValidityRule::NoEmptyDefault => 26,
             ValidityRule::NullableDictionary => 27,
@@ -110,7 +110,7 @@ impl ValidityRule {
             ValidityRule::HiddenIterationMethod => 32,
             ValidityRule::CallbackInterfaceOperations => 33,
             ValidityRule::Stringifiers => 34,
-            ValidityRule::AlikeOverloads => 35,
+            ValidityRule::IndistinguishableOverloads => 35,
             ValidityRule::EarlyDifference => 36,
             ValidityRule::WritablePromise => 37,
             ValidityRule::PromisesAndOthers => 38,

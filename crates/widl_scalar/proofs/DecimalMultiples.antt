@@ -39,7 +39,7 @@ between k whole e n full s = by (cases_lt s.e e) full
     by (inr more) some = coarse (s.e - e) (omega (arith, more))
 
 -- fewer digits are at most as many
-wider : (k n w : ℕ) → k ≤ n → Digits k w → Digits n w
+pub wider : (k n w : ℕ) → k ≤ n → Digits k w → Digits n w
 wider k n w more d = record { m = d.m; e = d.e; small = (let up : 10 ^ k ≤ 10 ^ n = pow-le-pow_right (omega arith) more in let s = d.small in omega (arith, up, s)); is = d.is }
 
 module _ (x n step whole rest : ℕ) (short : Short x) (s : Tens x n step) (split : x ≡ whole * step + rest) (below : rest < step) where
@@ -230,7 +230,7 @@ pub record Digit (x limit : ℕ) : Type 0 where
   pub none : NoneOf x n
 
 -- no text has no digits
-pub digit_first : (x : ℕ) → 0 < x → Digit x 10
+unfoldable pub digit_first : (x : ℕ) → 0 < x → Digit x 10
 digit_first x some = record { n = 0; is = refl; few = omega arith; ten = omega arith; most = omega arith; none = none }
   where
     none : NoneOf x 0
@@ -243,14 +243,14 @@ digit_first x some = record { n = 0; is = refl; few = omega arith; ten = omega a
         omega (arith, same, some)
 
 -- twenty digits are enough
-digit_more : (x limit : ℕ) → Short x → x < 10 ^ 20 → (d : Digit x limit) → NoneOf x (suc d.n) → suc d.n < 20
+pub digit_more : (x limit : ℕ) → Short x → x < 10 ^ 20 → (d : Digit x limit) → NoneOf x (suc d.n) → suc d.n < 20
 digit_more x limit short small d none = by (cases_lt (suc d.n) 20)
   where
     by : (suc d.n < 20) ⊎ (20 ≤ suc d.n) → suc d.n < 20
     by (inl less) = less
     by (inr more) = absurd (none 20 x more (record { m = x; e = 0; small = small; is = omega arith }) (near_self x short))
 
-pub digit_next : (x limit : ℕ) → Short x → x < 10 ^ 20 → (d : Digit x limit) → NoneOf x (suc d.n) → Digit x (limit * 10)
+unfoldable pub digit_next : (x limit : ℕ) → Short x → x < 10 ^ 20 → (d : Digit x limit) → NoneOf x (suc d.n) → Digit x (limit * 10)
 digit_next x limit short small d none =
     let few = digit_more x limit short small d none in
     let is : limit * 10 ≡ 10 ^ suc (suc d.n) = ap (λ l. l * 10) d.is ∙ sym (pow-suc 10 (suc d.n)) in

@@ -72,7 +72,7 @@ sign_found (u ∷ us) rest negative cut = by (cases_eq u 45) (cases_eq u 43)
     by (inr not) (inl is) = let p = cut.plus is in (43 ∷ [], subst (λ b. IsSign b (43 ∷ [])) (sym p.0) (inr refl), ap (λ x. x ∷ us) is ∙ ap (λ r. 43 ∷ r) (sym p.1))
     by (inr not) (inr nor) = let n = cut.none not nor in ([], subst (λ b. IsSign b []) (sym n.0) (inl refl), sym n.1)
 
-no_sign : (digits : List ℕ) → 0 < length digits → AllDigits 10 digits → (get_or digits 0 0 ≢ 43) × (get_or digits 0 0 ≢ 45)
+pub no_sign : (digits : List ℕ) → 0 < length digits → AllDigits 10 digits → (get_or digits 0 0 ≢ 43) × (get_or digits 0 0 ≢ 45)
 no_sign digits some are = let range = digit_at digits 0 are some in let low = range.0 in ((λ e. omega (arith, e, low)), (λ e. omega (arith, e, low)))
 
 module _ (text digits front back : List ℕ) (negative : Bool) (sign_cut : IsSignCut (drop 1 text) negative digits) (cut : IsDigitCut digits front back) where

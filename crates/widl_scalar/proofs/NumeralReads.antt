@@ -85,18 +85,18 @@ module _ (text w r f t : List ℕ) (cut : IsDigitCut text w r) (part : IsFractio
           (none.1 ∙ sym that.1, sym alone ∙ other)
 
   -- no numeral stands there without a digit, or with another end than an exponent
+  pub unsigned_none : length w ≡ 0 → length f ≡ 0 → (digits : List ℕ) (up down : ℕ) → IsUnsigned text digits up down → ⊥
+  unsigned_none no_whole no_fraction digits up down u =
+      let same = same_parts digits up down u in
+      let long : length digits ≡ length w + length f = ap length u.all ∙ length-append u.whole u.fraction ∙ ap (λ x. length x + length u.fraction) same.0 ∙ ap (λ x. length w + length x) same.1 in
+      let some = u.some in
+      omega (arith, long, some, no_whole, no_fraction)
+
   pub unsigned_empty : (negative : Bool) → length w ≡ 0 → length f ≡ 0 → ReadsUnsigned negative text (reads.Number numbers.NaN)
   unsigned_empty negative no_whole no_fraction = record {
-    some = λ digits up down u. absurd (none digits up down u);
+    some = λ digits up down u. absurd (unsigned_none no_whole no_fraction digits up down u);
     none = λ h. refl;
   }
-    where
-      none : (digits : List ℕ) (up down : ℕ) → IsUnsigned text digits up down → ⊥
-      none digits up down u =
-          let same = same_parts digits up down u in
-          let long : length digits ≡ length w + length f = ap length u.all ∙ length-append u.whole u.fraction ∙ ap (λ x. length x + length u.fraction) same.0 ∙ ap (λ x. length w + length x) same.1 in
-          let some = u.some in
-          omega (arith, long, some, no_whole, no_fraction)
 
   pub unsigned_no_end : (negative : Bool) → ((up over : ℕ) → IsTail t up over → ⊥) → ReadsUnsigned negative text (reads.Number numbers.NaN)
   unsigned_no_end negative none = record {
@@ -104,21 +104,9 @@ module _ (text w r f t : List ℕ) (cut : IsDigitCut text w r) (part : IsFractio
     none = λ h. refl;
   }
 
-  pub unsigned_reads : (negative : Bool) (read : Read) → (0 < length w) ⊎ (0 < length f)
-      → ((up over : ℕ) → IsTail t up over → Answers negative (digits_value 10 (w ++ f)) up (length f + over) read)
-      → ((up : ℕ) × (over : ℕ) × IsTail t up over) → ReadsUnsigned negative text read
-  unsigned_reads negative read some answer found = record {
-    some = λ digits up down u. told digits up down u;
-    none = λ h. absurd (h (w ++ f) found.0 (length f + found.1) there);
-  }
+  pub unsigned_there : (0 < length w) ⊎ (0 < length f) → (up over : ℕ) → IsTail t up over → IsUnsigned text (w ++ f) up (length f + over)
+  unsigned_there some up over tail = there
     where
-      told : (digits : List ℕ) (up down : ℕ) → IsUnsigned text digits up down → Answers negative (digits_value 10 digits) up down read
-      told digits up down u =
-          let same = same_parts digits up down u in
-          let all : w ++ f ≡ digits = sym (u.all ∙ ap (λ x. x ++ u.fraction) same.0 ∙ ap (λ x. w ++ x) same.1) in
-          let under : length f + u.over ≡ down = sym (u.under ∙ ap (λ x. length x + u.over) same.1) in
-          subst (λ d. Answers negative (digits_value 10 digits) up d read) under (subst (λ ds. Answers negative (digits_value 10 ds) up (length f + u.over) read) all (answer up u.over (subst (λ x. IsTail x up u.over) same.2 u.is_tail)))
-
       more : (0 < length w) ⊎ (0 < length f) → 0 < length (w ++ f)
       more (inl long) = omega (arith, length-append w f, long)
       more (inr long) = omega (arith, length-append w f, long)
@@ -127,7 +115,7 @@ module _ (text w r f t : List ℕ) (cut : IsDigitCut text w r) (part : IsFractio
       point_of (inl is) = inl is
       point_of (inr none) = inr (none.0, none.1)
 
-      there : IsUnsigned text (w ++ f) found.0 (length f + found.1)
+      there : IsUnsigned text (w ++ f) up (length f + over)
       there = record {
         whole = w;
         fraction = f;
@@ -138,8 +126,23 @@ module _ (text w r f t : List ℕ) (cut : IsDigitCut text w r) (part : IsFractio
         point = part.point;
         is_point = point_of part.is_point;
         tail = t;
-        over = found.1;
-        is_tail = found.2;
+        over = over;
+        is_tail = tail;
         is = cut.is ∙ ap (λ x. w ++ x) part.is;
         under = refl;
       }
+
+  pub unsigned_reads : (negative : Bool) (read : Read) → (0 < length w) ⊎ (0 < length f)
+      → ((up over : ℕ) → IsTail t up over → Answers negative (digits_value 10 (w ++ f)) up (length f + over) read)
+      → ((up : ℕ) × (over : ℕ) × IsTail t up over) → ReadsUnsigned negative text read
+  unsigned_reads negative read some answer found = record {
+    some = λ digits up down u. told digits up down u;
+    none = λ h. absurd (h (w ++ f) found.0 (length f + found.1) (unsigned_there some found.0 found.1 found.2));
+  }
+    where
+      told : (digits : List ℕ) (up down : ℕ) → IsUnsigned text digits up down → Answers negative (digits_value 10 digits) up down read
+      told digits up down u =
+          let same = same_parts digits up down u in
+          let all : w ++ f ≡ digits = sym (u.all ∙ ap (λ x. x ++ u.fraction) same.0 ∙ ap (λ x. w ++ x) same.1) in
+          let under : length f + u.over ≡ down = sym (u.under ∙ ap (λ x. length x + u.over) same.1) in
+          subst (λ d. Answers negative (digits_value 10 digits) up d read) under (subst (λ ds. Answers negative (digits_value 10 ds) up (length f + u.over) read) all (answer up u.over (subst (λ x. IsTail x up u.over) same.2 u.is_tail)))

@@ -4,7 +4,7 @@ use Rattle.std.specs.Prelude.{◌≡◌, ◌≢◌, ℕ, ◌+◌, ◌^◌, ◌<�
 use Rattle.std.specs.Str.Parse.{AllDigits, digits_value}
 use Rattle.widl_value.specs.declared.number.Number as the
 use Rattle.widl_value.specs.declared.number.Number.TheVariants as numbers
-use Rattle.widl_value.specs.Near.{Nearest}
+use Rattle.widl_value.specs.Near.{IsNumber, Nearest}
 use Rattle.widl_scalar.specs.declared.numerals.Read.{Read}
 use Rattle.widl_scalar.specs.declared.numerals.Read.TheVariants as reads
 use Rattle.widl_scalar.specs.DecimalScales.{IsScaled}
@@ -85,6 +85,11 @@ IsWholeAnswer negative n up down number = (v : ℕ) × IsScaled n up down v × (
 abbrev pub Answers : Bool → ℕ → ℕ → ℕ → Read → Type 0
 Answers negative n up down (reads.Number number) = IsWholeAnswer negative n up down number
 Answers negative n up down reads.OutOfProfile = (v : ℕ) → IsScaled n up down v → 2 ^ 64 < v
+
+-- a number that is read is a Number
+abbrev pub IsReadNumber : Read → Type 0
+IsReadNumber (reads.Number number) = IsNumber number
+IsReadNumber reads.OutOfProfile = Unit {0}
 
 -- what is read of a text without white space around it
 pub record Reads (text : List ℕ) (read : Read) : Type 0 where

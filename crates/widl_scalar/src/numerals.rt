@@ -4,7 +4,8 @@ ghost use Rattle.std.specs.Prelude.{◌≡◌, ℕ, ◌+◌, ◌^◌, ◌<◌, �
 ghost use Rattle.std.specs.Option.{ForSome};
 ghost use Rattle.std.specs.Str.Parse.{AllDigits, digits_value};
 ghost use Rattle.widl_scalar.specs.DecimalScales.{Scales};
-ghost use Rattle.widl_scalar.specs.Numerals.{Answers, Reads, base_of};
+ghost use Rattle.widl_scalar.specs.Numerals.{Answers, IsReadNumber, Reads, base_of};
+ghost use Rattle.widl_scalar.specs.NumeralWords.{read_of};
 ghost use Rattle.widl_scalar.specs.WhiteSpace.{trimmed};
 ghost use Rattle.widl_scalar.specs.RadixTexts.{IsPrefixCut, ReadsRadix, ReadsUnsigned};
 
@@ -32,16 +33,37 @@ pub enum Read {
 ///
 /// None comes.
 pub fn number_of(alloc: Global, text: &Units) -> Result<Read, AllocError>
-    ensures { IsOkAnd result (Reads (trimmed text.now)) }
+    ensures reads { IsOkAnd result (Reads (trimmed text.now)) }
+    ensures value { result ≡ Ok (read_of (trimmed text.now)) }
+    ensures number { IsOkAnd result IsReadNumber }
 {
     let _ = alloc;
-    Ok(read_trimmed(trimmed(text.as_slice())))
+    Ok(read_text(text))
+}
+
+/// The same.
+pub(crate) fn read_text(text: &Units) -> Read
+    ensures reads { Reads (trimmed text.now) result }
+    ensures value { result ≡ read_of (trimmed text.now) }
+    ensures number { IsReadNumber result }
+{
+    read_trimmed(trimmed(text.as_slice()))
+}
+
+/// That what is computed of a text is what is read of it, and a Number: a law.
+pub fn read_of_reads(text: &[u16])
+    ensures reads { Reads text.now (read_of text.now) }
+    ensures number { IsReadNumber (read_of text.now) }
+{
+    let _read = read_trimmed(text);
 }
 
 const INFINITY: [u16; 8] = [73, 110, 102, 105, 110, 105, 116, 121];
 
 fn read_trimmed(text: &[u16]) -> Read
-    ensures { Reads text.now result }
+    ensures reads { Reads text.now result }
+    ensures value { result ≡ read_of text.now }
+    ensures number { IsReadNumber result }
 {
     if text.is_empty() {
         return Read::Number(Number::Whole(0));
@@ -89,7 +111,8 @@ fn base_of(letter: u16) -> Option<u16>
 /// The Number of these digits of a base.
 fn radix_number(base: u16, digits: &[u16]) -> Read
     requires { base ≤ 16 }
-    ensures { ReadsRadix base digits.now result }
+    ensures reads { ReadsRadix base digits.now result }
+    ensures number { IsReadNumber result }
 {
     if digits.is_empty() {
         return Read::Number(Number::NaN);
@@ -127,7 +150,8 @@ fn number_in(base: u16, digits: &[u16]) -> Option<u128>
 
 /// The Number of a decimal numeral without a sign, with this one.
 fn decimal_number(negative: bool, text: &[u16]) -> Read
-    ensures { ReadsUnsigned negative text.now result }
+    ensures reads { ReadsUnsigned negative text.now result }
+    ensures number { IsReadNumber result }
 {
     let (whole, rest) = split_digits(text);
     let (fraction, tail) = split_fraction(rest);
@@ -143,7 +167,8 @@ fn decimal_number(negative: bool, text: &[u16]) -> Read
 /// The Number nearest to a whole value, where there is one.
 fn finite(negative: bool, value: Option<u128>) -> Read
     requires { ForSome value (λ v. v ≤ 2 ^ 64) }
-    ensures { (n up down : ℕ) → Scales n up down value → Answers negative n up down result }
+    ensures answers { (n up down : ℕ) → Scales n up down value → Answers negative n up down result }
+    ensures number { IsReadNumber result }
 {
     match value {
         None => Read::OutOfProfile,
@@ -178,6 +203,7 @@ mod tests {
             ("+7", 7),
             ("-12.50e1", -125),
             ("0e999", 0),
+            ("0e99999999999999999999", 0),
             ("0.00e-99999999999999999999999999999999999999", 0),
             ("9007199254740993", 9_007_199_254_740_992),
             ("0x20000000000003", 9_007_199_254_740_996),
@@ -325,20 +351,36 @@ mod tests {
 
     #[test]
     fn reads_long_texts(rt: HostRuntime) -> Result<(), AllocError> {
-        let mut text = Units::new(rt.alloc());
-        for _ in 0..100_000 {
+        let rows = [
+            (" ", "", Read::Number(Number::Whole(0))),
+            ("0", ".5e1", Read::Number(Number::Whole(5))),
+            ("7", "", Read::OutOfProfile),
+            ("7", "x", Read::Number(Number::NaN)),
+            ("0", "1", Read::Number(Number::Whole(1))),
+        ];
+        for (front, end, want) in rows {
+            let mut text = Units::of_str(rt.alloc(), "")?;
+            for unit in front.bytes() {
+                for _ in 0..500_000 {
+                    text.push(u16::from(unit))?;
+                }
+            }
+            for unit in end.bytes() {
+                text.push(u16::from(unit))?;
+            }
+            assert_eq!(rt; number_of(rt.alloc(), &text)?, want, "{front} {end}");
+        }
+        Ok(())
+    }
+
+    #[test]
+    fn takes_the_zeros_of_a_long_text_back(rt: HostRuntime) -> Result<(), AllocError> {
+        let mut text = Units::of_str(rt.alloc(), "1")?;
+        for _ in 0..500_000 {
             text.push(48)?;
         }
-        text.push(49)?;
-        assert_eq!(rt;
-            number_of(rt.alloc(), &text)?,
-            Read::Number(Number::Whole(1))
-        );
-        for _ in 0..100_000 {
-            text.push(48)?;
-        }
-        for unit in [101, 45, 57, 57, 57, 57, 57] {
-            text.push(unit)?;
+        for unit in "e-499999".bytes() {
+            text.push(u16::from(unit))?;
         }
         assert_eq!(rt;
             number_of(rt.alloc(), &text)?,

@@ -2,7 +2,7 @@
 
 ghost use Rattle.std.specs.Prelude.{◌≡◌, ℕ, suc, ◌+◌, ◌*◌, ◌^◌, ◌<◌, ◌≤◌, true, false, Some, None};
 ghost use Rattle.widl_value.specs.Near.{Near, Short};
-ghost use Rattle.widl_scalar.specs.ShortestDigits.{Shortest};
+ghost use Rattle.widl_scalar.specs.ShortestDigits.{Shortest, multiple_at, rounds_to, shortest_of};
 ghost use Rattle.widl_scalar.specs.DecimalSteps.{Tens, NoneOf};
 
 use widl_value::{near, rounds_up};
@@ -13,7 +13,8 @@ pub(crate) fn shortest(x: u128) -> u128
     requires short { Short x }
     requires some { 0 < x }
     requires limit { x < 10 ^ 20 }
-    ensures { Shortest x result }
+    ensures shortest { Shortest x result }
+    ensures value { result ≡ shortest_of x }
 {
     let mut limit = 10;
     loop {
@@ -32,6 +33,7 @@ fn round_at(x: u128, step: u128) -> Option<u128>
     requires most { step ≤ 10 ^ 20 }
     ensures found { (w : ℕ) → result ≡ Some w → (n : ℕ) → Tens x n step → NoneOf x n → Shortest x w }
     ensures none { result ≡ None → (n : ℕ) → Tens x n step → NoneOf x (suc n) }
+    ensures value { result ≡ multiple_at step x }
 {
     let whole = x / step;
     let rest = x % step;
@@ -59,6 +61,7 @@ fn rounds_to(v: u128, x: u128) -> bool
     requires { v < 2 ^ 120 }
     ensures yes { result ≡ true → Near v x }
     ensures no { result ≡ false → Near v x → ⊥ }
+    ensures value { result ≡ rounds_to v x }
 {
     near(v) == x
 }

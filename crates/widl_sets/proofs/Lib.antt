@@ -2,8 +2,6 @@ pub mod Joined
 pub mod Firsts
 pub mod Tuples
 pub mod Stepped
-pub mod Heirs
-pub mod Giving
 pub mod PlainTuples
 pub mod SameIndex
 pub mod OneListing

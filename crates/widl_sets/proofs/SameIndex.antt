@@ -12,7 +12,7 @@ use Rattle.widl_overload.specs.Distinct.{are_apart, are_unrelated, category, dis
 use Rattle.widl_overload.specs.Index.{apart_at, each_two, of_one_length, types_apart}
 use Rattle.widl_overload.specs.Inheritance.{inherits, is_among, parent_of}
 use Rattle.widl_overload.specs.Sets.{TupleTerm}
-use Rattle.widl_sets.specs.Ids.{first_from, parent_at, parents_of}
+use Rattle.widl_spell.specs.Ids.{first_from, parent_at, parents_of}
 use Rattle.widl_sets.specs.Lines.{index_of}
 
 parent_is : (ifaces : List Iface) (n : ℕ) → parent_of ifaces n ≡ parent_at (parents_of ifaces) n

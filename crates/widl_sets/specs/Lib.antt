@@ -1,6 +1,2 @@
-pub mod Names
-pub mod TypeTexts
-pub mod Ids
-pub mod Ready
 pub mod Lines
 pub mod Listing

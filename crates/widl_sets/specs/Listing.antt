@@ -7,9 +7,9 @@ use Rattle.widl_idl.specs.declared.namespace.Space.{Space}
 use Rattle.widl_idl.specs.declared.operation.OpName.{OpName}
 use Rattle.widl_idl.specs.declared.signature.Sig.{Sig}
 use Rattle.widl_overload.specs.Sets.{effective_tuples}
-use Rattle.widl_sets.specs.Ids.{id_order, parents_of}
+use Rattle.widl_spell.specs.Ids.{id_order, parents_of}
 use Rattle.widl_sets.specs.Lines.{lines_of_set}
-use Rattle.widl_sets.specs.Names.{bare_name}
+use Rattle.widl_spell.specs.Names.{bare_name}
 
 abbrev pub static_text : Bool → List ℕ
 static_text true = codes "static "

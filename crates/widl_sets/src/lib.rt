@@ -1,20 +1,14 @@
 //! The lines that list what can be called: the effective overload set of each operation name and of the
 //! constructors of each interface, a line a tuple, and the distinguishing argument index of each length
-//! that several tuples have. It stands on the merged list of `widl_idl` and on the sets of
-//! `widl_overload`, and its definitions on the list of the words of the grammar in `widl_lex`. The contract
-//! that is used above: [`set_lines`] answers exactly these lines, the interfaces in the order of their ids.
+//! that several tuples have. It stands on the merged list of `widl_idl`, the sets of `widl_overload` and
+//! the texts of `widl_spell`. The contract that is used above: [`set_lines`] answers exactly these lines, the interfaces in the order of their ids.
 #![tactic(auto)]
 
-mod ids;
 mod laws;
 mod lines;
 mod listing;
-mod names;
-mod ready;
 #[cfg(test)]
 mod tests;
-mod type_texts;
-mod words;
 
 pub use laws::one_term_has_one_listing;
 pub use listing::set_lines;

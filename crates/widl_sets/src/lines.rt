@@ -5,17 +5,16 @@ ghost use Rattle.std.specs.Option.{option_copied, option_map};
 ghost use Rattle.widl_idl.specs.DefinitionTerms.{defs_term};
 ghost use Rattle.widl_idl.specs.Terms.{type_term};
 ghost use Rattle.widl_overload.specs.Sets.{tuple_term, tuples_in};
-ghost use Rattle.widl_sets.specs.Lines.{IsTuple, argument_text, argument_texts, behind, front, index_line, index_of, is_last_of_length, line_of_index, lines_of_set, optionality_text, tuple_line};
-ghost use Rattle.widl_sets.specs.Names.{separated};
+ghost use Rattle.widl_sets.specs.Lines.{IsTuple, argument_text, argument_texts, after, front, index_line, index_of, is_last_of_length, line_of_index, lines_of_set, optionality_text, tuple_line};
+ghost use Rattle.widl_spell.specs.Names.{separated};
 
-use crate::names::sign_before;
-use crate::type_texts::push_type;
 use itoa::Buffer;
 use std::alloc::{AllocError, Global};
 use widl_idl::{Defs, IdlType, Optionality};
 use widl_overload::{OverloadSet, Tuple, distinguishing_index};
+use widl_spell::{push_type, sign_before};
 
-/// Adds the lines of a set: one for each tuple, and behind the last tuple of each length one for the
+/// Adds the lines of a set: one for each tuple, and after the last tuple of each length one for the
 /// distinguishing argument index, if there is one.
 #[tactic(auto, unfolding(crate::specs::Lines::lines_of_set))]
 pub fn push_set(
@@ -31,12 +30,12 @@ pub fn push_set(
     for place in 0..set.len() {
         let tuple = set.at(place);
         push_tuple(alloc, text, defs, callee, tuple)?;
-        push_behind(text, defs, callee, set, tuple, next_tuple(set, place))?;
+        push_after(text, defs, callee, set, tuple, next_tuple(set, place))?;
     }
     Ok(())
 }
 
-/// The tuple behind that at a place.
+/// The tuple after that at a place.
 fn next_tuple(set: &OverloadSet, place: usize) -> Option<&Tuple>
     requires { place < length (tuples_in set.now) }
     ensures { option_map tuple_term (option_copied result) ≡ slice_get (tuples_in set.now) (place + 1) }
@@ -130,8 +129,8 @@ fn optionality_text(opt: Optionality) -> &'static [u8]
     }
 }
 
-/// Adds what stands behind the line of a tuple: behind the last of its length the line of the index.
-fn push_behind(
+/// Adds what stands after the line of a tuple: after the last of its length the line of the index.
+fn push_after(
     text: &mut Vec<u8>,
     defs: &Defs,
     callee: &[u8],
@@ -140,7 +139,7 @@ fn push_behind(
     next: Option<&Tuple>,
 ) -> Result<(), AllocError>
     requires { IsTuple (tuple_term tuple.now) }
-    ensures { OnOk result (text.new.items ≡ text.old.items ++ behind defs.now.ifaces callee.now (tuples_in set.now) (tuple_term tuple.now) (option_map tuple_term (option_copied next.entry))) }
+    ensures { OnOk result (text.new.items ≡ text.old.items ++ after defs.now.ifaces callee.now (tuples_in set.now) (tuple_term tuple.now) (option_map tuple_term (option_copied next.entry))) }
 {
     if is_last_of_length(tuple, next) {
         push_index(text, defs, callee, set, tuple.types.len() as u32)
@@ -149,7 +148,7 @@ fn push_behind(
     }
 }
 
-/// Whether a tuple is the last of its length, by the tuple behind it.
+/// Whether a tuple is the last of its length, by the tuple after it.
 fn is_last_of_length(tuple: &Tuple, next: Option<&Tuple>) -> bool
     ensures { result ≡ is_last_of_length (tuple_term tuple.now) (option_map tuple_term (option_copied next.entry)) }
 {

@@ -5,16 +5,15 @@ ghost use Rattle.std.specs.List.{flat_map};
 ghost use Rattle.widl_idl.specs.Counts.{IsNumberedList};
 ghost use Rattle.widl_idl.specs.declared.callee.Part.TheVariants as parts;
 ghost use Rattle.widl_overload.specs.Sets.{effective_set_of, overloads_in, overloads_named, overloads_of};
-ghost use Rattle.widl_sets.specs.Ids.{id_order, parents_of};
+ghost use Rattle.widl_spell.specs.Ids.{id_order, parents_of};
 ghost use Rattle.widl_sets.specs.Lines.{lines_of_set};
 ghost use Rattle.widl_sets.specs.Listing.{all_lines, callee_lines, constructor_text, interface_lines, lines_at, namespace_lines, operation_lines, operation_text, static_text};
 
-use crate::ids::id_order;
 use crate::lines::push_set;
-use crate::names::push_bare_name;
 use std::alloc::{AllocError, Global};
 use widl_idl::{Callee, Defs, Iface, OpName, Owner, Part, Space};
 use widl_overload::effective_set;
+use widl_spell::{id_order, push_bare_name};
 use widl_text::Units;
 
 /// The lines of all that can be called, each ended by a line feed: for each operation name and for the

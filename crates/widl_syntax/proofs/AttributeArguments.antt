@@ -1,4 +1,4 @@
--- The tokens of an extended attribute behind its name, which the machine of the grammar reads.
+-- The tokens of an extended attribute after its name, which the machine of the grammar reads.
 use Rattle.std.proofs.Common.{◌≡◌, ℕ, ◌+◌, ◌<◌, ◌≤◌, Bool, true, false, Option, None, List, [], ◌∷◌, ◌++◌, length, refl, sym, ◌∙◌, ap, subst, arith, string_bytes}
 use Rattle.std.specs.Prelude.{map}
 use Rattle.widl_idl.specs.declared.tree.extended_attributes.SourceToken.{SourceToken}
@@ -12,8 +12,8 @@ use Rattle.widl_grammar.specs.declared.terminal.Terminal.{Terminal}
 use Rattle.widl_grammar.specs.Rows.{grammar}
 use Rattle.widl_grammar.specs.Tables.{sets}
 use Rattle.widl_grammar.specs.Source.{terminal_of}
-use Rattle.widl_syntax.specs.Signs.{Sign, Spells, AreTexts, OfText, all_signs, at, ◌⧺◌}
-use Rattle.widl_syntax.specs.SpelledNames.{text_of, attribute_rest}
+use Rattle.widl_syntax.specs.Signs.{Sign, UnparsesTo, AreTexts, OfText, all_signs, at, ◌⧺◌}
+use Rattle.widl_syntax.specs.UnparsedNames.{text_of, attribute_rest}
 use Rattle.widl_syntax.specs.Reading.{Symbols, Runs, Reads, part, IfAhead, IsTaken}
 use Rattle.widl_syntax.proofs.Reading.{spells_append, took_text}
 use Rattle.widl_syntax.proofs.Words.{taken_shorter}
@@ -26,7 +26,7 @@ source_token t = at t.at ⧺ OfText (λ terminal. true) (string_bytes t.text) �
 same_rest : (l m : Lexeme) (rest u w n : List Lexeme) → w ≡ l ∷ rest → n ≡ w → n ≡ m ∷ u → (l ≡ m) × (rest ≡ u)
 same_rest l m rest u w n e f g = (cc, cc)
 
-as_texts : (ts : List SourceToken) (w v : List Lexeme) → Spells (all_signs source_token ts) w v → AreTexts (map text_of ts) w v
+as_texts : (ts : List SourceToken) (w v : List Lexeme) → UnparsesTo (all_signs source_token ts) w v → AreTexts (map text_of ts) w v
 as_texts [] w v s = s
 as_texts (t ∷ ts) w v s =
     let place = s.1 in
@@ -37,21 +37,21 @@ as_texts (t ∷ ts) w v s =
 -- they are the whole part of the rule
 as_part : (tokens : List SourceToken) (start now : List Lexeme) → Reads (part rule.ExtendedAttributeRest) (all_signs source_token tokens) start now → Reads (part rule.ExtendedAttributeRest) (attribute_rest tokens) start now
 as_part tokens start now f = record {
-  reads = λ others r. let g = f.reads others r in ((now, (as_texts tokens start now g.0, (others, r), λ behind run. (f.reads behind run).1), refl), g.1);
+  reads = λ others r. let g = f.reads others r in ((now, (as_texts tokens start now g.0, (others, r), λ after run. (f.reads after run).1), refl), g.1);
 }
 
 -- the tokens so far stand between two tokens of the file, the stack is what is still to be read from the second on, and each turn took a token
 pub record InMachine (start now : List Lexeme) (tokens : List SourceToken) (stack : Symbols) (turns : ℕ) : Type 0 where
-  pub so_far : (others : Symbols) → Runs (part rule.ExtendedAttributeRest ++ others) start → Spells (all_signs source_token tokens) start now × Runs (stack ++ others) now × (turns + length now ≤ length start)
+  pub so_far : (others : Symbols) → Runs (part rule.ExtendedAttributeRest ++ others) start → UnparsesTo (all_signs source_token tokens) start now × Runs (stack ++ others) now × (turns + length now ≤ length start)
   pub shorter : length now ≤ length start
 
 pub machine_begins : (start : List Lexeme) (tokens : List SourceToken) (stack : Symbols) → tokens ≡ [] → stack ≡ part rule.ExtendedAttributeRest → InMachine start start tokens stack 0
 machine_begins start tokens stack none is = record {
-  so_far = λ others r. (subst (λ ts. Spells (all_signs source_token ts) start start) (sym none) refl, subst (λ s. Runs (s ++ others) start) (sym is) r, omega arith);
+  so_far = λ others r. (subst (λ ts. UnparsesTo (all_signs source_token ts) start start) (sym none) refl, subst (λ s. Runs (s ++ others) start) (sym is) r, omega arith);
   shorter = omega arith;
 }
 
-taken_first : (token : SourceToken) (after others : Symbols) (now next : List Lexeme) (a : Terminal) (v : List Terminal) → map terminal_of now ≡ a ∷ v → runs.Runs grammar sets (after ++ others) v → IsTaken token.at now next → IfAhead now (λ l. string_bytes token.text ≡ l.text) → Spells (source_token token) now next × Runs (after ++ others) next
+taken_first : (token : SourceToken) (after others : Symbols) (now next : List Lexeme) (a : Terminal) (v : List Terminal) → map terminal_of now ≡ a ∷ v → runs.Runs grammar sets (after ++ others) v → IsTaken token.at now next → IfAhead now (λ l. string_bytes token.text ≡ l.text) → UnparsesTo (source_token token) now next × Runs (after ++ others) next
 taken_first token after others now next a v e r t b = (took_text a (λ terminal. true) (string_bytes token.text) refl t b).reads (after ++ others) (subst (runs.Runs grammar sets (Token a ∷ (after ++ others))) (sym e) (taken r))
 
 -- one token more
@@ -64,7 +64,7 @@ machine_goes_on {start} {now} {next} {tokens} {stack} {after} {turns} l true tok
       let one = taken_first token after others now next k.0 k.1 k.2 k.3 t b in
       let fewer : length next < length now = fewer_left (source_token token) now next refl one.0 in
       let le = g.2 in
-      (subst (λ signs. Spells signs start next) (sym (all_signs_more source_token tokens token)) (spells_append (all_signs source_token tokens) (source_token token) start now next g.0 one.0), one.1, omega arith);
+      (subst (λ signs. UnparsesTo signs start next) (sym (all_signs_more source_token tokens token)) (spells_append (all_signs source_token tokens) (source_token token) start now next g.0 one.0), one.1, omega arith);
   shorter = taken_shorter (length start) t m.shorter;
 }
 

@@ -14,7 +14,7 @@ use Rattle.widl_grammar.specs.Rows.{grammar, rows_of}
 use Rattle.widl_grammar.specs.Tables.{sets, picked}
 use Rattle.widl_grammar.specs.Terminals.{all_terminals}
 use Rattle.widl_grammar.specs.Source.{terminal_of}
-use Rattle.widl_syntax.specs.Signs.{Sign, Spells, Text, AreTexts, AtPlace, OfTerminal, OfBytes, OfText, OfPart, Nowhere, all_signs, behind, separated}
+use Rattle.widl_syntax.specs.Signs.{Sign, UnparsesTo, Text, AreTexts, AtPlace, OfTerminal, OfBytes, OfText, OfPart, Nowhere, all_signs, after, separated}
 use Rattle.widl_syntax.specs.Reading.{Symbols, Runs, Reads, Appends, part, terminal_ahead}
 use Rattle.widl_syntax.proofs.Reading.{part_first, ahead_is, that_row, rest_picks, spells_append, and_then, is_rest, is_among, is_other, is_row_or_none, pass_all, passes}
 
@@ -50,8 +50,8 @@ pub texts_left : (ts : List Text) (w v : List Lexeme) → AreTexts ts w v → le
 texts_left [] w v s = let e : length w ≡ length v = ap length s in omega arith
 texts_left (t ∷ ts) w v s = let e : length w ≡ length (s.0 ∷ s.1) = ap length s.2 in let le = texts_left ts s.1 v s.5 in omega arith
 
--- no more tokens are left behind signs than before them
-pub no_more_left : (x : List Sign) (w v : List Lexeme) → Spells x w v → length v ≤ length w
+-- no more tokens are left after signs than before them
+pub no_more_left : (x : List Sign) (w v : List Lexeme) → UnparsesTo x w v → length v ≤ length w
 no_more_left [] w v s = let e : length w ≡ length v = ap length s in omega arith
 no_more_left (AtPlace place ∷ x) w v s = let e : length s.0 ≡ length w = ap length s.1.4 in let le = no_more_left x s.0 v s.2 in omega arith
 no_more_left (OfTerminal t ∷ x) w v s = let e : length w ≡ length (s.1.0 ∷ s.0) = ap length s.1.1 in let le = no_more_left x s.0 v s.2 in omega arith
@@ -60,7 +60,7 @@ no_more_left (OfText test bytes ∷ x) w v s = let e : length w ≡ length (s.1.
 no_more_left (OfPart rule texts ∷ x) w v s = let part_le = texts_left texts w s.0 s.1.0 in let le = no_more_left x s.0 v s.2 in omega arith
 no_more_left (Nowhere ∷ x) w v s = absurd s.1
 
-pub fewer_left : (x : List Sign) (w v : List Lexeme) → has_token x ≡ true → Spells x w v → length v < length w
+pub fewer_left : (x : List Sign) (w v : List Lexeme) → has_token x ≡ true → UnparsesTo x w v → length v < length w
 fewer_left [] w v h s = cc
 fewer_left (AtPlace place ∷ x) w v h s = let e : length s.0 ≡ length w = ap length s.1.4 in let le = fewer_left x s.0 v h s.2 in omega arith
 fewer_left (OfTerminal t ∷ x) w v h s = let e : length w ≡ length (s.1.0 ∷ s.0) = ap length s.1.1 in let le = no_more_left x s.0 v s.2 in omega arith
@@ -101,8 +101,8 @@ runs_at rule t {α} others now e other c r =
 pub repeats_at : (rule : Rule) (t : Terminal) {α : List (RowSymbol Terminal Rule)} {symbols : Symbols} {now : List Lexeme} → terminal_ahead now ≡ t → is_other t ≡ false → choice grammar sets rule (Some t) ≡ Some α → plain α ≡ symbols ++ part rule → Repeats rule symbols now
 repeats_at rule t {α} {symbols} {now} e other c same = again rule α same (λ others r. runs_at rule t others now e other c r)
 
-pub repeats_behind : (rule : Rule) (ends : List Terminal) (k : ℕ) {α : List (RowSymbol Terminal Rule)} {symbols : Symbols} {now : List Lexeme} → is_rest rule ends k ≡ true → nth (rows_of rule) k ≡ Some α → plain α ≡ symbols ++ part rule → is_among ends (terminal_ahead now) ≡ false → Repeats rule symbols now
-repeats_behind rule ends k {α} {symbols} {now} test e same differ = again rule α same (λ others r.
+pub repeats_after : (rule : Rule) (ends : List Terminal) (k : ℕ) {α : List (RowSymbol Terminal Rule)} {symbols : Symbols} {now : List Lexeme} → is_rest rule ends k ≡ true → nth (rows_of rule) k ≡ Some α → plain α ≡ symbols ++ part rule → is_among ends (terminal_ahead now) ≡ false → Repeats rule symbols now
+repeats_after rule ends k {α} {symbols} {now} test e same differ = again rule α same (λ others r.
     let p = part_first r in
     subst (λ s. Runs (plain s ++ others) now) (that_row (rows_of rule) k (picked rule (ahead (map terminal_of now))) α p.0 (rest_picks rule ends k now test differ) e p.1) p.2)
 
@@ -129,7 +129,7 @@ ends_here rule (l ∷ now) e none = absurd (omega arith)
 
 -- the rule's items so far stand for the tokens between two of a file, from the second on the rule is still to be read, and each turn took a token
 pub record Goes {X : Type 0} (rule : Rule) (one : X → List Sign) (start now : List Lexeme) (items : List X) (turns : ℕ) : Type 0 where
-  pub goes : (others : Symbols) → Runs (Nonterminal rule ∷ others) start → Spells (all_signs one items) start now × Runs (Nonterminal rule ∷ others) now × (turns + length now ≤ length start)
+  pub goes : (others : Symbols) → Runs (Nonterminal rule ∷ others) start → UnparsesTo (all_signs one items) start now × Runs (Nonterminal rule ∷ others) now × (turns + length now ≤ length start)
 
 pub goes_none : {X : Type 0} {rule : Rule} {one : X → List Sign} {start : List Lexeme} → Goes rule one start start [] 0
 goes_none = record { goes = λ others r. (refl, r, omega arith) }
@@ -143,7 +143,7 @@ goes_on {X} {rule} {one} {start} {now} {next} {items} {all} {x} {turns} {symbols
       let fewer = fewer_left (one x) now next some i.0 in
       let le = g.2 in
       let signs : all_signs one items ++ one x ≡ all_signs one all = sym (all_signs_more one items x) ∙ ap (all_signs one) (sym is) in
-      (subst (λ signs. Spells signs start next) signs (spells_append (all_signs one items) (one x) start now next g.0 i.0), i.1, omega arith);
+      (subst (λ signs. UnparsesTo signs start next) signs (spells_append (all_signs one items) (one x) start now next g.0 i.0), i.1, omega arith);
 }
 
 -- the items, and then what the rule's last row reads
@@ -161,7 +161,7 @@ goes_over {X} {rule} {one} {start} {now} {next} {items} {turns} before rest = re
   reads = λ others r.
       let g = before.goes others r in
       let last = rest.reads others g.1 in
-      (subst (λ v. Spells (all_signs one items) start v) last.0 g.0, last.1);
+      (subst (λ v. UnparsesTo (all_signs one items) start v) last.0 g.0, last.1);
 }
 
 -- the turns are used up, so no token is left, and either the rule does not end there or its row is empty
@@ -185,7 +185,7 @@ goes_to_end {X} {rule} {one} {start} {now} {items} {turns} empty used before = r
       ((goes_over before (ends_here rule now empty (ap length none))).reads others r);
 }
 
--- the same where the items are put behind others
+-- the same where the items are put after others
 pub record Adds {X : Type 0} (rule : Rule) (one : X → List Sign) (start now : List Lexeme) (old items : List X) (turns : ℕ) : Type 0 where
   pub more : List X
   pub is : items ≡ old ++ more
@@ -202,7 +202,7 @@ adds_further {old} {x} before is row item some = record {
   so_far = goes_on before.so_far refl row item some;
 }
 
--- one item more, behind the items so far
+-- one item more, after the items so far
 pub adds_on : {X : Type 0} {rule : Rule} {one : X → List Sign} {start now next : List Lexeme} {old items : List X} {turns : ℕ} {symbols : Symbols} (x : X) → Adds rule one start now old items turns → Repeats rule symbols now → Reads symbols (one x) now next → has_token (one x) ≡ true → Adds rule one start next old (items ++ x ∷ []) (turns + 1)
 adds_on x before row item some = adds_further before refl row item some
 
@@ -212,8 +212,8 @@ adds_over before rest = record { more = before.more; is = before.is; reads = goe
 pub adds_used_up : {X : Type 0} {rule : Rule} {one : X → List Sign} {start now : List Lexeme} {old items : List X} {turns : ℕ} → choice grammar sets rule None ≡ None → length start ≤ turns → Adds rule one start now old items turns → Appends rule one old items start now
 adds_used_up none used before = record { more = before.more; is = before.is; reads = goes_used_up none used before.so_far }
 
--- a first item, those behind a separator, and what the last row reads more
-pub separated_and : {X : Type 0} (separator : Terminal) (one : X → List Sign) {all more : List X} {first : X} {α β : Symbols} (x : List Sign) {w m v : List Lexeme} → all ≡ first ∷ more → Reads α (one first) w m → Reads β (all_signs (behind separator one) more ++ x) m v → Reads (α ++ β) (separated separator one all ++ x) w v
+-- a first item, those after a separator, and what the last row reads more
+pub separated_and : {X : Type 0} (separator : Terminal) (one : X → List Sign) {all more : List X} {first : X} {α β : Symbols} (x : List Sign) {w m v : List Lexeme} → all ≡ first ∷ more → Reads α (one first) w m → Reads β (all_signs (after separator one) more ++ x) m v → Reads (α ++ β) (separated separator one all ++ x) w v
 separated_and separator one {all} {more} {first} {α} {β} x {w} {m} {v} is f g =
-    let signs : one first ++ (all_signs (behind separator one) more ++ x) ≡ separated separator one all ++ x = sym (append_assoc (one first) (all_signs (behind separator one) more) x) ∙ ap (λ items. separated separator one items ++ x) (sym is) in
+    let signs : one first ++ (all_signs (after separator one) more ++ x) ≡ separated separator one all ++ x = sym (append_assoc (one first) (all_signs (after separator one) more) x) ∙ ap (λ items. separated separator one items ++ x) (sym is) in
     subst (λ s. Reads (α ++ β) s w v) signs (and_then f g)

@@ -14,8 +14,8 @@ use Rattle.widl_grammar.specs.declared.terminal.Terminal.TheVariants.{Readonly}
 use Rattle.widl_grammar.specs.declared.terminal.Terminal.TheVariants as terminal
 use Rattle.widl_syntax.specs.Signs.{Sign, at, word, ◌⧺◌}
 use Rattle.widl_syntax.specs.Reading.{Symbols, Reads, IsTaken, part, terminal_ahead}
-use Rattle.widl_syntax.specs.SpelledNames.{word_if}
-use Rattle.widl_syntax.specs.SpelledMembers.{attribute, attribute_word, attribute_rest, operation, operation_word, operation_rest, special_terminal}
+use Rattle.widl_syntax.specs.UnparsedNames.{word_if}
+use Rattle.widl_syntax.specs.UnparsedMembers.{attribute, attribute_word, attribute_rest, operation, operation_word, operation_rest, special_terminal}
 use Rattle.widl_syntax.proofs.Reading.{by_row, took_at}
 
 -- with the word, or without

@@ -21,8 +21,8 @@ use Rattle.widl_grammar.specs.declared.terminal.Terminal.TheVariants.{Other, Ide
 use Rattle.widl_grammar.specs.Rows.{grammar, rows_of}
 use Rattle.widl_grammar.specs.Tables.{sets, picked}
 use Rattle.widl_grammar.specs.Source.{terminal_of}
-use Rattle.widl_syntax.specs.Signs.{Sign, Spells, OfBytes, OfText, Nowhere, at, word, ◌⧺◌}
-use Rattle.widl_syntax.specs.SpelledNames.{name_bytes, is_escape_apart, escape_apart, identifier, is_word_of, any_name}
+use Rattle.widl_syntax.specs.Signs.{Sign, UnparsesTo, OfBytes, OfText, Nowhere, at, word, ◌⧺◌}
+use Rattle.widl_syntax.specs.UnparsedNames.{name_bytes, is_escape_apart, escape_apart, identifier, is_word_of, any_name}
 use Rattle.widl_syntax.specs.Reading.{Symbols, Runs, Reads, token, part, terminal_ahead, IfAhead, IsTaken, IsTakenAs, IsPassedBy, IsName}
 
 abbrev pub Row : Type 0
@@ -51,8 +51,8 @@ pub end_of_nothing : (w : List Lexeme) → Runs [] w → w ≡ []
 end_of_nothing [] r = refl
 end_of_nothing (l ∷ v) r = let e = runs_over grammar sets r in cc
 
-pub spells_append : (x y : List Sign) (w m v : List Lexeme) → Spells x w m → Spells y m v → Spells (x ++ y) w v
-spells_append [] y w m v e h = subst (λ u. Spells y u v) (sym e) h
+pub spells_append : (x y : List Sign) (w m v : List Lexeme) → UnparsesTo x w m → UnparsesTo y m v → UnparsesTo (x ++ y) w v
+spells_append [] y w m v e h = subst (λ u. UnparsesTo y u v) (sym e) h
 spells_append (s ∷ x) y w m v e h = (e.0, e.1, spells_append x y e.0 m v e.2 h)
 
 -- one part after another
@@ -76,8 +76,8 @@ pub took : (a : Terminal) {w m : List Lexeme} {place : Place} → IsTaken place 
 took a {w} {m} t = record {
   reads = λ z r.
       let f = first_of_token a z w r in
-      let behind : m ≡ f.rest = t.rest ∙ ap (drop 1) f.is in
-      ((m, (f.lexeme, f.is ∙ ap (λ u. f.lexeme ∷ u) (sym behind), f.terminal), refl), subst (Runs z) (sym behind) f.runs);
+      let after : m ≡ f.rest = t.rest ∙ ap (drop 1) f.is in
+      ((m, (f.lexeme, f.is ∙ ap (λ u. f.lexeme ∷ u) (sym after), f.terminal), refl), subst (Runs z) (sym after) f.runs);
 }
 
 -- a token at a place, with its bytes or without
@@ -96,9 +96,9 @@ pub took_bytes : (a : Terminal) (bytes : List ℕ) {w m : List Lexeme} {place : 
 took_bytes a bytes {w} {m} {place} t b = record {
   reads = λ z r.
       let f = first_of_token a z w r in
-      let behind : m ≡ f.rest = t.rest ∙ ap (drop 1) f.is in
+      let after : m ≡ f.rest = t.rest ∙ ap (drop 1) f.is in
       let text : f.lexeme.text ≡ bytes = sym (ahead_first (λ l. terminal_of l ≡ a → bytes ≡ l.text) w f.lexeme f.rest f.is b f.terminal) in
-      ((w, (f.lexeme, f.rest, f.is, sym (ahead_first (λ l. place ≡ l.at) w f.lexeme f.rest f.is t.place_is), refl), (m, (f.lexeme, f.is ∙ ap (λ u. f.lexeme ∷ u) (sym behind), f.terminal, text), refl)), subst (Runs z) (sym behind) f.runs);
+      ((w, (f.lexeme, f.rest, f.is, sym (ahead_first (λ l. place ≡ l.at) w f.lexeme f.rest f.is t.place_is), refl), (m, (f.lexeme, f.is ∙ ap (λ u. f.lexeme ∷ u) (sym after), f.terminal, text), refl)), subst (Runs z) (sym after) f.runs);
 }
 
 -- a token that passes a test, by its bytes
@@ -106,10 +106,10 @@ pub took_text : (a : Terminal) (test : Terminal → Bool) (bytes : List ℕ) {w 
 took_text a test bytes {w} {m} {place} known t b = record {
   reads = λ z r.
       let f = first_of_token a z w r in
-      let behind : m ≡ f.rest = t.rest ∙ ap (drop 1) f.is in
+      let after : m ≡ f.rest = t.rest ∙ ap (drop 1) f.is in
       let text : f.lexeme.text ≡ bytes = sym (ahead_first (λ l. bytes ≡ l.text) w f.lexeme f.rest f.is b) in
       let passed : test (terminal_of f.lexeme) ≡ true = ap test f.terminal ∙ known in
-      ((w, (f.lexeme, f.rest, f.is, sym (ahead_first (λ l. place ≡ l.at) w f.lexeme f.rest f.is t.place_is), refl), (m, (f.lexeme, f.is ∙ ap (λ u. f.lexeme ∷ u) (sym behind), passed, text), refl)), subst (Runs z) (sym behind) f.runs);
+      ((w, (f.lexeme, f.rest, f.is, sym (ahead_first (λ l. place ≡ l.at) w f.lexeme f.rest f.is t.place_is), refl), (m, (f.lexeme, f.is ∙ ap (λ u. f.lexeme ∷ u) (sym after), passed, text), refl)), subst (Runs z) (sym after) f.runs);
 }
 
 pub always : (w : List Lexeme) (P Q : Lexeme → Type 0) → IfAhead w P → IfAhead w (λ l. Q l → P l)
@@ -124,7 +124,7 @@ escape_known a x {w} {m} {name} n f = record {
       let known : is_escape_apart name.escaped (string_bytes name.text) ≡ true = ahead_first (λ l. is_escape_apart name.escaped (string_bytes name.text) ≡ true) w first.lexeme first.rest first.is n.escape in
       let h = f.reads z r in
       let none : [] ≡ escape_apart name = ap (λ b. if b then [] else Nowhere ∷ []) (sym known) in
-      (subst (λ more. Spells (at name.at ⧺ x ∷ more) w m) none h.0, h.1);
+      (subst (λ more. UnparsesTo (at name.at ⧺ x ∷ more) w m) none h.0, h.1);
 }
 
 -- an identifier
@@ -148,7 +148,7 @@ taken_as t w m (Some x) b e h k = (x, k)
 pub at_part : (rule : Rule) {β : Symbols} {x : List Sign} {w m : List Lexeme} {place : Place} → choice grammar sets rule None ≡ None → IfAhead w (λ l. place ≡ l.at) → Reads (part rule ++ β) x w m → Reads (part rule ++ β) (at place ⧺ x) w m
 at_part rule {β} {x} {w} {m} {place} none p f = record { reads = λ z r. go w p z r (f.reads z r) }
   where
-    go : (v : List Lexeme) → IfAhead v (λ l. place ≡ l.at) → (z : Symbols) → Runs (Nonterminal rule ∷ (β ++ z)) v → Spells x v m × Runs z m → Spells (at place ⧺ x) v m × Runs z m
+    go : (v : List Lexeme) → IfAhead v (λ l. place ≡ l.at) → (z : Symbols) → Runs (Nonterminal rule ∷ (β ++ z)) v → UnparsesTo x v m × Runs z m → UnparsesTo (at place ⧺ x) v m × Runs z m
     go [] q z r h = let c = part_first r in let bad : None ≡ Some c.0 = sym none ∙ c.1 in cc
     go (l ∷ v) q z r h = ((l ∷ v, (l, v, refl, sym q, refl), h.0), h.1)
 
@@ -252,7 +252,7 @@ rest_picks rule others k (l ∷ w) h differ =
     let both = passes (λ t. is_among others t || is_row_or_none (length (rows_of rule)) k (picked rule (Some t))) (and_cases _ _ h).0 (terminal_of l) in
     elim (or_cases (is_among others (terminal_of l)) _ both) [ inl yes_among ↦ cc | inr row ↦ row ]
 
--- a rule whose row stands behind all other terminals
+-- a rule whose row stands after all other terminals
 pub by_rest : (rule : Rule) (others : List Terminal) (k : ℕ) {α : Row} {x : List Sign} {w v : List Lexeme} → is_rest rule others k ≡ true → nth (rows_of rule) k ≡ Some α → is_among others (terminal_ahead w) ≡ false → Reads (plain α) x w v → Reads (part rule) x w v
 by_rest rule others k {α} {x} {w} {v} test e differ f = record {
   reads = λ z r.

@@ -5,8 +5,8 @@ use Rattle.widl_idl.specs.declared.tree.extended_attributes.ExtendedAttribute.{E
 use Rattle.widl_grammar.specs.declared.rule.Rule.{Rule}
 use Rattle.widl_grammar.specs.declared.terminal.Terminal.{Terminal}
 use Rattle.widl_grammar.specs.declared.terminal.Terminal.TheVariants.{Comma, OpenBracket, CloseBracket}
-use Rattle.widl_syntax.specs.Signs.{Sign, word, behind, separated, ◌⧺◌}
-use Rattle.widl_syntax.specs.SpelledNames.{extended_attribute, extended_attributes}
+use Rattle.widl_syntax.specs.Signs.{Sign, word, after, separated, ◌⧺◌}
+use Rattle.widl_syntax.specs.UnparsedNames.{extended_attribute, extended_attributes}
 use Rattle.widl_syntax.specs.Reading.{Symbols, Reads, Appends, part}
 use Rattle.widl_syntax.proofs.Reading.{and_then}
 
@@ -14,8 +14,8 @@ use Rattle.widl_syntax.proofs.Reading.{and_then}
 pub first_item : {X : Type 0} {rule : Rule} {one : X → List Sign} {old items : List X} {start now : List Lexeme} {x : X} → old ≡ x ∷ [] → Appends rule one old items start now → (more : List X) × (items ≡ x ∷ more)
 first_item e added = (added.more, added.is ∙ ap (λ l. l ++ added.more) e)
 
--- an item, and more behind separators
-pub separated_items : {X : Type 0} {rule : Rule} (separator : Terminal) {one : X → List Sign} {old items : List X} {α : Symbols} {start middle now : List Lexeme} {x : X} → old ≡ x ∷ [] → Reads α (one x) start middle → Appends rule (behind separator one) old items middle now → Reads (α ++ part rule) (separated separator one items) start now
+-- an item, and more after separators
+pub separated_items : {X : Type 0} {rule : Rule} (separator : Terminal) {one : X → List Sign} {old items : List X} {α : Symbols} {start middle now : List Lexeme} {x : X} → old ≡ x ∷ [] → Reads α (one x) start middle → Appends rule (after separator one) old items middle now → Reads (α ++ part rule) (separated separator one items) start now
 separated_items {rule} separator {one} {α} {start} {now} e first added =
     subst (λ items. Reads (α ++ part rule) (separated separator one items) start now) (sym (added.is ∙ ap (λ l. l ++ added.more) e)) (and_then first added.reads)
 

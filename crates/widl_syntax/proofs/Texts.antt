@@ -18,14 +18,14 @@ use Rattle.widl_grammar.specs.Source.{terminal_of, terminal_by}
 use Rattle.widl_grammar.specs.Terminals.{terminal_code}
 use Rattle.widl_grammar.specs.Words.{quoted}
 use Rattle.widl_syntax.specs.Reading.{IfAhead}
-use Rattle.widl_syntax.specs.SpelledNames.{quoted_bytes}
+use Rattle.widl_syntax.specs.UnparsedNames.{quoted_bytes}
 
 all_left : (bytes : List ℕ) → take (length bytes - 1) (drop 1 bytes) ≡ drop 1 bytes
 all_left bytes = grind (arith, common_steps)
 
--- a text behind an ASCII byte
-pub behind_ascii : (bytes : List ℕ) → 1 ≤ length bytes → get_or bytes 0 0 < 128 → IsUtf8 bytes → IsUtf8 (take (length bytes - 1) (drop 1 bytes))
-behind_ascii bytes le lt u = subst IsUtf8 (sym (all_left bytes)) (IsUtf8-drop bytes 1 u (IsCharBoundary-after_ascii bytes 0 u (omega arith) lt))
+-- a text after an ASCII byte
+pub after_ascii : (bytes : List ℕ) → 1 ≤ length bytes → get_or bytes 0 0 < 128 → IsUtf8 bytes → IsUtf8 (take (length bytes - 1) (drop 1 bytes))
+after_ascii bytes le lt u = subst IsUtf8 (sym (all_left bytes)) (IsUtf8-drop bytes 1 u (IsCharBoundary-after_ascii bytes 0 u (omega arith) lt))
 
 -- a text between quotation marks
 pub between_quotes : (bytes : List ℕ) → 2 ≤ length bytes → get_or bytes 0 0 < 128 → get_or bytes (length bytes - 1) 0 < 128 → IsUtf8 bytes → IsUtf8 (take (length bytes - 1 - 1) (drop 1 bytes))

@@ -8,10 +8,10 @@ use Rattle.widl_idl.specs.declared.tree.members.Member.{Member}
 use Rattle.widl_idl.specs.declared.tree.members.MemberKind.{MemberKind}
 use Rattle.widl_idl.specs.declared.tree.members.MemberKind.TheVariants as member_kinds
 use Rattle.widl_grammar.specs.declared.terminal.Terminal.TheVariants as t
-use Rattle.widl_syntax.specs.SpelledNames.{word_if, optional_name, extended_attributes}
-use Rattle.widl_syntax.specs.SpelledTypes.{written_type}
-use Rattle.widl_syntax.specs.SpelledMembers.{member, member_kind, attribute_word, operation_word, async_words}
-use Rattle.widl_syntax.specs.SpelledDefinitions.{definition, definition_kind, dictionary_member, member_type}
+use Rattle.widl_syntax.specs.UnparsedNames.{word_if, optional_name, extended_attributes}
+use Rattle.widl_syntax.specs.UnparsedTypes.{written_type}
+use Rattle.widl_syntax.specs.UnparsedMembers.{member, member_kind, attribute_word, operation_word, async_words}
+use Rattle.widl_syntax.specs.UnparsedDefinitions.{definition, definition_kind, dictionary_member, member_type}
 use Rattle.widl_syntax.proofs.Lists.{has_token, token_in_rest}
 
 pub dictionary_member_has_token : (m : DictionaryMember) → has_token (dictionary_member m) ≡ true

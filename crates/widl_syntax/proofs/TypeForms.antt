@@ -15,8 +15,8 @@ use Rattle.widl_idl.specs.declared.tree.types.WrittenType.{WrittenType, roll-Wri
 use Rattle.widl_idl.specs.TypeTrees.{FormTree, AnyForm, BooleanForm, BigIntForm, IntegerForm, FloatForm, NamedForm, ContainerForm, RecordForm, PromiseForm, UnionForm, type_tree, annotated_tree, packed_members, form_of, tree_of_type, tree_of_annotated, trees_of_members}
 use Rattle.widl_idl.specs.Written.{members_in}
 use Rattle.widl_syntax.specs.Signs.{at, ◌⧺◌}
-use Rattle.widl_syntax.specs.SpelledNames.{extended_attributes}
-use Rattle.widl_syntax.specs.SpelledTypes.{form_signs, type_signs, annotated_signs, question_mark, written_type, annotated_type, bare_signs, bare_type}
+use Rattle.widl_syntax.specs.UnparsedNames.{extended_attributes}
+use Rattle.widl_syntax.specs.UnparsedTypes.{form_signs, type_signs, annotated_signs, question_mark, written_type, annotated_type, bare_signs, bare_type}
 
 pub form-Any : form_of form.Any ≡ AnyForm
 form-Any = search (rules, the_lemmas)

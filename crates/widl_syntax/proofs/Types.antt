@@ -24,9 +24,9 @@ use Rattle.widl_grammar.specs.Rows.{grammar, rows_of}
 use Rattle.widl_grammar.specs.Tables.{sets, picked}
 use Rattle.widl_grammar.specs.Terminals.{all_terminals}
 use Rattle.widl_grammar.specs.Source.{terminal_of}
-use Rattle.widl_syntax.specs.Signs.{Sign, at, word, all_signs, behind, ◌⧺◌}
-use Rattle.widl_syntax.specs.SpelledNames.{word_if}
-use Rattle.widl_syntax.specs.SpelledTypes.{container_terminal, question_mark, annotated_type, member_signs, more_member_signs, union_signs}
+use Rattle.widl_syntax.specs.Signs.{Sign, at, word, all_signs, after, ◌⧺◌}
+use Rattle.widl_syntax.specs.UnparsedNames.{word_if}
+use Rattle.widl_syntax.specs.UnparsedTypes.{container_terminal, question_mark, annotated_type, member_signs, more_member_signs, union_signs}
 use Rattle.widl_syntax.specs.TypeWords.{is_primitive_word, is_type_word, is_container_word}
 use Rattle.widl_syntax.specs.Reading.{Symbols, Runs, Reads, token, part, terminal_ahead, IsTaken, IsTakenAs, IsPassedBy}
 use Rattle.widl_syntax.proofs.Reading.{pass_all, passes, is_other, is_row_or_none, that_row, part_first, by_row, by_rest, took, took_at, nothing_if, is_among, other_than}
@@ -78,7 +78,7 @@ test_picks : (rule : Rule) (test : Terminal → Bool) (k : ℕ) (w : List Lexeme
 test_picks rule test k [] h e = by_implied (test Other) _ (and_cases _ _ h).1 e
 test_picks rule test k (l ∷ w) h e = by_implied (test (terminal_of l)) _ (passes (λ t. not (test t) || is_row_or_none (length (rows_of rule)) k (picked rule (Some t))) (and_cases _ _ h).0 (terminal_of l)) e
 
--- a rule whose row stands behind each terminal of a test
+-- a rule whose row stands after each terminal of a test
 pub by_test : (rule : Rule) (test : Terminal → Bool) (k : ℕ) {α : List (RowSymbol Terminal Rule)} {x : List Sign} {w v : List Lexeme} → picks rule test k ≡ true → nth (rows_of rule) k ≡ Some α → test (terminal_ahead w) ≡ true → Reads (plain α) x w v → Reads (part rule) x w v
 by_test rule test k {α} {x} {w} {v} h e among f = record {
   reads = λ z r.
@@ -86,7 +86,7 @@ by_test rule test k {α} {x} {w} {v} h e among f = record {
       f.reads z (subst (λ row. Runs (plain row ++ z) w) (that_row (rows_of rule) k (picked rule (ahead (map terminal_of w))) α p.0 (test_picks rule test k w h among) e p.1) p.2);
 }
 
--- a rule whose row stands behind each terminal that a test refuses
+-- a rule whose row stands after each terminal that a test refuses
 pub by_other_test : (rule : Rule) (test : Terminal → Bool) (k : ℕ) {α : List (RowSymbol Terminal Rule)} {x : List Sign} {w v : List Lexeme} → picks rule (λ t. not (test t)) k ≡ true → nth (rows_of rule) k ≡ Some α → test (terminal_ahead w) ≡ false → Reads (plain α) x w v → Reads (part rule) x w v
 by_other_test rule test k {α} {x} {w} {v} h e other f = by_test rule (λ t. not (test t)) k h e (ap not other) f
 
@@ -154,7 +154,7 @@ named_row ahead w {x} {v} e primitive type generic other f =
     f
 
 -- members with `or` between each two
-more_member_list : (xs : List AnnotatedType) → more_member_signs (packed_members (map tree_of_annotated xs)) ≡ all_signs (behind terminal.Or annotated_type) xs
+more_member_list : (xs : List AnnotatedType) → more_member_signs (packed_members (map tree_of_annotated xs)) ≡ all_signs (after terminal.Or annotated_type) xs
 more_member_list [] = refl
 more_member_list (x ∷ xs) = ap (λ s. word terminal.Or ⧺ annotated_type x ⧺ s) (more_member_list xs)
 
@@ -162,7 +162,7 @@ pub member_list : (xs : List AnnotatedType) → member_signs (packed_members (ma
 member_list [] = refl
 member_list (x ∷ xs) = ap (λ s. annotated_type x ⧺ s) (more_member_list xs)
 
--- what is to be read behind others, in place of what can be read as it
+-- what is to be read after others, in place of what can be read as it
 pub in_place_of : {z y : Symbols} → ((w : List Terminal) → runs.Runs grammar sets z w → runs.Runs grammar sets y w) → (α : Symbols) {s : Symbols} {w : List Terminal} → runs.Runs grammar sets s w → s ≡ α ++ z → runs.Runs grammar sets (α ++ y) w
 in_place_of f [] {s} {w} r e = f w (subst (λ u. runs.Runs grammar sets u w) e r)
 in_place_of f (x ∷ α) over e = cc
@@ -180,7 +180,7 @@ in_place_of {z} {y} f (x ∷ α) (chosen {r = one} {z = rest} {w} row c r) e =
 or_first : {z : Symbols} {w : List Terminal} → runs.Runs grammar sets (token terminal.Or ++ part rule.UnionMember ++ part rule.MoreUnionMembers ++ z) w → runs.Runs grammar sets (part rule.MoreUnionMembers ++ z) w
 or_first {z} (taken {w} r) = chosen (Token terminal.Or ∷ Inner rule.UnionMember ∷ Part rule.MoreUnionMembers ∷ []) refl (taken r)
 
--- the second member of a union and those behind it are read as any others
+-- the second member of a union and those after it are read as any others
 pub union_row : {x : List Sign} {w v : List Lexeme} → Reads (part rule.UnionMember ++ part rule.MoreUnionMembers) x w v → Reads (part rule.UnionMember ++ token terminal.Or ++ part rule.UnionMember ++ part rule.MoreUnionMembers) x w v
 union_row {x} {w} {v} f = record {
   reads = λ others r. f.reads others (in_place_of (λ u q. or_first q) (part rule.UnionMember) r refl);

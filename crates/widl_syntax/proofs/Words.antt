@@ -18,7 +18,7 @@ use Rattle.widl_grammar.specs.Tables.{picked}
 use Rattle.widl_grammar.specs.Terminals.{all_terminals, terminal_code}
 use Rattle.widl_grammar.specs.Source.{terminal_of}
 use Rattle.widl_syntax.specs.Signs.{OfBytes, at, ◌⧺◌}
-use Rattle.widl_syntax.specs.SpelledNames.{any_name, is_row_of}
+use Rattle.widl_syntax.specs.UnparsedNames.{any_name, is_row_of}
 use Rattle.widl_syntax.specs.Reading.{Runs, Reads, token, part, terminal_ahead, IfAhead, IsTaken, IsPassedBy, IsName}
 use Rattle.widl_syntax.proofs.Reading.{always, took_bytes, took_name, part_first, and_other_than, is_among, pass_all, passes}
 
@@ -83,7 +83,7 @@ by_word rule others {w} {m} {name} test differ n = record {
       (took_name row.0 rule known n).reads z (subst (λ s. Runs (plain s ++ z) w) row.1 p.2);
 }
 
--- no more tokens are left behind a token that is taken or passed by
+-- no more tokens are left after a token that is taken or passed by
 pub taken_shorter : {now next : List Lexeme} {place : Place} (n : ℕ) → IsTaken place now next → length now ≤ n → length next ≤ n
 taken_shorter {now} {next} n t le = omega (arith, ap length t.rest, length-drop 1 now)
 

@@ -1,9 +1,9 @@
 pub mod Deriving
 pub mod Signs
-pub mod SpelledNames
-pub mod SpelledTypes
-pub mod SpelledMembers
-pub mod SpelledDefinitions
+pub mod UnparsedNames
+pub mod UnparsedTypes
+pub mod UnparsedMembers
+pub mod UnparsedDefinitions
 pub mod MemberLists
 pub mod TypeWords
 pub mod Reading

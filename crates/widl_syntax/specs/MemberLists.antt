@@ -1,4 +1,4 @@
--- The rules of the lists of members.
+-- For proofs alone. The rules of the lists of members.
 use Rattle.widl_grammar.specs.declared.rule.Rule.{Rule}
 use Rattle.widl_grammar.specs.declared.rule.Rule.TheVariants as rule
 use Rattle.widl_syntax.specs.declared.build.members.MemberList.{MemberList}

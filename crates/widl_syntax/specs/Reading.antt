@@ -8,14 +8,14 @@ use Rattle.widl_grammar.specs.declared.terminal.Terminal.{Terminal}
 use Rattle.widl_grammar.specs.declared.terminal.Terminal.TheVariants.{Other}
 use Rattle.widl_grammar.specs.Source.{terminal_of}
 pub use Rattle.widl_syntax.specs.Deriving.{Symbols, token, part, Runs}
-use Rattle.widl_syntax.specs.SpelledNames.{name_bytes, is_escape_apart}
-use Rattle.widl_syntax.specs.Signs.{Sign, Spells, all_signs}
+use Rattle.widl_syntax.specs.UnparsedNames.{name_bytes, is_escape_apart}
+use Rattle.widl_syntax.specs.Signs.{Sign, UnparsesTo, all_signs}
 
 -- where the tokens are what the symbols derive before any others, the signs stand for those of the symbols, and `to` is what the others derive
 pub record Reads (symbols : Symbols) (signs : List Sign) (from to : List Lexeme) : Type 0 where
-  pub reads : (others : Symbols) → Runs (symbols ++ others) from → Spells signs from to × Runs others to
+  pub reads : (others : Symbols) → Runs (symbols ++ others) from → UnparsesTo signs from to × Runs others to
 
--- the items of the rule's list are put behind those that were there
+-- the items of the rule's list are put after those that were there
 pub record Appends {X : Type 0} (rule : Rule) (one : X → List Sign) (old new : List X) (from to : List Lexeme) : Type 0 where
   pub more : List X
   pub is : new ≡ old ++ more

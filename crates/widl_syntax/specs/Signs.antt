@@ -44,9 +44,9 @@ Stands (OfPart rule texts) from to = AreTexts texts from to × BeginsAt rule fro
 Stands Nowhere from to = ⊥
 
 -- the signs in order stand for the tokens between two of a file
-abbrev pub Spells : List Sign → List Lexeme → List Lexeme → Type 0
-Spells [] from to = from ≡ to
-Spells (sign ∷ more) from to = (next : List Lexeme) × Stands sign from next × Spells more next to
+abbrev pub UnparsesTo : List Sign → List Lexeme → List Lexeme → Type 0
+UnparsesTo [] from to = from ≡ to
+UnparsesTo (sign ∷ more) from to = (next : List Lexeme) × Stands sign from next × UnparsesTo more next to
 
 infixr 60 ◌⧺◌
 -- signs one after the other
@@ -65,11 +65,11 @@ abbrev pub all_signs : {X : Type 0} → (X → List Sign) → List X → List Si
 all_signs one [] = []
 all_signs one (x ∷ more) = one x ⧺ all_signs one more
 
--- an item behind a separator
-abbrev pub behind : {X : Type 0} → Terminal → (X → List Sign) → X → List Sign
-behind separator one x = word separator ⧺ one x
+-- an item after a separator
+abbrev pub after : {X : Type 0} → Terminal → (X → List Sign) → X → List Sign
+after separator one x = word separator ⧺ one x
 
 -- items with a separator between each two
 abbrev pub separated : {X : Type 0} → Terminal → (X → List Sign) → List X → List Sign
 separated separator one [] = []
-separated separator one (x ∷ more) = one x ⧺ all_signs (behind separator one) more
+separated separator one (x ∷ more) = one x ⧺ all_signs (after separator one) more

@@ -1,4 +1,4 @@
--- The words that begin types.
+-- For proofs alone. The words that begin types.
 use Rattle.std.specs.Prelude.{◌≡◌, Bool, true, false, List}
 use Rattle.widl_idl.specs.declared.int_kind.IntKind.{IntKind}
 use Rattle.widl_idl.specs.declared.int_kind.IntKind.TheVariants as int
@@ -9,7 +9,7 @@ use Rattle.widl_idl.specs.TypeTrees.{form_of}
 use Rattle.widl_grammar.specs.declared.terminal.Terminal.{Terminal}
 use Rattle.widl_grammar.specs.declared.terminal.Terminal.TheVariants as t
 use Rattle.widl_syntax.specs.Signs.{Sign, word, ◌⧺◌}
-use Rattle.widl_syntax.specs.SpelledTypes.{form_signs}
+use Rattle.widl_syntax.specs.UnparsedTypes.{form_signs}
 
 -- the words of an integer type without `unsigned`
 abbrev pub integer_rest : IntKind → List Sign

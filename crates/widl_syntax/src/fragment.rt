@@ -6,8 +6,8 @@ ghost use Rattle.widl_grammar.specs.declared.fault.SyntaxFault.TheVariants.{Memo
 ghost use Rattle.widl_grammar.specs.declared.rule.Rule.TheVariants.{Definitions};
 ghost use Rattle.widl_grammar.specs.Rows.{grammar};
 ghost use Rattle.widl_grammar.specs.Source.{terminals_of, IsFaultOf};
-ghost use Rattle.widl_syntax.specs.Signs.{Spells};
-ghost use Rattle.widl_syntax.specs.SpelledDefinitions.{fragment};
+ghost use Rattle.widl_syntax.specs.Signs.{UnparsesTo};
+ghost use Rattle.widl_syntax.specs.UnparsedDefinitions.{fragment};
 
 use crate::build::Reader;
 use std::alloc::Global;
@@ -31,7 +31,7 @@ pub fn parse(alloc: Global, tokens: &Tokens<'_>) -> Result<Fragment, SyntaxFault
     ensures ok { OnOk result (IsAccepted grammar Definitions (terminals_of tokens.now)) }
     ensures file { IfOk result (λ fragment. fragment.file ≡ tokens.now.file) }
     ensures tokens { IfOk result (λ fragment. fragment.token_count ≡ length tokens.now.lexemes) }
-    ensures spelled { IfOk result (λ read. Spells (fragment read) tokens.now.lexemes []) }
+    ensures spelled { IfOk result (λ read. UnparsesTo (fragment read) tokens.now.lexemes []) }
     ensures fault { IfErr result (λ e. (e ≡ Memory) ⊎ IsFaultOf tokens.now e) }
     ensures complete { IsAccepted grammar Definitions (terminals_of tokens.now) → IsOkUnless result Memory }
 {

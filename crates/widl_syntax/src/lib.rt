@@ -13,5 +13,3 @@ pub mod laws;
 pub use fragment::parse;
 pub use widl_grammar::SyntaxFault;
 
-#[cfg(test)]
-mod tests;

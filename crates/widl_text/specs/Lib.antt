@@ -1,3 +1,4 @@
 pub mod Index
 pub mod IntegerTokens
+pub mod Limits
 pub mod Utf16

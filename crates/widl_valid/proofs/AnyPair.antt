@@ -5,7 +5,7 @@ use Rattle.std.proofs.lemmas.List.Folds.{list_any-append}
 use Rattle.std.proofs.lemmas.Option.{same_Some}
 use Rattle.std.proofs.Math.Bool.{or-false}
 use Rattle.std.specs.List.{list_any}
-use Rattle.widl_valid.specs.AlikePairs.{any_pair}
+use Rattle.widl_valid.specs.IndistinguishablePairs.{any_pair}
 
 pub or_four : (a b c d : Bool) → ((a || b) || (c || d)) ≡ ((a || c) || (b || d))
 or_four true b c d = refl

@@ -1,4 +1,4 @@
--- The overloads that stand before, and the least spot at which a member follows 64 of them.
+-- The overloads that stand before, and the first violation at which a member follows 64 of them.
 use Rattle.std.proofs.Common.{◌≡◌, ℕ, ◌+◌, ◌<◌, ◌≤◌, ◌++◌, Bool, true, false, cond, nat_eq, List, [], ◌∷◌, length, take, filter, filter_map, get_or, Option, None, Some, arith, refl, sym, ap, ◌∙◌, bytes_eq, unwrap_or, append-nil, length-append, Bor}
 use Rattle.std.specs.Map.{update}
 use Rattle.std.specs.List.{cons_option}
@@ -6,17 +6,17 @@ use Rattle.std.proofs.lemmas.List.Elements.{filter-append, filter_map-append}
 use Rattle.std.proofs.lemmas.Slice.Eq.{bytes_eq-Decides}
 use Rattle.indexmap.specs.IndexMap.{IndexMap, get_by}
 use Rattle.widl_text.specs.declared.place.Place.{Place}
-use Rattle.widl_idl.specs.declared.spot.Spot.{Spot}
+use Rattle.widl_idl.specs.declared.violation.Violation.{Violation}
 use Rattle.widl_idl.specs.declared.tree.members.Member.{Member}
-use Rattle.widl_idl.specs.Least.{AtOne, LeastWhere, lesser}
+use Rattle.widl_idl.specs.First.{AtOne, FirstWhere, earlier}
 use Rattle.widl_idl.specs.MergedMembers.{are_overloads, operation_in, operation_text, operations_in}
 use Rattle.widl_idl.specs.MergingRules.{is_static}
 use Rattle.widl_idl.specs.PlainTypes.{PlainName}
 use Rattle.widl_idl.specs.PlainTrees.{PlainMember, PlainMemberKind, PlainOperation, ConstructorMember, OperationMember, member_of}
 use Rattle.widl_idl.proofs.Order.{one_place}
-use Rattle.widl_overload.specs.MemberRules.{HasOverload65, IsOverload65, constructor_count, constructor_place}
-use Rattle.widl_valid.specs.MemberTables.{count_in, has_overload, is_constructor, is_overload, listed_members, spot_past_limit}
-use Rattle.widl_valid.proofs.NamedSpots.{listed_next, members_end, members_step, named_least, no_members, nowhere}
+use Rattle.widl_overload.specs.MemberRules.{HasOverloadPastLimit, IsOverloadPastLimit, constructor_count, constructor_place}
+use Rattle.widl_valid.specs.MemberTables.{count_in, has_overload, is_constructor, is_overload, listed_members, violation_past_limit}
+use Rattle.widl_valid.proofs.NamedViolations.{listed_next, members_end, members_step, named_first, no_members, nowhere}
 
 -- what is kept for a text, with one more counted for one
 pub count_kept : {S : Type 0} (old new : IndexMap (Bor (List ℕ)) ℕ S) (text other : List ℕ) (total : ℕ) → total ≡ count_in old text + 1
@@ -57,30 +57,30 @@ constructors_by places kind = ap length (append-nil places)
 constructors_push : (before : List PlainMember) (m : PlainMember) → constructor_count (before ++ m ∷ []) ≡ cond (is_constructor m.kind) (constructor_count before + 1) (constructor_count before)
 constructors_push before m = ap length (filter_map-append (λ (x : PlainMember). constructor_place x.kind) before (m ∷ [])) ∙ constructors_by (filter_map (λ (x : PlainMember). constructor_place x.kind) before) m.kind
 
--- the overloads are counted, and the least spot at which a member follows 64 of them
-pub record Counted (overloads : List ℕ → Bool → ℕ) (constructors : ℕ) (members : List PlainMember) (best : Option Spot) : Type 0 where
+-- the overloads are counted, and the first violation at which a member follows 64 of them
+pub record Counted (overloads : List ℕ → Bool → ℕ) (constructors : ℕ) (members : List PlainMember) (best : Option Violation) : Type 0 where
   pub operations : (text : List ℕ) (static : Bool) → overloads text static ≡ length (overloads_in members text static)
   pub made : constructors ≡ constructor_count members
-  pub least : LeastWhere (AtOne HasOverload65 members) best
+  pub earliest : FirstWhere (AtOne HasOverloadPastLimit members) best
 
 pub nothing_counted : (overloads : List ℕ → Bool → ℕ) (constructors : ℕ) → ((text : List ℕ) (static : Bool) → overloads text static ≡ 0) → constructors ≡ 0 → Counted overloads constructors [] None
-nothing_counted overloads constructors none zero = record { operations = none; made = zero; least = no_members HasOverload65 }
+nothing_counted overloads constructors none zero = record { operations = none; made = zero; earliest = no_members HasOverloadPastLimit }
 
 module _ (overloads : List ℕ → Bool → ℕ) (constructors : ℕ) (before : List PlainMember) (same : (text : List ℕ) (static : Bool) → overloads text static ≡ length (overloads_in before text static)) (made : constructors ≡ constructor_count before) where
   -- the overloads of a named operation
   of_name : (o : PlainOperation) (n : PlainName) → o.name ≡ Some n → overloads n.text (is_static o.kind) ≡ length (filter (are_overloads o) (operations_in before))
   of_name o n is = same n.text (is_static o.kind) ∙ ap (λ text. length (overloads_in before text (is_static o.kind))) (sym (ap operation_text is))
 
-  past_least : (kind : PlainMemberKind) (found : Option Spot) → found ≡ spot_past_limit overloads constructors kind → LeastWhere (IsOverload65 before kind) found
-  past_least (OperationMember o) found e =
-      named_least (λ name. length (filter (are_overloads o) (operations_in before)) ≡ 64) (λ text. nat_eq (overloads text (is_static o.kind)) 64) o.name found
+  past_first : (kind : PlainMemberKind) (found : Option Violation) → found ≡ violation_past_limit overloads constructors kind → FirstWhere (IsOverloadPastLimit before kind) found
+  past_first (OperationMember o) found e =
+      named_first (λ name. length (filter (are_overloads o) (operations_in before)) ≡ 64) (λ text. nat_eq (overloads text (is_static o.kind)) 64) o.name found
       (λ n is h. let count = of_name o n is in grind arith) (λ n is h q. let count = of_name o n is in absurd (grind arith)) e
-  past_least (ConstructorMember c) found e = one_place (constructor_count before ≡ 64) c.at (nat_eq constructors 64) found (λ h. grind (arith, made)) (λ h q. absurd (grind (arith, made))) e
-  past_least kind found e = nowhere (IsOverload65 before kind) found (λ s h. h) e
+  past_first (ConstructorMember c) found e = one_place (constructor_count before ≡ 64) c.at (nat_eq constructors 64) found (λ h. grind (arith, made)) (λ h q. absurd (grind (arith, made))) e
+  past_first kind found e = nowhere (IsOverloadPastLimit before kind) found (λ s h. h) e
 
 -- one member more
-pub counted_step : (overloads now_overloads : List ℕ → Bool → ℕ) (constructors now_constructors : ℕ) (members : List (Bor Member)) (i : ℕ) (m : Bor Member) (best found now : Option Spot) → i < length members → m ≡ get_or members i m
-    → found ≡ spot_past_limit overloads constructors (member_of m.now).kind → now ≡ lesser best found
+pub counted_step : (overloads now_overloads : List ℕ → Bool → ℕ) (constructors now_constructors : ℕ) (members : List (Bor Member)) (i : ℕ) (m : Bor Member) (best found now : Option Violation) → i < length members → m ≡ get_or members i m
+    → found ≡ violation_past_limit overloads constructors (member_of m.now).kind → now ≡ earlier best found
     → ((text : List ℕ) (static : Bool) → now_overloads text static ≡ cond (is_overload text static (member_of m.now).kind) (overloads text static + 1) (overloads text static))
     → now_constructors ≡ cond (is_constructor (member_of m.now).kind) (constructors + 1) constructors
     → Counted overloads constructors (listed_members (take i members)) best → Counted now_overloads now_constructors (listed_members (take (i + 1) members)) now
@@ -92,8 +92,8 @@ counted_step overloads now_overloads constructors now_constructors members i m b
           adds text static ∙ ap (λ n. cond (is_overload text static kind) (n + 1) n) (r.operations text static) ∙ sym (overloads_push text static (operations_in before) kind)
           ∙ ap (λ os. length (filter (has_overload text static) os)) (sym (operations_push before (member_of m.now))) ∙ ap (λ ms. length (overloads_in ms text static)) (sym (listed_next members i m below is));
       made = makes ∙ ap (λ n. cond (is_constructor kind) (n + 1) n) r.made ∙ sym (constructors_push before (member_of m.now)) ∙ ap constructor_count (sym (listed_next members i m below is));
-      least = members_step HasOverload65 members i m best found now below is e (past_least overloads constructors before r.operations r.made kind found f) r.least;
+      earliest = members_step HasOverloadPastLimit members i m best found now below is e (past_first overloads constructors before r.operations r.made kind found f) r.earliest;
     }
 
-pub counted_end : (overloads : List ℕ → Bool → ℕ) (constructors : ℕ) (members : List (Bor Member)) (i : ℕ) (best : Option Spot) → length members ≤ i → Counted overloads constructors (listed_members (take i members)) best → LeastWhere (AtOne HasOverload65 (listed_members members)) best
-counted_end overloads constructors members i best past r = members_end HasOverload65 members i best past r.least
+pub counted_end : (overloads : List ℕ → Bool → ℕ) (constructors : ℕ) (members : List (Bor Member)) (i : ℕ) (best : Option Violation) → length members ≤ i → Counted overloads constructors (listed_members (take i members)) best → FirstWhere (AtOne HasOverloadPastLimit (listed_members members)) best
+counted_end overloads constructors members i best past r = members_end HasOverloadPastLimit members i best past r.earliest

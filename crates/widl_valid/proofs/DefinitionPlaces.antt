@@ -3,41 +3,41 @@ use Rattle.std.proofs.Common.{◌≡◌, ℕ, ◌+◌, ◌<◌, ◌++◌, Bool, 
 use Rattle.std.specs.List.{cons_option, list_any}
 use Rattle.std.proofs.lemmas.List.{length-append, map-append}
 use Rattle.std.proofs.lemmas.List.Elements.{filter_map-append}
-use Rattle.widl_idl.specs.declared.spot.Spot.{Spot}
+use Rattle.widl_idl.specs.declared.violation.Violation.{Violation}
 use Rattle.widl_idl.specs.declared.tree.arguments.Argument.{Argument}
 use Rattle.widl_idl.specs.declared.tree.members.Member.{Member}
 use Rattle.widl_idl.specs.MergedMembers.{operation_in, operations_in}
 use Rattle.widl_names.proofs.PlainLists.{mapped_more}
 use Rattle.widl_valid.specs.WrittenLists.{has_ellipsis}
-use Rattle.widl_idl.specs.Least.{LeastWhere, Somewhere, lesser}
+use Rattle.widl_idl.specs.First.{FirstWhere, Somewhere, earlier}
 use Rattle.widl_idl.specs.PlainTrees.{PlainArgument, PlainDefinition, PlainMember, PlainOperation, argument_of, arguments_of, member_of, members_of}
 use Rattle.widl_idl.specs.PlainTypes.{PlainAttribute}
-use Rattle.widl_idl.proofs.Order.{least_same}
-use Rattle.widl_idl.proofs.Somewhere.{least_flat, one_item, somewhere_both, somewhere_one}
+use Rattle.widl_idl.proofs.Order.{first_same}
+use Rattle.widl_idl.proofs.Somewhere.{first_flat, one_item, somewhere_both, somewhere_one}
 use Rattle.widl_overload.specs.DefinitionRules.{AnnotatesNoType, IsAnnotation, attributes_of_no_type, has_early_ellipsis, is_variadic, members_written}
 
-abbrev OfMember : PlainMember → Spot → Type 0
+abbrev OfMember : PlainMember → Violation → Type 0
 OfMember m s = Somewhere IsAnnotation (attributes_of_no_type m.attributes m.kind) s
 
 abbrev member_lists : PlainMember → List (List PlainAttribute)
 member_lists m = attributes_of_no_type m.attributes m.kind ∷ []
 
-to_list : (members : List PlainMember) (s : Spot) → Somewhere OfMember members s → Somewhere (λ (m : PlainMember). Somewhere (Somewhere IsAnnotation) (member_lists m)) members s
+to_list : (members : List PlainMember) (s : Violation) → Somewhere OfMember members s → Somewhere (λ (m : PlainMember). Somewhere (Somewhere IsAnnotation) (member_lists m)) members s
 to_list members s h = record { item = h.item; listed = h.listed; breaks = record { item = attributes_of_no_type h.item.attributes h.item.kind; listed = (0, omega arith, refl); breaks = h.breaks } }
 
-from_list : (members : List PlainMember) (s : Spot) → Somewhere (λ (m : PlainMember). Somewhere (Somewhere IsAnnotation) (member_lists m)) members s → Somewhere OfMember members s
+from_list : (members : List PlainMember) (s : Violation) → Somewhere (λ (m : PlainMember). Somewhere (Somewhere IsAnnotation) (member_lists m)) members s → Somewhere OfMember members s
 from_list members s h = record { item = h.item; listed = h.listed; breaks = one_item (Somewhere IsAnnotation) (attributes_of_no_type h.item.attributes h.item.kind) s h.breaks }
 
 -- the least of a definition is the lesser of its own and that of its members
-pub definition_annotated : (d : PlainDefinition) (attributes : List PlainAttribute) (members : List PlainMember) (own inner found : Option Spot) → attributes ≡ d.attributes → members ≡ members_written d.kind → LeastWhere (Somewhere IsAnnotation attributes) own → LeastWhere (Somewhere OfMember members) inner → found ≡ lesser own inner → LeastWhere (AnnotatesNoType d) found
+pub definition_annotated : (d : PlainDefinition) (attributes : List PlainAttribute) (members : List PlainMember) (own inner found : Option Violation) → attributes ≡ d.attributes → members ≡ members_written d.kind → FirstWhere (Somewhere IsAnnotation attributes) own → FirstWhere (Somewhere OfMember members) inner → found ≡ earlier own inner → FirstWhere (AnnotatesNoType d) found
 definition_annotated d attributes members own inner found same are o i e =
-    let of_members : LeastWhere (Somewhere OfMember (members_written d.kind)) inner = subst (λ ms. LeastWhere (Somewhere OfMember ms) inner) are i in
-    let lists : LeastWhere (Somewhere (λ (m : PlainMember). Somewhere (Somewhere IsAnnotation) (member_lists m)) (members_written d.kind)) inner =
-    least_same (Somewhere OfMember (members_written d.kind)) (Somewhere (λ (m : PlainMember). Somewhere (Somewhere IsAnnotation) (member_lists m)) (members_written d.kind)) inner (to_list (members_written d.kind)) (from_list (members_written d.kind)) of_members in
-    subst (LeastWhere (AnnotatesNoType d)) (sym e)
+    let of_members : FirstWhere (Somewhere OfMember (members_written d.kind)) inner = subst (λ ms. FirstWhere (Somewhere OfMember ms) inner) are i in
+    let lists : FirstWhere (Somewhere (λ (m : PlainMember). Somewhere (Somewhere IsAnnotation) (member_lists m)) (members_written d.kind)) inner =
+    first_same (Somewhere OfMember (members_written d.kind)) (Somewhere (λ (m : PlainMember). Somewhere (Somewhere IsAnnotation) (member_lists m)) (members_written d.kind)) inner (to_list (members_written d.kind)) (from_list (members_written d.kind)) of_members in
+    subst (FirstWhere (AnnotatesNoType d)) (sym e)
     (somewhere_both (Somewhere IsAnnotation) (d.attributes ∷ []) (flat_map member_lists (members_written d.kind)) own inner
-    (somewhere_one (Somewhere IsAnnotation) d.attributes own (subst (λ xs. LeastWhere (Somewhere IsAnnotation xs) own) same o))
-    (least_flat (Somewhere IsAnnotation) member_lists (members_written d.kind) inner lists))
+    (somewhere_one (Somewhere IsAnnotation) d.attributes own (subst (λ xs. FirstWhere (Somewhere IsAnnotation xs) own) same o))
+    (first_flat (Somewhere IsAnnotation) member_lists (members_written d.kind) inner lists))
 
 -- whether an argument other than the last has an ellipsis, where the last is known
 early_last : (xs : List PlainArgument) (last : PlainArgument) → has_early_ellipsis (xs ++ last ∷ []) ≡ list_any (λ (a : PlainArgument). is_variadic a.kind) xs

@@ -2,8 +2,8 @@
 use Rattle.std.proofs.Common.{◌≡◌, inl, ◌++◌, Bool, true, false, cond, List, [], Contains, Option, None, Some, option_map, arith, refl, sym, ap, subst, ◌∙◌}
 use Rattle.std.specs.Prelude.{option_to_list}
 use Rattle.widl_text.specs.declared.place.Place.{Place}
-use Rattle.widl_idl.specs.declared.spot.Spot.{Spot}
-use Rattle.widl_idl.specs.Least.{Before, ComesBefore, is_before, spot_at, lesser, LeastWhere, Somewhere}
+use Rattle.widl_idl.specs.declared.violation.Violation.{Violation}
+use Rattle.widl_idl.specs.First.{Before, ComesBefore, is_before, violation_at, earlier, FirstWhere, Somewhere}
 use Rattle.widl_idl.specs.PlainTypes.{PlainAttribute}
 use Rattle.widl_idl.specs.Resolution.{Annotation, ClampTo, EnforceRange, LegacyNullToEmptyString, Note}
 use Rattle.widl_idl.specs.WrittenTypes.{annotation_of, note_of}
@@ -15,22 +15,22 @@ use Rattle.widl_valid.specs.EarliestNotes.{AreEarliest, NotedAt, later_of, said_
 
 pub none_earliest : (said : RangeAnnotations) → said.clamp ≡ None → said.enforce ≡ None → AreEarliest said []
 none_earliest said clamp enforce = record {
-  clamp = subst (LeastWhere (Somewhere (NotedAt ClampTo) [])) (sym clamp) (somewhere_none (NotedAt ClampTo));
-  enforce = subst (LeastWhere (Somewhere (NotedAt EnforceRange) [])) (sym enforce) (somewhere_none (NotedAt EnforceRange));
+  clamp = subst (FirstWhere (Somewhere (NotedAt ClampTo) [])) (sym clamp) (somewhere_none (NotedAt ClampTo));
+  enforce = subst (FirstWhere (Somewhere (NotedAt EnforceRange) [])) (sym enforce) (somewhere_none (NotedAt EnforceRange));
 }
 
-pub both_earliest : (first second both : RangeAnnotations) (notes more : List Note) → both.clamp ≡ lesser first.clamp second.clamp → both.enforce ≡ lesser first.enforce second.enforce → AreEarliest first notes → AreEarliest second more → AreEarliest both (notes ++ more)
+pub both_earliest : (first second both : RangeAnnotations) (notes more : List Note) → both.clamp ≡ earlier first.clamp second.clamp → both.enforce ≡ earlier first.enforce second.enforce → AreEarliest first notes → AreEarliest second more → AreEarliest both (notes ++ more)
 both_earliest first second both notes more clamp enforce a b = record {
-  clamp = subst (LeastWhere (Somewhere (NotedAt ClampTo) (notes ++ more))) (sym clamp) (somewhere_both (NotedAt ClampTo) notes more first.clamp second.clamp a.clamp b.clamp);
-  enforce = subst (LeastWhere (Somewhere (NotedAt EnforceRange) (notes ++ more))) (sym enforce) (somewhere_both (NotedAt EnforceRange) notes more first.enforce second.enforce a.enforce b.enforce);
+  clamp = subst (FirstWhere (Somewhere (NotedAt ClampTo) (notes ++ more))) (sym clamp) (somewhere_both (NotedAt ClampTo) notes more first.clamp second.clamp a.clamp b.clamp);
+  enforce = subst (FirstWhere (Somewhere (NotedAt EnforceRange) (notes ++ more))) (sym enforce) (somewhere_both (NotedAt EnforceRange) notes more first.enforce second.enforce a.enforce b.enforce);
 }
 
 -- one annotation of the kind
-here : (annotation : Annotation) (n : Note) → n.annotation ≡ annotation → LeastWhere (NotedAt annotation n) (Some (spot_at n.at))
-here annotation n is = record { holds = (is, refl); first = λ t h before. not_before_same (spot_at n.at) t h.1 before }
+here : (annotation : Annotation) (n : Note) → n.annotation ≡ annotation → FirstWhere (NotedAt annotation n) (Some (violation_at n.at))
+here annotation n is = record { holds = (is, refl); first = λ t h before. not_before_same (violation_at n.at) t h.1 before }
 
 -- one annotation of another kind
-elsewhere : (annotation : Annotation) (n : Note) → (n.annotation ≡ annotation → ⊥) → LeastWhere (NotedAt annotation n) None
+elsewhere : (annotation : Annotation) (n : Note) → (n.annotation ≡ annotation → ⊥) → FirstWhere (NotedAt annotation n) None
 elsewhere annotation n other = λ t h. other h.0
 
 abbrev noted : Annotation → Place → Note
@@ -39,12 +39,12 @@ noted annotation at = record { annotation = annotation; at = at }
 said_earliest : (annotation : Option Annotation) (at : Place) → AreEarliest (said_by annotation at) (option_to_list (option_map (λ a. noted a at) annotation))
 said_earliest None at = record { clamp = somewhere_none (NotedAt ClampTo); enforce = somewhere_none (NotedAt EnforceRange) }
 said_earliest (Some ClampTo) at = record {
-  clamp = somewhere_one (NotedAt ClampTo) (noted ClampTo at) (Some (spot_at at)) (here ClampTo (noted ClampTo at) refl);
+  clamp = somewhere_one (NotedAt ClampTo) (noted ClampTo at) (Some (violation_at at)) (here ClampTo (noted ClampTo at) refl);
   enforce = somewhere_one (NotedAt EnforceRange) (noted ClampTo at) None (elsewhere EnforceRange (noted ClampTo at) (λ e. absurd (cc)));
 }
 said_earliest (Some EnforceRange) at = record {
   clamp = somewhere_one (NotedAt ClampTo) (noted EnforceRange at) None (elsewhere ClampTo (noted EnforceRange at) (λ e. absurd (cc)));
-  enforce = somewhere_one (NotedAt EnforceRange) (noted EnforceRange at) (Some (spot_at at)) (here EnforceRange (noted EnforceRange at) refl);
+  enforce = somewhere_one (NotedAt EnforceRange) (noted EnforceRange at) (Some (violation_at at)) (here EnforceRange (noted EnforceRange at) refl);
 }
 said_earliest (Some LegacyNullToEmptyString) at = record {
   clamp = somewhere_one (NotedAt ClampTo) (noted LegacyNullToEmptyString at) None (elsewhere ClampTo (noted LegacyNullToEmptyString at) (λ e. absurd (cc)));
@@ -71,14 +71,14 @@ module _ (p q c e : Place) (clamp : Before p c → ⊥) (enforce : Before q e �
   later_ordered before = by_tests (is_before p q) (is_before c e) refl refl before
 
 module _ (notes : List Note) where
-  among : (annotation : Annotation) (n : Note) → Contains notes n → n.annotation ≡ annotation → Somewhere (NotedAt annotation) notes (spot_at n.at)
+  among : (annotation : Annotation) (n : Note) → Contains notes n → n.annotation ≡ annotation → Somewhere (NotedAt annotation) notes (violation_at n.at)
   among annotation n listed is = record { item = n; listed = listed; breaks = (is, refl) }
 
   -- the later of the two earliest is the least of the later ones
-  both_least : (clamp enforce : Option Spot) → LeastWhere (Somewhere (NotedAt ClampTo) notes) clamp → LeastWhere (Somewhere (NotedAt EnforceRange) notes) enforce → LeastWhere (HasBoth notes) (later_of clamp enforce)
-  both_least None enforce l m = λ t h. l (spot_at h.clamp.at) (among ClampTo h.clamp h.clamp_listed h.clamps)
-  both_least (Some c) None l m = λ t h. m (spot_at h.enforce.at) (among EnforceRange h.enforce h.enforce_listed h.enforces)
-  both_least (Some c) (Some e) l m = record {
+  both_first : (clamp enforce : Option Violation) → FirstWhere (Somewhere (NotedAt ClampTo) notes) clamp → FirstWhere (Somewhere (NotedAt EnforceRange) notes) enforce → FirstWhere (HasBoth notes) (later_of clamp enforce)
+  both_first None enforce l m = λ t h. l (violation_at h.clamp.at) (among ClampTo h.clamp h.clamp_listed h.clamps)
+  both_first (Some c) None l m = λ t h. m (violation_at h.enforce.at) (among EnforceRange h.enforce h.enforce_listed h.enforces)
+  both_first (Some c) (Some e) l m = record {
     holds = record {
       clamp = l.holds.item;
       enforce = m.holds.item;
@@ -86,14 +86,14 @@ module _ (notes : List Note) where
       enforce_listed = m.holds.listed;
       clamps = l.holds.breaks.0;
       enforces = m.holds.breaks.0;
-      at_later = ap (λ (s : Spot). spot_at (later s.at m.holds.item.at)) l.holds.breaks.1 ∙ ap (λ (s : Spot). spot_at (later c.at s.at)) m.holds.breaks.1;
+      at_later = ap (λ (s : Violation). violation_at (later s.at m.holds.item.at)) l.holds.breaks.1 ∙ ap (λ (s : Violation). violation_at (later c.at s.at)) m.holds.breaks.1;
     };
     first = λ t h before.
         later_ordered h.clamp.at h.enforce.at c.at e.at
-        (λ earlier. l.first (spot_at h.clamp.at) (among ClampTo h.clamp h.clamp_listed h.clamps) (inl earlier))
-        (λ earlier. m.first (spot_at h.enforce.at) (among EnforceRange h.enforce h.enforce_listed h.enforces) (inl earlier))
-        (before_alone (later h.clamp.at h.enforce.at) (later c.at e.at) (subst (λ (s : Spot). ComesBefore s (spot_at (later c.at e.at))) (sym h.at_later) before));
+        (λ earlier. l.first (violation_at h.clamp.at) (among ClampTo h.clamp h.clamp_listed h.clamps) (inl earlier))
+        (λ earlier. m.first (violation_at h.enforce.at) (among EnforceRange h.enforce h.enforce_listed h.enforces) (inl earlier))
+        (before_alone (later h.clamp.at h.enforce.at) (later c.at e.at) (subst (λ (s : Violation). ComesBefore s (violation_at (later c.at e.at))) (sym h.at_later) before));
   }
 
-pub later_least : (said : RangeAnnotations) (found : Option Spot) (notes : List Note) → found ≡ later_of said.clamp said.enforce → AreEarliest said notes → LeastWhere (HasBoth notes) found
-later_least said found notes is a = subst (LeastWhere (HasBoth notes)) (sym is) (both_least notes said.clamp said.enforce a.clamp a.enforce)
+pub later_first : (said : RangeAnnotations) (found : Option Violation) (notes : List Note) → found ≡ later_of said.clamp said.enforce → AreEarliest said notes → FirstWhere (HasBoth notes) found
+later_first said found notes is a = subst (FirstWhere (HasBoth notes)) (sym is) (both_first notes said.clamp said.enforce a.clamp a.enforce)

@@ -4,7 +4,7 @@ use Rattle.std.proofs.lemmas.List.Elements.{All-append, All-cons, All-nil}
 use Rattle.std.specs.List.{All}
 use Rattle.widl_idl.specs.Flattened.{flattened_member, flattened_members, unannotated}
 use Rattle.widl_idl.specs.Terms.{TypeTerm, TypeTerms, NullableType, UnionType, no_types, more_types}
-use Rattle.widl_valid.specs.AlikePairs.{IsFlat}
+use Rattle.widl_valid.specs.IndistinguishablePairs.{IsFlat}
 
 mutual
   pub member_flat : (t : TypeTerm) → All IsFlat (flattened_member t)

@@ -4,14 +4,14 @@ pub mod MappedLoops
 pub mod RepeatedTexts
 pub mod ArgumentPlaces
 pub mod DefinitionPlaces
-pub mod NamedSpots
+pub mod NamedViolations
 pub mod Repetitions
 pub mod Counted
 pub mod Returned
 pub mod SecondStringifiers
-pub mod OwnerSpots
-mod AlikeKinds
-mod AlikePairs
+pub mod OwnerViolations
+mod IndistinguishableKinds
+mod IndistinguishablePairs
 mod AnyPair
 mod Closing
 mod NestedSpans
@@ -24,7 +24,7 @@ pub mod TypedefNotes
 pub mod RangeEnds
 pub mod SameSets
 pub mod Valid
-pub mod TypeSpots
-pub mod DefinitionSpots
-pub mod MemberThings
+pub mod TypeViolations
+pub mod DefinitionViolations
+pub mod MemberNodes
 pub mod MemberTypes

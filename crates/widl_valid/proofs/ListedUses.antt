@@ -1,4 +1,4 @@
--- What is listed of a type behind extended attributes, and of the members of a union.
+-- What is listed of a type after extended attributes, and of the members of a union.
 use Rattle.std.proofs.Common.{◌≡◌, refl, ◌++◌, List, [], ◌∷◌, flat_map, Option, sym, ap, subst, ◌∙◌}
 use Rattle.std.proofs.lemmas.List.{append_assoc}
 use Rattle.widl_text.specs.declared.place.Place.{Place}

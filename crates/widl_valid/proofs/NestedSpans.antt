@@ -4,7 +4,7 @@ use Rattle.std.proofs.lemmas.Bool.{cases_lt, ltb-true, lt-ltb, eqb-true, eq-eqb}
 use Rattle.std.proofs.lemmas.Option.{same_Some}
 use Rattle.widl_idl.specs.declared.interface.Iface.{Iface}
 use Rattle.widl_overload.specs.Inheritance.{inherits, is_among, parent_of}
-use Rattle.widl_valid.specs.AlikePairs.{are_related}
+use Rattle.widl_valid.specs.IndistinguishablePairs.{are_related}
 use Rattle.widl_valid.specs.Lineages.{AreNested, TellRelated, span_of, touches}
 use Rattle.widl_valid.specs.declared.lineages.Span.{Span}
 use Rattle.widl_valid.proofs.AnyPair.{or_true}

@@ -9,7 +9,7 @@ use Rattle.widl_idl.specs.PlainTypes.{PlainForm, PlainAnnotated, PlainAttribute,
 use Rattle.widl_idl.specs.Resolution.{Note}
 use Rattle.widl_idl.specs.WrittenTypes.{notes_of, typedefs, written_form, written_type}
 use Rattle.widl_names.specs.TypeUses.{notes_in as own_notes, type_in, typedef_at, typedef_of_form}
-use Rattle.widl_overload.specs.TypeRules.{notes_behind, notes_in}
+use Rattle.widl_overload.specs.TypeRules.{notes_after, notes_in}
 use Rattle.widl_valid.specs.declared.range_ends.RangeEnd.{RangeEnd}
 use Rattle.widl_valid.specs.EarliestNotes.{AreEarliest, notes_from}
 use Rattle.widl_valid.specs.RangeEnds.{AreEnds, EndsAt, IsEndOf, IsNext, Leads}
@@ -46,9 +46,9 @@ module _ (definitions : List PlainDefinition) where
     earliest = earliest;
     same = λ levels.
         let here : levels + end.passed ≡ levels = omega arith in
-        ap (λ n. own_notes t ++ notes_in (notes_behind (typedefs definitions) n) (written_type definitions (type_in t))) here
-        ∙ ap (λ a. own_notes a ++ notes_in (notes_behind (typedefs definitions) levels) (written_type definitions (type_in a))) is
-        ∙ ap (λ l. notes_of attributes ++ l) (notes_under (notes_behind (typedefs definitions) levels) question (written_form definitions (form_term end.form.now)));
+        ap (λ n. own_notes t ++ notes_in (notes_after (typedefs definitions) n) (written_type definitions (type_in t))) here
+        ∙ ap (λ a. own_notes a ++ notes_in (notes_after (typedefs definitions) levels) (written_type definitions (type_in a))) is
+        ∙ ap (λ l. notes_of attributes ++ l) (notes_under (notes_after (typedefs definitions) levels) question (written_form definitions (form_term end.form.now)));
   }
 
   leads_at_end : (form : PlainForm) (end : RangeEnd) (found : Option PlainAnnotated) → typedef_of_form definitions form ≡ found → IsEndOf definitions found end → LeadsAtEnd definitions form end
@@ -62,18 +62,18 @@ module _ (definitions : List PlainDefinition) where
   }
 
   -- the chain of a type that names a typedef, whose own chain has this end
-  pub ends_behind : (t : PlainAnnotated) (form : PlainForm) (next end : RangeEnd) (attributes : List PlainAttribute) (at inner_at : Place) (question : Option Place) → t ≡ plain_annotated at attributes (plain_type inner_at form question) → IsEndOf definitions (typedef_of_form definitions form) next → end.form ≡ next.form → end.passed ≡ next.passed + 1
+  pub ends_after : (t : PlainAnnotated) (form : PlainForm) (next end : RangeEnd) (attributes : List PlainAttribute) (at inner_at : Place) (question : Option Place) → t ≡ plain_annotated at attributes (plain_type inner_at form question) → IsEndOf definitions (typedef_of_form definitions form) next → end.form ≡ next.form → end.passed ≡ next.passed + 1
       → ((more : List Note) → AreEarliest next.said more → AreEarliest end.said (notes_of attributes ++ more)) → EndsAt definitions t end
-  ends_behind t form next end attributes at inner_at question is behind form_is passed both =
-      let m = leads_at_end form next (typedef_of_form definitions form) refl behind in
+  ends_after t form next end attributes at inner_at question is after form_is passed both =
+      let m = leads_at_end form next (typedef_of_form definitions form) refl after in
       record {
         notes = notes_of attributes ++ m.notes;
         earliest = both m.notes m.earliest;
         same = λ levels.
             let fewer : levels + end.passed ≡ levels + next.passed + 1 = omega arith in
-            ap (λ n. own_notes t ++ notes_in (notes_behind (typedefs definitions) n) (written_type definitions (type_in t))) fewer
-            ∙ ap (λ a. own_notes a ++ notes_in (notes_behind (typedefs definitions) (levels + next.passed + 1)) (written_type definitions (type_in a))) is
-            ∙ ap (λ l. notes_of attributes ++ l) (notes_under (notes_behind (typedefs definitions) (levels + next.passed + 1)) question (written_form definitions form) ∙ m.same levels)
+            ap (λ n. own_notes t ++ notes_in (notes_after (typedefs definitions) n) (written_type definitions (type_in t))) fewer
+            ∙ ap (λ a. own_notes a ++ notes_in (notes_after (typedefs definitions) (levels + next.passed + 1)) (written_type definitions (type_in a))) is
+            ∙ ap (λ l. notes_of attributes ++ l) (notes_under (notes_after (typedefs definitions) (levels + next.passed + 1)) question (written_form definitions form) ∙ m.same levels)
             ∙ sym (append_assoc (notes_of attributes) m.notes (notes_from definitions levels (form_term next.form.now)))
             ∙ ap (λ f. (notes_of attributes ++ m.notes) ++ notes_from definitions levels (form_term f.now)) (sym form_is);
       }

@@ -1,18 +1,18 @@
--- What the overloads that stand before return, and the least spot at which an operation returns the other.
+-- What the overloads that stand before return, and the first violation at which an operation returns the other.
 use Rattle.std.proofs.Common.{◌≡◌, ℕ, ◌+◌, ◌<◌, ◌≤◌, ◌++◌, Bool, true, false, ◌&&◌, ◌||◌, not, List, [], ◌∷◌, length, take, get_or, Option, None, Some, refl, sym, ap, ◌∙◌, append-nil, Bor}
 use Rattle.std.specs.List.{list_any, cons_option}
 use Rattle.std.proofs.Math.Bool.{or-false}
-use Rattle.widl_idl.specs.declared.spot.Spot.{Spot}
+use Rattle.widl_idl.specs.declared.violation.Violation.{Violation}
 use Rattle.widl_idl.specs.declared.tree.members.Member.{Member}
-use Rattle.widl_idl.specs.Least.{AtOne, LeastWhere, lesser}
+use Rattle.widl_idl.specs.First.{AtOne, FirstWhere, earlier}
 use Rattle.widl_idl.specs.MergedMembers.{are_overloads, operation_in, operation_text, operations_in}
 use Rattle.widl_idl.specs.MergingRules.{both_or_none, is_static}
 use Rattle.widl_idl.specs.PlainTypes.{PlainName}
 use Rattle.widl_idl.specs.PlainTrees.{PlainDefinition, PlainMember, PlainMemberKind, PlainOperation, OperationMember, member_of}
-use Rattle.widl_overload.specs.MemberRules.{DiffersInPromise, MixesPromises, are_alike, returns_promise}
-use Rattle.widl_valid.specs.MemberTables.{gives_promise, has_overload, is_overload, listed_members, spot_of_other}
+use Rattle.widl_overload.specs.MemberRules.{DiffersInPromise, MixesPromises, agree_on_promises, returns_promise}
+use Rattle.widl_valid.specs.MemberTables.{gives_promise, has_overload, is_overload, listed_members, violation_of_other}
 use Rattle.widl_valid.proofs.Counted.{operations_push}
-use Rattle.widl_valid.proofs.NamedSpots.{any_push, listed_next, members_end, members_step, named_least, no_members, nowhere}
+use Rattle.widl_valid.proofs.NamedViolations.{any_push, listed_next, members_end, members_step, named_first, no_members, nowhere}
 
 -- a test, split by whether another one holds
 split_by : (t g r : Bool) → ((t && both_or_none g r) || (t && both_or_none (not g) r)) ≡ t
@@ -48,24 +48,24 @@ module _ (definitions : List PlainDefinition) where
   returned_push text static promise operations (OperationMember o) = any_push (returns_alike text static promise) operations o
   returned_push text static promise operations kind = ap (list_any (returns_alike text static promise)) (append-nil operations) ∙ sym (or-false (list_any (returns_alike text static promise) operations))
 
-differs : (all alike other : Bool) → all ≡ (alike || other) → (other && not alike) ≡ true → (all ≡ true) × (alike ≡ false)
+differs : (all indistinguishable other : Bool) → all ≡ (indistinguishable || other) → (other && not indistinguishable) ≡ true → (all ≡ true) × (indistinguishable ≡ false)
 differs all true true e h = absurd (cc)
 differs all true false e h = absurd (cc)
 differs all false true e h = (e, refl)
 differs all false false e h = absurd (cc)
 
-differs_not : (all alike other : Bool) → all ≡ (alike || other) → (other && not alike) ≡ false → all ≡ true → alike ≡ false → ⊥
+differs_not : (all indistinguishable other : Bool) → all ≡ (indistinguishable || other) → (other && not indistinguishable) ≡ false → all ≡ true → indistinguishable ≡ false → ⊥
 differs_not all true other e h a b = absurd (cc)
 differs_not all false true e h a b = absurd (cc)
 differs_not all false false e h a b = absurd (cc)
 
--- what the overloads of the members return is known, and the least spot at which an operation returns the other
-pub record Returned (known : List ℕ → Bool → Bool → Bool) (definitions : List PlainDefinition) (members : List PlainMember) (best : Option Spot) : Type 0 where
+-- what the overloads of the members return is known, and the first violation at which an operation returns the other
+pub record Returned (known : List ℕ → Bool → Bool → Bool) (definitions : List PlainDefinition) (members : List PlainMember) (best : Option Violation) : Type 0 where
   pub names : (text : List ℕ) (static promise : Bool) → known text static promise ≡ list_any (returns_alike definitions text static promise) (operations_in members)
-  pub least : LeastWhere (AtOne (MixesPromises definitions) members) best
+  pub earliest : FirstWhere (AtOne (MixesPromises definitions) members) best
 
 pub nothing_returned : (known : List ℕ → Bool → Bool → Bool) (definitions : List PlainDefinition) → ((text : List ℕ) (static promise : Bool) → known text static promise ≡ false) → Returned known definitions [] None
-nothing_returned known definitions none = record { names = none; least = no_members (MixesPromises definitions) }
+nothing_returned known definitions none = record { names = none; earliest = no_members (MixesPromises definitions) }
 
 module _ (known : List ℕ → Bool → Bool → Bool) (definitions : List PlainDefinition) (before : List PlainMember) (same : (text : List ℕ) (static promise : Bool) → known text static promise ≡ list_any (returns_alike definitions text static promise) (operations_in before)) where
   -- of a named operation
@@ -78,20 +78,20 @@ module _ (known : List ℕ → Bool → Bool → Bool) (definitions : List Plain
       ∙ ap (λ b. b || list_any (returns_alike definitions (operation_text o.name) (is_static o.kind) (not promise)) (operations_in before)) (sym (of_name o n promise is))
       ∙ ap (λ b. known n.text (is_static o.kind) promise || b) (sym (of_name o n (not promise) is))
 
-  other_least : (promise : Bool) (kind : PlainMemberKind) (found : Option Spot) → promise ≡ gives_promise definitions kind → found ≡ spot_of_other known promise kind → LeastWhere (DiffersInPromise definitions before kind) found
-  other_least promise (OperationMember o) found p e =
+  other_first : (promise : Bool) (kind : PlainMemberKind) (found : Option Violation) → promise ≡ gives_promise definitions kind → found ≡ violation_of_other known promise kind → FirstWhere (DiffersInPromise definitions before kind) found
+  other_first promise (OperationMember o) found p e =
       let own = returns_promise definitions o in
       let all = list_any (are_overloads o) (operations_in before) in
-      let alike = list_any (are_alike definitions o) (operations_in before) in
-      named_least (λ name. (all ≡ true) × (alike ≡ false)) (λ text. known text (is_static o.kind) (not own) && not (known text (is_static o.kind) own)) o.name found
+      let indistinguishable = list_any (agree_on_promises definitions o) (operations_in before) in
+      named_first (λ name. (all ≡ true) × (indistinguishable ≡ false)) (λ text. known text (is_static o.kind) (not own) && not (known text (is_static o.kind) own)) o.name found
       (λ n is h. let d = differs all (known n.text (is_static o.kind) own) (known n.text (is_static o.kind) (not own)) (split_known o n own is) h in (d.0, sym (of_name o n own is) ∙ d.1))
       (λ n is h q. differs_not all (known n.text (is_static o.kind) own) (known n.text (is_static o.kind) (not own)) (split_known o n own is) h q.0 (of_name o n own is ∙ q.1))
-      (e ∙ ap (λ b. spot_of_other known b (OperationMember o)) p)
-  other_least promise kind found p e = nowhere (DiffersInPromise definitions before kind) found (λ s h. h) e
+      (e ∙ ap (λ b. violation_of_other known b (OperationMember o)) p)
+  other_first promise kind found p e = nowhere (DiffersInPromise definitions before kind) found (λ s h. h) e
 
 -- one member more
-pub returned_step : (known now_known : List ℕ → Bool → Bool → Bool) (definitions : List PlainDefinition) (members : List (Bor Member)) (i : ℕ) (m : Bor Member) (promise : Bool) (best found now : Option Spot) → i < length members → m ≡ get_or members i m
-    → promise ≡ gives_promise definitions (member_of m.now).kind → found ≡ spot_of_other known promise (member_of m.now).kind → now ≡ lesser best found
+pub returned_step : (known now_known : List ℕ → Bool → Bool → Bool) (definitions : List PlainDefinition) (members : List (Bor Member)) (i : ℕ) (m : Bor Member) (promise : Bool) (best found now : Option Violation) → i < length members → m ≡ get_or members i m
+    → promise ≡ gives_promise definitions (member_of m.now).kind → found ≡ violation_of_other known promise (member_of m.now).kind → now ≡ earlier best found
     → ((text : List ℕ) (static asked : Bool) → now_known text static asked ≡ (known text static asked || (is_overload text static (member_of m.now).kind && both_or_none asked promise)))
     → Returned known definitions (listed_members (take i members)) best → Returned now_known definitions (listed_members (take (i + 1) members)) now
 returned_step known now_known definitions members i m promise best found now below is p f e adds r =
@@ -104,8 +104,8 @@ returned_step known now_known definitions members i m promise best found now bel
           ∙ sym (returned_push definitions text static asked (operations_in before) kind)
           ∙ ap (list_any (returns_alike definitions text static asked)) (sym (operations_push before (member_of m.now)))
           ∙ ap (λ ms. list_any (returns_alike definitions text static asked) (operations_in ms)) (sym (listed_next members i m below is));
-      least = members_step (MixesPromises definitions) members i m best found now below is e (other_least known definitions before r.names promise kind found p f) r.least;
+      earliest = members_step (MixesPromises definitions) members i m best found now below is e (other_first known definitions before r.names promise kind found p f) r.earliest;
     }
 
-pub returned_end : (known : List ℕ → Bool → Bool → Bool) (definitions : List PlainDefinition) (members : List (Bor Member)) (i : ℕ) (best : Option Spot) → length members ≤ i → Returned known definitions (listed_members (take i members)) best → LeastWhere (AtOne (MixesPromises definitions) (listed_members members)) best
-returned_end known definitions members i best past r = members_end (MixesPromises definitions) members i best past r.least
+pub returned_end : (known : List ℕ → Bool → Bool → Bool) (definitions : List PlainDefinition) (members : List (Bor Member)) (i : ℕ) (best : Option Violation) → length members ≤ i → Returned known definitions (listed_members (take i members)) best → FirstWhere (AtOne (MixesPromises definitions) (listed_members members)) best
+returned_end known definitions members i best past r = members_end (MixesPromises definitions) members i best past r.earliest

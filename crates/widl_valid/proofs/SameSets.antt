@@ -2,7 +2,7 @@
 use Rattle.std.proofs.Common.{◌≡◌, List, map, sym, ap, subst, ◌∙◌}
 use Rattle.widl_idl.specs.declared.defs.Defs.{Defs}
 use Rattle.widl_idl.specs.declared.interface.Iface.{Iface}
-use Rattle.widl_idl.specs.declared.spot.Spot.{Spot}
+use Rattle.widl_idl.specs.declared.violation.Violation.{Violation}
 use Rattle.widl_idl.specs.DefinitionTerms.{DefsTerm, DictTerm, defs_term, iface_term}
 use Rattle.widl_idl.specs.Meanings.{definitions_of}
 use Rattle.widl_idl.specs.MergedSets.{MergedSet}
@@ -13,14 +13,14 @@ use Rattle.widl_overload.specs.declared.validity_rule.ValidityRule.TheVariants a
 use Rattle.widl_overload.specs.DefaultRules.{HasNoEmptyDefault, HasOtherDefault}
 use Rattle.widl_overload.specs.Dictionaries.{dictionary_terms}
 use Rattle.widl_overload.specs.DictionaryRules.{BeginsLongChain, HasNameTwice, HoldsItself}
-use Rattle.widl_overload.specs.TypeRules.{HaveAlikePair}
+use Rattle.widl_overload.specs.TypeRules.{HaveIndistinguishablePair}
 use Rattle.widl_overload.specs.Validity.{BreaksRule, BreaksValidity}
 use Rattle.widl_overload.proofs.SameInterfaces.{apart_same}
-use Rattle.widl_overload.proofs.SameOverloads.{alike_overloads_same, early_difference_same}
+use Rattle.widl_overload.proofs.SameOverloads.{indistinguishable_overloads_same, early_difference_same}
 
--- interfaces with the same terms have the same alike pairs
-pair_same : (xs ys : List Iface) → map iface_term xs ≡ map iface_term ys → (types : List TypeTerm) → HaveAlikePair xs types → HaveAlikePair ys types
-pair_same xs ys same types h = record { first = h.first; second = h.second; follows = h.follows; one = h.one; other = h.other; one_is = h.one_is; other_is = h.other_is; alike = sym (apart_same xs ys same h.one h.other) ∙ h.alike }
+-- interfaces with the same terms have the same indistinguishable pairs
+pair_same : (xs ys : List Iface) → map iface_term xs ≡ map iface_term ys → (types : List TypeTerm) → HaveIndistinguishablePair xs types → HaveIndistinguishablePair ys types
+pair_same xs ys same types h = record { first = h.first; second = h.second; follows = h.follows; one = h.one; other = h.other; one_is = h.one_is; other_is = h.other_is; indistinguishable = sym (apart_same xs ys same h.one h.other) ∙ h.indistinguishable }
 
 -- two merged lists with the same terms
 module _ (a b : Defs) (same : defs_term a ≡ defs_term b) where
@@ -30,21 +30,21 @@ module _ (a b : Defs) (same : defs_term a ≡ defs_term b) where
   in_dictionaries : (P : List DictTerm → Type 0) → P (dictionary_terms a) → P (dictionary_terms b)
   in_dictionaries P h = subst (λ (l : DefsTerm). P l.dicts) same h
 
-  rule_same : (definitions : List PlainDefinition) (which : ValidityRule) (s : Spot) → BreaksRule a definitions which s → BreaksRule b definitions which s
-  rule_same definitions rule.AlikeUnionMembers s h = record { item = h.item; listed = h.listed; breaks = ((h.breaks.0.0, pair_same a.ifaces b.ifaces same_ifaces _ h.breaks.0.1), h.breaks.1) }
+  rule_same : (definitions : List PlainDefinition) (which : ValidityRule) (s : Violation) → BreaksRule a definitions which s → BreaksRule b definitions which s
+  rule_same definitions rule.IndistinguishableUnionMembers s h = record { item = h.item; listed = h.listed; breaks = ((h.breaks.0.0, pair_same a.ifaces b.ifaces same_ifaces _ h.breaks.0.1), h.breaks.1) }
   rule_same definitions rule.OtherDefault s h = subst (λ l. HasOtherDefault l definitions s) same h
   rule_same definitions rule.NoEmptyDefault s h = subst (λ l. HasNoEmptyDefault l definitions s) same h
   rule_same definitions rule.RepeatedDictionaryMember s h = in_dictionaries (λ dicts. HasNameTwice dicts s) h
   rule_same definitions rule.DictionaryHoldsItself s h = in_dictionaries (λ dicts. HoldsItself dicts s) h
   rule_same definitions rule.LongDictionaryChain s h = in_dictionaries (λ dicts. BeginsLongChain dicts s) h
-  rule_same definitions rule.AlikeOverloads s h = alike_overloads_same a b same s h
+  rule_same definitions rule.IndistinguishableOverloads s h = indistinguishable_overloads_same a b same s h
   rule_same definitions rule.EarlyDifference s h = early_difference_same a b same s h
   rule_same definitions rule.SecondIterable s h = h
   rule_same definitions rule.HiddenIterationMethod s h = h
   rule_same definitions rule.RepeatedEnumerationValue s h = h
   rule_same definitions rule.RepeatedArgumentName s h = h
-  rule_same definitions rule.ArgumentBehindEllipsis s h = h
-  rule_same definitions rule.RequiredBehindOptional s h = h
+  rule_same definitions rule.ArgumentAfterEllipsis s h = h
+  rule_same definitions rule.RequiredAfterOptional s h = h
   rule_same definitions rule.OtherConstantType s h = h
   rule_same definitions rule.OtherConstantValue s h = h
   rule_same definitions rule.CopiedAttribute s h = h
@@ -69,5 +69,5 @@ module _ (a b : Defs) (same : defs_term a ≡ defs_term b) where
   rule_same definitions rule.MisformedCallbackOperation s h = h
 
 -- two sets of files with the same definitions and lists of the same terms break the same rules
-pub breaks_same : (a b : MergedSet) → definitions_of a.fragments ≡ definitions_of b.fragments → defs_term a.defs ≡ defs_term b.defs → (which : ValidityRule) (s : Spot) → BreaksValidity a which s → BreaksValidity b which s
+pub breaks_same : (a b : MergedSet) → definitions_of a.fragments ≡ definitions_of b.fragments → defs_term a.defs ≡ defs_term b.defs → (which : ValidityRule) (s : Violation) → BreaksValidity a which s → BreaksValidity b which s
 breaks_same a b same terms which s h = subst (λ ds. BreaksRule b.defs ds which s) same (rule_same a.defs b.defs terms (definitions_of a.fragments) which s h)

@@ -1,17 +1,17 @@
--- Whether a stringifier stands before, and the least spot of one that follows another.
+-- Whether a stringifier stands before, and the first violation of one that follows another.
 use Rattle.std.proofs.Common.{◌≡◌, ℕ, ◌+◌, ◌<◌, ◌≤◌, Bool, true, false, ◌||◌, List, [], length, take, get_or, Option, None, Some, is_some, refl, sym, ap, ◌∙◌, Bor}
 use Rattle.widl_text.specs.declared.place.Place.{Place}
-use Rattle.widl_idl.specs.declared.spot.Spot.{Spot}
+use Rattle.widl_idl.specs.declared.violation.Violation.{Violation}
 use Rattle.widl_idl.specs.declared.tree.members.AttributeKind.{AttributeKind}
 use Rattle.widl_idl.specs.declared.tree.members.AttributeKind.TheVariants as attribute_kind
 use Rattle.widl_idl.specs.declared.tree.members.Member.{Member}
-use Rattle.widl_idl.specs.Least.{AtOne, LeastWhere, lesser}
+use Rattle.widl_idl.specs.First.{AtOne, FirstWhere, earlier}
 use Rattle.widl_idl.specs.MergedMembers.{has, is_stringifier, is_stringifier_attribute}
 use Rattle.widl_idl.specs.PlainTrees.{PlainMember, PlainMemberKind, AttributeMember, StringifierMember, member_of}
 use Rattle.widl_idl.proofs.Order.{one_place}
 use Rattle.widl_overload.specs.MemberRules.{AtPlace, IsSecondStringifier, stringifier_place, word_of_attribute}
-use Rattle.widl_valid.specs.MemberTables.{listed_members, spot_behind}
-use Rattle.widl_valid.proofs.NamedSpots.{any_push, listed_next, members_end, members_step, no_members, nowhere}
+use Rattle.widl_valid.specs.MemberTables.{listed_members, violation_after}
+use Rattle.widl_valid.proofs.NamedViolations.{any_push, listed_next, members_end, members_step, no_members, nowhere}
 
 -- a stringifier is what has the word
 attribute_word : (kind : AttributeKind) → is_stringifier_attribute kind ≡ is_some (word_of_attribute kind)
@@ -23,21 +23,21 @@ member_word (StringifierMember at) = refl
 member_word (AttributeMember a) = attribute_word a.kind
 member_word kind = refl
 
-behind_least : (Q : Type 0) (seen : Bool) (place : Option Place) (found : Option Spot) → (seen ≡ true → Q) → (seen ≡ false → Q → ⊥) → found ≡ spot_behind seen place → LeastWhere (λ s. Q × AtPlace place s) found
-behind_least Q seen None found holds fails e = nowhere (λ s. Q × AtPlace None s) found (λ s h. h.1) e
-behind_least Q seen (Some place) found holds fails e = one_place Q place seen found holds fails e
+after_first : (Q : Type 0) (seen : Bool) (place : Option Place) (found : Option Violation) → (seen ≡ true → Q) → (seen ≡ false → Q → ⊥) → found ≡ violation_after seen place → FirstWhere (λ s. Q × AtPlace place s) found
+after_first Q seen None found holds fails e = nowhere (λ s. Q × AtPlace None s) found (λ s h. h.1) e
+after_first Q seen (Some place) found holds fails e = one_place Q place seen found holds fails e
 
--- whether a stringifier is among the members, and the least spot of one that follows another
-pub record Seen (seen : Bool) (members : List PlainMember) (best : Option Spot) : Type 0 where
+-- whether a stringifier is among the members, and the first violation of one that follows another
+pub record Seen (seen : Bool) (members : List PlainMember) (best : Option Violation) : Type 0 where
   pub one : seen ≡ has is_stringifier members
-  pub least : LeastWhere (AtOne IsSecondStringifier members) best
+  pub earliest : FirstWhere (AtOne IsSecondStringifier members) best
 
 pub nothing_seen : Seen false [] None
-nothing_seen = record { one = refl; least = no_members IsSecondStringifier }
+nothing_seen = record { one = refl; earliest = no_members IsSecondStringifier }
 
 -- one member more
-pub seen_step : (seen now_seen : Bool) (members : List (Bor Member)) (i : ℕ) (m : Bor Member) (place : Option Place) (best found now : Option Spot) → i < length members → m ≡ get_or members i m
-    → place ≡ stringifier_place (member_of m.now).kind → found ≡ spot_behind seen place → now ≡ lesser best found → now_seen ≡ (seen || is_some place)
+pub seen_step : (seen now_seen : Bool) (members : List (Bor Member)) (i : ℕ) (m : Bor Member) (place : Option Place) (best found now : Option Violation) → i < length members → m ≡ get_or members i m
+    → place ≡ stringifier_place (member_of m.now).kind → found ≡ violation_after seen place → now ≡ earlier best found → now_seen ≡ (seen || is_some place)
     → Seen seen (listed_members (take i members)) best → Seen now_seen (listed_members (take (i + 1) members)) now
 seen_step seen now_seen members i m place best found now below is p f e adds r =
     let before = listed_members (take i members) in
@@ -46,9 +46,9 @@ seen_step seen now_seen members i m place best found now below is p f e adds r =
     record {
       one = adds ∙ ap (λ b. b || is_some place) r.one ∙ ap (λ at. has is_stringifier before || is_some at) p ∙ ap (λ b. has is_stringifier before || b) (sym (member_word kind))
           ∙ sym (any_push (λ (x : PlainMember). is_stringifier x.kind) before (member_of m.now)) ∙ ap (has is_stringifier) (sym (listed_next members i m below is));
-      least = members_step IsSecondStringifier members i m best found now below is e
-          (behind_least (has is_stringifier before ≡ true) seen (stringifier_place kind) found (λ h. sym one ∙ h) (λ h q. absurd (cc)) (f ∙ ap (spot_behind seen) p)) r.least;
+      earliest = members_step IsSecondStringifier members i m best found now below is e
+          (after_first (has is_stringifier before ≡ true) seen (stringifier_place kind) found (λ h. sym one ∙ h) (λ h q. absurd (cc)) (f ∙ ap (violation_after seen) p)) r.earliest;
     }
 
-pub seen_end : (seen : Bool) (members : List (Bor Member)) (i : ℕ) (best : Option Spot) → length members ≤ i → Seen seen (listed_members (take i members)) best → LeastWhere (AtOne IsSecondStringifier (listed_members members)) best
-seen_end seen members i best past r = members_end IsSecondStringifier members i best past r.least
+pub seen_end : (seen : Bool) (members : List (Bor Member)) (i : ℕ) (best : Option Violation) → length members ≤ i → Seen seen (listed_members (take i members)) best → FirstWhere (AtOne IsSecondStringifier (listed_members members)) best
+seen_end seen members i best past r = members_end IsSecondStringifier members i best past r.earliest

@@ -9,7 +9,7 @@ use Rattle.std.specs.List.{All, list_any}
 use Rattle.std.specs.List.Sorted.{IsNonDecreasingBy, IsPermutation}
 use Rattle.widl_idl.specs.declared.interface.Iface.{Iface}
 use Rattle.widl_names.proofs.PlainLists.{mapped_more}
-use Rattle.widl_valid.specs.AlikePairs.{any_pair, are_related}
+use Rattle.widl_valid.specs.IndistinguishablePairs.{any_pair, are_related}
 use Rattle.widl_valid.specs.Lineages.{TellRelated, begins_within, span_of, touches}
 use Rattle.widl_valid.specs.declared.lineages.Span.{Span}
 use Rattle.widl_valid.proofs.AnyPair.{pair_found, pair_none}

@@ -16,7 +16,7 @@ use Rattle.widl_idl.specs.Resolution.{Note, WrittenType, TypedefName, NullableOf
 use Rattle.widl_idl.specs.WrittenTypes.{container_of, note_of, notes_of, nullable_if, type_of_kind, type_of_meaning, typedef_in_tree, typedefs, written_form, written_type}
 use Rattle.widl_names.specs.TypeUses.{notes_in as own_notes, type_in, typedef_of_form, typedef_type}
 use Rattle.widl_names.proofs.KindNumbers.{typedef_numbered}
-use Rattle.widl_overload.specs.TypeRules.{notes_behind, notes_in, notes_of_typedef}
+use Rattle.widl_overload.specs.TypeRules.{notes_after, notes_in, notes_of_typedef}
 use Rattle.widl_valid.specs.declared.range_annotations.RangeAnnotations.{RangeAnnotations}
 use Rattle.widl_valid.specs.EarliestNotes.{AreEarliest, Gathered, notes_from}
 
@@ -24,7 +24,7 @@ some_is : {A : Type 0} {a b : A} → Some a ≡ Some b → a ≡ b
 some_is e = (cc)
 
 -- where no level is left nothing is gathered
-pub none_at_zero : (definitions : List PlainDefinition) (w : WrittenType) → notes_in (notes_behind (typedefs definitions) zero) w ≡ []
+pub none_at_zero : (definitions : List PlainDefinition) (w : WrittenType) → notes_in (notes_after (typedefs definitions) zero) w ≡ []
 none_at_zero definitions (TypedefName n) = refl
 none_at_zero definitions (NullableOf t) = none_at_zero definitions t
 none_at_zero definitions w = refl
@@ -36,7 +36,7 @@ notes_under inner (Some p) w = refl
 
 module _ (definitions : List PlainDefinition) (levels : ℕ) where
   abbrev inner : ℕ → List Note
-  inner = notes_behind (typedefs definitions) levels
+  inner = notes_after (typedefs definitions) levels
 
   of_kind : (kind : Kind) (n : ℕ) → same_kind kinds.Typedef kind ≡ false → notes_in inner (type_of_kind kind n) ≡ []
   of_kind kinds.Typedef n other = absurd (cc)
@@ -77,19 +77,19 @@ module _ (definitions : List PlainDefinition) (levels : ℕ) where
   in_tree : (f : ℕ → List Note) (a : PlainAnnotated) → notes_of_typedef f (Some (typedef_in_tree definitions a)) ≡ own_notes a ++ notes_in f (written_type definitions (type_in a))
   in_tree f (plain_annotated at attributes t) = refl
 
-  -- the name of a typedef leads to its annotations, and to those behind it
-  named_notes : (name : PlainName) (ty : PlainAnnotated) → typedef_type (meant definitions name.text) ≡ Some ty → notes_from definitions (suc levels) (PlainNamed name) ≡ own_notes ty ++ notes_in (notes_behind (typedefs definitions) levels) (written_type definitions (type_in ty))
+  -- the name of a typedef leads to its annotations, and to those after it
+  named_notes : (name : PlainName) (ty : PlainAnnotated) → typedef_type (meant definitions name.text) ≡ Some ty → notes_from definitions (suc levels) (PlainNamed name) ≡ own_notes ty ++ notes_in (notes_after (typedefs definitions) levels) (written_type definitions (type_in ty))
   named_notes name ty is =
       let t = typedef_of (meant definitions name.text) ty is in
       let a = meant_at name.text (TypedefDefinition t.0) t.1 in
-      let f : ℕ → List Note = notes_behind (typedefs definitions) levels in
-      ap (λ m. notes_in (notes_behind (typedefs definitions) (suc levels)) (type_of_meaning definitions m (meant_kind definitions name.text))) a.1
-      ∙ ap (λ k. notes_in (notes_behind (typedefs definitions) (suc levels)) (type_of_meaning definitions (Some a.0) (option_map kind_of k))) t.1
+      let f : ℕ → List Note = notes_after (typedefs definitions) levels in
+      ap (λ m. notes_in (notes_after (typedefs definitions) (suc levels)) (type_of_meaning definitions m (meant_kind definitions name.text))) a.1
+      ∙ ap (λ k. notes_in (notes_after (typedefs definitions) (suc levels)) (type_of_meaning definitions (Some a.0) (option_map kind_of k))) t.1
       ∙ ap (notes_of_typedef f) (typedef_numbered definitions a.0 t.0 a.2)
       ∙ in_tree f t.0.ty
       ∙ ap (λ a. own_notes a ++ notes_in f (written_type definitions (type_in a))) t.2
 
-  pub typed_notes : (form : PlainForm) (ty : PlainAnnotated) → typedef_of_form definitions form ≡ Some ty → notes_from definitions (suc levels) form ≡ own_notes ty ++ notes_in (notes_behind (typedefs definitions) levels) (written_type definitions (type_in ty))
+  pub typed_notes : (form : PlainForm) (ty : PlainAnnotated) → typedef_of_form definitions form ≡ Some ty → notes_from definitions (suc levels) form ≡ own_notes ty ++ notes_in (notes_after (typedefs definitions) levels) (written_type definitions (type_in ty))
   typed_notes (PlainNamed name) ty is = named_notes name ty is
   typed_notes form ty is = absurd (cc)
 
@@ -111,7 +111,7 @@ gathered_all whole rest said g none = subst (AreEarliest said) (sym (g.parts ∙
 
 -- the annotations of a type
 pub whole_notes : (definitions : List PlainDefinition) (levels : ℕ) (outer own : List PlainAttribute) (t : PlainType) (form : PlainForm) (at : Place) (question : Option Place) → t ≡ plain_type at form question
-    → (notes_of outer ++ notes_of own) ++ notes_from definitions levels form ≡ notes_of (outer ++ own) ++ notes_in (notes_behind (typedefs definitions) levels) (written_type definitions t)
+    → (notes_of outer ++ notes_of own) ++ notes_from definitions levels form ≡ notes_of (outer ++ own) ++ notes_in (notes_after (typedefs definitions) levels) (written_type definitions t)
 whole_notes definitions levels outer own t form at question is =
     ap (λ l. l ++ notes_from definitions levels form) (sym (filter_map-append note_of outer own))
-    ∙ ap (λ l. notes_of (outer ++ own) ++ l) (sym (notes_under (notes_behind (typedefs definitions) levels) question (written_form definitions form)) ∙ ap (λ u. notes_in (notes_behind (typedefs definitions) levels) (written_type definitions u)) (sym is))
+    ∙ ap (λ l. notes_of (outer ++ own) ++ l) (sym (notes_under (notes_after (typedefs definitions) levels) question (written_form definitions form)) ∙ ap (λ u. notes_in (notes_after (typedefs definitions) levels) (written_type definitions u)) (sym is))

@@ -1,8 +1,8 @@
 -- Where no refusal is found, no rule of validity is broken.
 use Rattle.std.proofs.Common.{◌≡◌, ℕ, Contains, Option, None, arith, refl, subst}
 use Rattle.widl_idl.specs.declared.refusal.Refusal.{Refusal}
-use Rattle.widl_idl.specs.declared.spot.Spot.{Spot}
-use Rattle.widl_idl.specs.LeastRefusal.{refusal_at}
+use Rattle.widl_idl.specs.declared.violation.Violation.{Violation}
+use Rattle.widl_idl.specs.FirstRefusal.{refusal_at}
 use Rattle.widl_idl.specs.MergedSets.{MergedSet}
 use Rattle.widl_overload.specs.declared.validity_rule.ValidityRule.{ValidityRule}
 use Rattle.widl_overload.specs.declared.validity_rule.ValidityRule.TheVariants as rule
@@ -17,8 +17,8 @@ each_listed rule.CallbackInterfaceOperations = (2, omega arith, refl)
 each_listed rule.NamelessOperation = (3, omega arith, refl)
 each_listed rule.MisformedCallbackOperation = (4, omega arith, refl)
 each_listed rule.RepeatedArgumentName = (5, omega arith, refl)
-each_listed rule.ArgumentBehindEllipsis = (6, omega arith, refl)
-each_listed rule.RequiredBehindOptional = (7, omega arith, refl)
+each_listed rule.ArgumentAfterEllipsis = (6, omega arith, refl)
+each_listed rule.RequiredAfterOptional = (7, omega arith, refl)
 each_listed rule.TooManyArguments = (8, omega arith, refl)
 each_listed rule.OtherConstantType = (9, omega arith, refl)
 each_listed rule.CopiedAttribute = (10, omega arith, refl)
@@ -30,7 +30,7 @@ each_listed rule.AnnotatedUnionMember = (15, omega arith, refl)
 each_listed rule.NullableDictionary = (16, omega arith, refl)
 each_listed rule.MisplacedAnnotation = (17, omega arith, refl)
 each_listed rule.ClampAndEnforceRange = (18, omega arith, refl)
-each_listed rule.AlikeUnionMembers = (19, omega arith, refl)
+each_listed rule.IndistinguishableUnionMembers = (19, omega arith, refl)
 each_listed rule.OtherConstantValue = (20, omega arith, refl)
 each_listed rule.WritablePromise = (21, omega arith, refl)
 each_listed rule.Stringifiers = (22, omega arith, refl)
@@ -45,7 +45,7 @@ each_listed rule.DictionaryHoldsItself = (30, omega arith, refl)
 each_listed rule.LongDictionaryChain = (31, omega arith, refl)
 each_listed rule.SecondIterable = (32, omega arith, refl)
 each_listed rule.HiddenIterationMethod = (33, omega arith, refl)
-each_listed rule.AlikeOverloads = (34, omega arith, refl)
+each_listed rule.IndistinguishableOverloads = (34, omega arith, refl)
 each_listed rule.EarlyDifference = (35, omega arith, refl)
 
 pub valid_of : (set : MergedSet) (found : Option Refusal) → found ≡ None → IsInvalidity set found → IsValid set

@@ -6,11 +6,11 @@ pub mod Owners
 pub mod Invalidity
 pub mod TypeRuleList
 pub mod Misplaced
-pub mod AlikeKinds
-pub mod AlikePairs
+pub mod IndistinguishableKinds
+pub mod IndistinguishablePairs
 pub mod Lineages
 pub mod MemberTypes
 pub mod EarliestNotes
 pub mod RangeEnds
-pub mod TypeSpots
-pub mod DefinitionSpots
+pub mod TypeViolations
+pub mod DefinitionViolations

@@ -1,8 +1,8 @@
--- The spans of interfaces: where each stands in an order in which those that inherit from an interface follow it, and where the last of these stands.
+-- For proofs alone. The spans of interfaces: where each stands in an order in which those that inherit from an interface follow it, and where the last of these stands.
 use Rattle.std.specs.Prelude.{◌≡◌, ◌⊎◌, ℕ, ◌<◌, ◌≤◌, Bool, ◌&&◌, nat_lt, List, length, map, slice_get, ⊤, Option, None, Some, Vec, option_and_then}
 use Rattle.widl_idl.specs.declared.interface.Iface.{Iface}
 use Rattle.widl_overload.specs.Inheritance.{parent_of}
-use Rattle.widl_valid.specs.AlikePairs.{are_related}
+use Rattle.widl_valid.specs.IndistinguishablePairs.{are_related}
 use Rattle.widl_valid.specs.declared.lineages.Span.{Span}
 
 -- the span of an interface, if it has one
@@ -22,7 +22,7 @@ pub record TellRelated (ifaces : List Iface) (spans : List (Option Span)) : Type
   pub filled : (n : ℕ) (s : Span) → span_of spans n ≡ Some s → s.start < s.past
   pub tells : (m n : ℕ) (s t : Span) → span_of spans m ≡ Some s → span_of spans n ≡ Some t → are_related ifaces m n ≡ touches s t
 
--- a parent has a span, and those of its heirs lie in it behind its first place; what begins in a span behind its first place is an heir
+-- a parent has a span, and those of its heirs lie in it after its first place; what begins in a span after its first place is an heir
 pub record AreNested (ifaces : List Iface) (spans : List (Option Span)) : Type 0 where
   pub bounded : (a : ℕ) (s : Span) → span_of spans a ≡ Some s → (s.start < s.past) × (s.past ≤ length ifaces)
   pub single : (a b : ℕ) (s t : Span) → span_of spans a ≡ Some s → span_of spans b ≡ Some t → s.start ≡ t.start → a ≡ b

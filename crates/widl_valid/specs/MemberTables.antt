@@ -1,12 +1,12 @@
--- What the rules on the members of one owner keep of the members that stand before.
+-- For proofs alone. What the rules on the members of one owner keep of the members that stand before.
 use Rattle.std.specs.Prelude.{ℕ, Bool, true, false, ◌&&◌, ◌||◌, not, nat_eq, List, map, Option, None, Some, if◌then◌else◌, bytes_eq, unwrap_or}
 use Rattle.std.specs.Borrow.{Bor}
 use Rattle.indexmap.specs.IndexMap.{IndexMap, get_by}
 use Rattle.indexmap.specs.IndexSet.{IndexSet, contains_by}
 use Rattle.widl_text.specs.declared.place.Place.{Place}
-use Rattle.widl_idl.specs.declared.spot.Spot.{Spot}
+use Rattle.widl_idl.specs.declared.violation.Violation.{Violation}
 use Rattle.widl_idl.specs.declared.tree.members.Member.{Member}
-use Rattle.widl_idl.specs.Least.{spot_at}
+use Rattle.widl_idl.specs.First.{violation_at}
 use Rattle.widl_idl.specs.MergedMembers.{operation_text}
 use Rattle.widl_idl.specs.MergingRules.{both_or_none, is_static}
 use Rattle.widl_idl.specs.PlainTypes.{PlainName}
@@ -18,9 +18,9 @@ abbrev pub listed_members : List (Bor Member) → List PlainMember
 listed_members members = map (λ m. member_of m.now) members
 
 -- the place of a name whose text passes the test
-abbrev pub spot_of_name : Option PlainName → (List ℕ → Bool) → Option Spot
-spot_of_name None test = None
-spot_of_name (Some name) test = if test name.text then Some (spot_at name.at) else None
+abbrev pub violation_of_name : Option PlainName → (List ℕ → Bool) → Option Violation
+violation_of_name None test = None
+violation_of_name (Some name) test = if test name.text then Some (violation_at name.at) else None
 
 -- whether a set has a text
 abbrev pub has_text : {S : Type 0} → IndexSet (Bor (List ℕ)) S → List ℕ → Bool
@@ -56,10 +56,10 @@ is_constructor (ConstructorMember c) = true
 is_constructor kind = false
 
 -- the place of a member that follows 64 overloads, by these counts
-abbrev pub spot_past_limit : (List ℕ → Bool → ℕ) → ℕ → PlainMemberKind → Option Spot
-spot_past_limit overloads constructors (OperationMember o) = spot_of_name o.name (λ text. nat_eq (overloads text (is_static o.kind)) 64)
-spot_past_limit overloads constructors (ConstructorMember c) = if nat_eq constructors 64 then Some (spot_at c.at) else None
-spot_past_limit overloads constructors kind = None
+abbrev pub violation_past_limit : (List ℕ → Bool → ℕ) → ℕ → PlainMemberKind → Option Violation
+violation_past_limit overloads constructors (OperationMember o) = violation_of_name o.name (λ text. nat_eq (overloads text (is_static o.kind)) 64)
+violation_past_limit overloads constructors (ConstructorMember c) = if nat_eq constructors 64 then Some (violation_at c.at) else None
+violation_past_limit overloads constructors kind = None
 
 -- whether a member is an operation that returns a promise
 abbrev pub gives_promise : List PlainDefinition → PlainMemberKind → Bool
@@ -71,11 +71,11 @@ abbrev pub has_returned : {S : Type 0} → IndexSet (Bor (List ℕ)) S → Index
 has_returned regular_promises fixed_promises regular_others fixed_others text static promise = if promise then has_name regular_promises fixed_promises text static else has_name regular_others fixed_others text static
 
 -- the place of the name of an operation that returns a promise, or none, where all that are known of its name don't
-abbrev pub spot_of_other : (List ℕ → Bool → Bool → Bool) → Bool → PlainMemberKind → Option Spot
-spot_of_other known promise (OperationMember o) = spot_of_name o.name (λ text. known text (is_static o.kind) (not promise) && not (known text (is_static o.kind) promise))
-spot_of_other known promise kind = None
+abbrev pub violation_of_other : (List ℕ → Bool → Bool → Bool) → Bool → PlainMemberKind → Option Violation
+violation_of_other known promise (OperationMember o) = violation_of_name o.name (λ text. known text (is_static o.kind) (not promise) && not (known text (is_static o.kind) promise))
+violation_of_other known promise kind = None
 
--- the spot at a place, where there is one and something stands before
-abbrev pub spot_behind : Bool → Option Place → Option Spot
-spot_behind seen None = None
-spot_behind seen (Some place) = if seen then Some (spot_at place) else None
+-- the violation at a place, where there is one and something stands before
+abbrev pub violation_after : Bool → Option Place → Option Violation
+violation_after seen None = None
+violation_after seen (Some place) = if seen then Some (violation_at place) else None

@@ -1,11 +1,11 @@
--- Which annotations stand on chains of typedefs, and where these end, as the program keeps it.
+-- For proofs alone. Which annotations stand on chains of typedefs, and where these end, as the program keeps it.
 use Rattle.std.specs.Prelude.{◌≡◌, ℕ, ◌+◌, ◌-◌, ◌<◌, List, [], ◌++◌, length, Option, None, Some, slice_get}
 use Rattle.widl_idl.specs.PlainTrees.{PlainDefinition}
 use Rattle.widl_idl.specs.PlainTypes.{PlainAnnotated, PlainForm, form_term}
 use Rattle.widl_idl.specs.Resolution.{Note}
 use Rattle.widl_idl.specs.WrittenTypes.{typedefs, written_type}
 use Rattle.widl_names.specs.TypeUses.{notes_in as own_notes, type_in, typedef_at}
-use Rattle.widl_overload.specs.TypeRules.{notes_behind, notes_in}
+use Rattle.widl_overload.specs.TypeRules.{notes_after, notes_in}
 use Rattle.widl_valid.specs.declared.range_ends.RangeEnd.{RangeEnd}
 use Rattle.widl_valid.specs.EarliestNotes.{AreEarliest, notes_from}
 
@@ -13,7 +13,7 @@ use Rattle.widl_valid.specs.EarliestNotes.{AreEarliest, notes_from}
 pub record EndsAt (definitions : List PlainDefinition) (t : PlainAnnotated) (end : RangeEnd) : Type 0 where
   pub notes : List Note
   pub earliest : AreEarliest end.said notes
-  pub same : (levels : ℕ) → own_notes t ++ notes_in (notes_behind (typedefs definitions) (levels + end.passed)) (written_type definitions (type_in t)) ≡ notes ++ notes_from definitions levels (form_term end.form.now)
+  pub same : (levels : ℕ) → own_notes t ++ notes_in (notes_after (typedefs definitions) (levels + end.passed)) (written_type definitions (type_in t)) ≡ notes ++ notes_from definitions levels (form_term end.form.now)
 
 -- the end of the chain that begins with the type, if there is one
 abbrev pub IsEndOf : List PlainDefinition → Option PlainAnnotated → RangeEnd → Type 0

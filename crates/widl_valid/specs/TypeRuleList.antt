@@ -1,6 +1,6 @@
--- The rules that read a type by itself, and what is sought among the types that a type is flattened to.
+-- For proofs alone. The rules that read a type by itself, and what is sought among the types that a type is flattened to.
 use Rattle.std.specs.Prelude.{Bool}
-use Rattle.widl_idl.specs.declared.spot.Spot.{Spot}
+use Rattle.widl_idl.specs.declared.violation.Violation.{Violation}
 use Rattle.widl_idl.specs.Terms.{TypeTerm}
 use Rattle.widl_overload.specs.Distinct.{is_dictionary}
 use Rattle.widl_overload.specs.TypeRules.{HasMisplacedAnnotation, HaveNullableAndDictionary, HaveSeveralNullable, IsAnnotatedMember, IsCopiedAttribute, IsNullableDictionary, IsOtherConstantType, IsUndefinedInside, IsWronglyNullable, OfUnion, is_copied}
@@ -11,7 +11,7 @@ use Rattle.widl_valid.specs.declared.type_rules.TypeRule.TheVariants as rule
 use Rattle.widl_valid.specs.UsesListed.{UseTerm}
 
 -- a type, with what it means, breaks the rule
-abbrev pub BreaksTypeRule : TypeRule → UseTerm → Spot → Type 0
+abbrev pub BreaksTypeRule : TypeRule → UseTerm → Violation → Type 0
 BreaksTypeRule rule.OtherConstantType r s = IsOtherConstantType r.meaning r.written s
 BreaksTypeRule rule.CopiedAttribute r s = IsCopiedAttribute r.meaning r.written s
 BreaksTypeRule rule.UndefinedInside r s = IsUndefinedInside r.written s

@@ -1,4 +1,4 @@
--- The types that are written in a set of files, and what they mean, as the program lists them.
+-- For proofs alone. The types that are written in a set of files, and what they mean, as the program lists them.
 use Rattle.std.specs.Prelude.{◌≡◌, List, ◌++◌, map}
 use Rattle.widl_idl.specs.PlainTrees.{PlainDefinition}
 use Rattle.widl_idl.specs.PlainTypes.{attribute_of, type_of}
@@ -15,7 +15,7 @@ use_of u = record { role = u.role; attributes = map attribute_of u.outer.now ++ 
 abbrev pub uses_listed : List TypeUse → List plain.TypeUse
 uses_listed uses = map use_of uses
 
--- the types are put behind those that were there
+-- the types are put after those that were there
 abbrev pub Adds : List TypeUse → List TypeUse → List plain.TypeUse → Type 0
 Adds old new uses = uses_listed new ≡ uses_listed old ++ uses
 

@@ -15,7 +15,7 @@ use widl_overload::Accepted;
 /// Why a set of files is not accepted.
 #[derive(Clone, Copy, Debug, PartialEq, Eq, Error)]
 pub enum ValidFault {
-    /// It breaks a rule of validity, and this is the least refusal.
+    /// It breaks a rule of validity, and this is the first refusal.
     #[error("the files break a rule of validity")]
     Refused(Refusal),
     /// There was no memory for the work, or its types mean more than the work on them allows. It says
@@ -39,7 +39,7 @@ impl From<AllocError> for ValidFault {
 ///
 /// # Errors
 ///
-/// `Refused` with the least refusal where a rule of validity is broken. `Memory` where there is no
+/// `Refused` with the first refusal where a rule of validity is broken. `Memory` where there is no
 /// memory, and where [`find_invalid`] fails.
 pub fn validate(alloc: Global, merged: Merged) -> Result<Accepted, ValidFault>
     ensures same { IfOk result (λ accepted. accepted ≡ merged) }

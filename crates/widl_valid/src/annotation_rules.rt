@@ -1,7 +1,7 @@
 //! The rules on annotated types: which types an annotation applies to, and which may not be annotated.
 
 ghost use Rattle.std.specs.Prelude.{◌≡◌, map};
-ghost use Rattle.widl_idl.specs.Least.{LeastWhere, Somewhere};
+ghost use Rattle.widl_idl.specs.First.{FirstWhere, Somewhere};
 ghost use Rattle.widl_idl.specs.PlainTypes.{attribute_of};
 ghost use Rattle.widl_idl.specs.Terms.{type_term};
 ghost use Rattle.widl_idl.specs.WrittenTypes.{annotation_of};
@@ -11,15 +11,15 @@ ghost use Rattle.widl_valid.specs.UsesListed.{resolved_use};
 
 use crate::resolved_uses::ResolvedUse;
 use widl_idl::tree::ExtendedAttribute;
-use widl_idl::{IdlType, Mode, Spot, TextKind, lesser_spot};
+use widl_idl::{IdlType, Mode, TextKind, Violation, earlier_violation};
 use widl_overload::TypeRole;
 
-// The place of a union's member type that is annotated, also by a typedef.
-pub fn annotated_member(ty: &ResolvedUse<'_>) -> Option<Spot>
-    ensures { LeastWhere (IsAnnotatedMember (resolved_use ty.now).meaning (resolved_use ty.now).written) result }
+/// The place of a union's member type that is annotated, also by a typedef.
+pub fn annotated_member(ty: &ResolvedUse<'_>) -> Option<Violation>
+    ensures { FirstWhere (IsAnnotatedMember (resolved_use ty.now).meaning (resolved_use ty.now).written) result }
 {
     if is_member_role(ty.written.role) && is_annotated(&ty.meaning) {
-        Some(Spot::at(ty.written.first))
+        Some(Violation::at(ty.written.first))
     } else {
         None
     }
@@ -31,7 +31,7 @@ fn is_member_role(role: TypeRole) -> bool
     matches!(role, TypeRole::UnionMember)
 }
 
-// Whether a type, with or without a `?`, is annotated.
+/// Whether a type, with or without a `?`, is annotated.
 fn is_annotated(t: &IdlType) -> bool
     ensures { result ≡ is_annotated (type_term t.now) }
 {
@@ -43,17 +43,17 @@ fn is_annotated(t: &IdlType) -> bool
     }
 }
 
-// The least place of an annotation's name that doesn't apply to the type behind it.
-pub fn misplaced_annotation(ty: &ResolvedUse<'_>) -> Option<Spot>
-    ensures { LeastWhere (HasMisplacedAnnotation (resolved_use ty.now).meaning (resolved_use ty.now).written) result }
+/// The first place of an annotation's name that doesn't apply to the type after it.
+pub fn misplaced_annotation(ty: &ResolvedUse<'_>) -> Option<Violation>
+    ensures { FirstWhere (HasMisplacedAnnotation (resolved_use ty.now).meaning (resolved_use ty.now).written) result }
 {
     let inner = without_nullable(&ty.meaning);
     let outer = first_misplaced(inner, ty.written.outer);
     let own = first_misplaced(inner, ty.written.own);
-    lesser_spot(outer, own)
+    earlier_violation(outer, own)
 }
 
-// The type without its `?`s.
+/// The type without its `?`s.
 fn without_nullable<'t>(t: &'t IdlType) -> &'t IdlType
     ensures { type_term result.now ≡ without_nullable (type_term t.now) }
 {
@@ -63,30 +63,30 @@ fn without_nullable<'t>(t: &'t IdlType) -> &'t IdlType
     }
 }
 
-// The least place among these extended attributes of an annotation that doesn't apply to a type without
-// its `?`s.
-fn first_misplaced(inner: &IdlType, attributes: &[ExtendedAttribute]) -> Option<Spot>
-    ensures { LeastWhere (Somewhere (IsMisplacedOn (type_term inner.now)) (map attribute_of attributes.now)) result }
+/// The first place among these extended attributes of an annotation that doesn't apply to a type without
+/// its `?`s.
+fn first_misplaced(inner: &IdlType, attributes: &[ExtendedAttribute]) -> Option<Violation>
+    ensures { FirstWhere (Somewhere (IsMisplacedOn (type_term inner.now)) (map attribute_of attributes.now)) result }
 {
     let mut best = None;
     for attribute in attributes {
         let found = misplaced(inner, attribute);
-        best = lesser_spot(best, found);
+        best = earlier_violation(best, found);
     }
     best
 }
 
-fn misplaced(inner: &IdlType, attribute: &ExtendedAttribute) -> Option<Spot>
-    ensures { LeastWhere (IsMisplacedOn (type_term inner.now) (attribute_of attribute.now)) result }
+fn misplaced(inner: &IdlType, attribute: &ExtendedAttribute) -> Option<Violation>
+    ensures { FirstWhere (IsMisplacedOn (type_term inner.now) (attribute_of attribute.now)) result }
 {
     if is_misplaced(inner, attribute.name.text.as_str()) {
-        Some(Spot::at(attribute.name.at))
+        Some(Violation::at(attribute.name.at))
     } else {
         None
     }
 }
 
-// Whether the extended attribute of this name is an annotation that doesn't apply to a type.
+/// Whether the extended attribute of this name is an annotation that doesn't apply to a type.
 fn is_misplaced(t: &IdlType, name: &str) -> bool
     ensures { result ≡ is_misplaced (type_term t.now) (annotation_of name.now) }
 {

@@ -25,7 +25,7 @@ pub fn list_arguments<'a>(
     Ok(lists)
 }
 
-// Adds the lists of a definition.
+/// Adds the lists of a definition.
 fn add_definition<'a>(
     lists: &mut Vec<&'a [Argument]>,
     kind: &'a DefinitionKind,
@@ -47,7 +47,7 @@ fn add_definition<'a>(
     }
 }
 
-// Adds the lists of members.
+/// Adds the lists of members.
 fn add_members<'a>(lists: &mut Vec<&'a [Argument]>, members: &'a [Member]) -> Result<(), AllocError>
     ensures { OnOk result (listed_arguments lists.new.items ≡ listed_arguments lists.old.items ++ lists_in_members (members_of members.now)) }
 {
@@ -57,7 +57,7 @@ fn add_members<'a>(lists: &mut Vec<&'a [Argument]>, members: &'a [Member]) -> Re
     Ok(())
 }
 
-// Adds the list of a member, if it has one.
+/// Adds the list of a member, if it has one.
 fn add_member<'a>(lists: &mut Vec<&'a [Argument]>, kind: &'a MemberKind) -> Result<(), AllocError>
     ensures { OnOk result (listed_arguments lists.new.items ≡ listed_arguments lists.old.items ++ lists_in_member (member_kind_of kind.now)) }
 {
@@ -74,7 +74,7 @@ fn add_member<'a>(lists: &mut Vec<&'a [Argument]>, kind: &'a MemberKind) -> Resu
     }
 }
 
-// Adds a list, if there is one.
+/// Adds a list, if there is one.
 fn add_optional_list<'a>(
     lists: &mut Vec<&'a [Argument]>,
     arguments: &'a Option<Arguments>,

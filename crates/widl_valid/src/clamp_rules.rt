@@ -7,7 +7,7 @@
 
 ghost use Rattle.std.specs.Prelude.{◌≡◌, ◌<◌, ◌+◌, IfOk, OnOk, length, map};
 ghost use Rattle.widl_idl.specs.declared.kind.Kind.TheVariants as kinds;
-ghost use Rattle.widl_idl.specs.Least.{LeastWhere, Somewhere};
+ghost use Rattle.widl_idl.specs.First.{FirstWhere, Somewhere};
 ghost use Rattle.widl_idl.specs.Meanings.{kind_of, same_kind};
 ghost use Rattle.widl_idl.specs.PlainTrees.{definition_kind_of, plain_definitions};
 ghost use Rattle.widl_idl.specs.PlainTypes.{form_term};
@@ -23,7 +23,7 @@ use crate::range_ends::{RangeEnd, kept_end, range_ends};
 use crate::resolved_uses::ResolvedUse;
 use std::alloc::{AllocError, Global};
 use widl_idl::tree::{DefinitionKind, TypeForm, WrittenType};
-use widl_idl::{Spot, lesser_spot};
+use widl_idl::{Violation, earlier_violation};
 use widl_names::{Meanings, number_named, typedef_at};
 
 /// Where the chains of typedefs end. It is made once for all types.
@@ -51,7 +51,7 @@ impl<'a> TypedefChains<'a> {
     }
 }
 
-/// The least place at which a type has `[Clamp]` and `[EnforceRange]`, which is the name that stands
+/// The first place at which a type has `[Clamp]` and `[EnforceRange]`, which is the name that stands
 /// later.
 ///
 /// `steps` counts down with each end of a chain of typedefs that is looked up, each byte of a name that
@@ -65,36 +65,36 @@ pub fn first_clamp_and_enforce<'a>(
     chains: &TypedefChains<'a>,
     steps: &mut usize,
     uses: &[ResolvedUse<'a>],
-) -> Result<Option<Spot>, AllocError>
+) -> Result<Option<Violation>, AllocError>
     requires { AreChains (plain_definitions meanings.now) chains.now.ends.items chains.now.levels }
-    ensures { IfOk result (λ found. LeastWhere (Somewhere (λ (r : UseTerm). HasClampAndEnforceRange (plain_definitions meanings.now) r.written) (map resolved_use uses.now)) found) }
+    ensures { IfOk result (λ found. FirstWhere (Somewhere (λ (r : UseTerm). HasClampAndEnforceRange (plain_definitions meanings.now) r.written) (map resolved_use uses.now)) found) }
 {
     let mut best = None;
     for ty in uses {
         let found = clamp_and_enforce(meanings, chains, steps, ty)?;
-        best = lesser_spot(best, found);
+        best = earlier_violation(best, found);
     }
     Ok(best)
 }
 
-// The least place at which this type has both.
+/// The first place at which this type has both.
 fn clamp_and_enforce<'a>(
     meanings: &Meanings<'_, 'a>,
     chains: &TypedefChains<'a>,
     steps: &mut usize,
     ty: &ResolvedUse<'a>,
-) -> Result<Option<Spot>, AllocError>
+) -> Result<Option<Violation>, AllocError>
     requires { AreChains (plain_definitions meanings.now) chains.now.ends.items chains.now.levels }
-    ensures { IfOk result (λ found. LeastWhere (HasClampAndEnforceRange (plain_definitions meanings.now) (resolved_use ty.now).written) found) }
+    ensures { IfOk result (λ found. FirstWhere (HasClampAndEnforceRange (plain_definitions meanings.now) (resolved_use ty.now).written) found) }
 {
     let outer = RangeAnnotations::of(ty.written.outer);
     let own = RangeAnnotations::of(ty.written.own);
     let ends = chains.ends.as_slice();
-    let behind = annotations_behind(meanings, ends, steps, chains.levels, ty.written.ty)?;
-    Ok(outer.followed_by(own).followed_by(behind).later())
+    let after = annotations_after(meanings, ends, steps, chains.levels, ty.written.ty)?;
+    Ok(outer.followed_by(own).followed_by(after).later())
 }
 
-// How many typedefs there are.
+/// How many typedefs there are.
 fn count_typedefs(meanings: &Meanings<'_, '_>) -> usize
     ensures { result ≡ length (typedefs (plain_definitions meanings.now)) }
 {
@@ -114,8 +114,8 @@ fn is_typedef(definition: &DefinitionKind) -> bool
     matches!(definition, DefinitionKind::Typedef(_))
 }
 
-// The annotations of the typedefs that a type leads to, of which so many may be followed.
-fn annotations_behind<'a>(
+/// The annotations of the typedefs that a type leads to, of which so many may be followed.
+fn annotations_after<'a>(
     meanings: &Meanings<'_, 'a>,
     ends: &[Option<RangeEnd<'a>>],
     steps: &mut usize,
@@ -137,7 +137,7 @@ fn annotations_behind<'a>(
     Ok(said)
 }
 
-// The end of the chain of the typedef that a form names, where so many may still be followed.
+/// The end of the chain of the typedef that a form names, where so many may still be followed.
 fn next_end<'a>(
     meanings: &Meanings<'_, 'a>,
     ends: &[Option<RangeEnd<'a>>],
@@ -157,8 +157,8 @@ fn next_end<'a>(
     }
 }
 
-// The end of the chain of the definition with this number, if it is a typedef: the kept one, or its type
-// alone where so few typedefs may be followed that the kept one is too far away.
+/// The end of the chain of the definition with this number, if it is a typedef: the kept one, or its type
+/// alone where so few typedefs may be followed that the kept one is too far away.
 fn end_within<'a>(
     meanings: &Meanings<'_, 'a>,
     ends: &[Option<RangeEnd<'a>>],
@@ -180,7 +180,7 @@ fn end_within<'a>(
     }
 }
 
-// The type of the definition with this number as the end of a chain, if it is a typedef.
+/// The type of the definition with this number as the end of a chain, if it is a typedef.
 fn first_end<'a>(
     meanings: &Meanings<'_, 'a>,
     steps: &mut usize,
@@ -197,7 +197,7 @@ fn first_end<'a>(
     }
 }
 
-// Counts down by what a step costs.
+/// Counts down by what a step costs.
 fn spend(steps: &mut usize, cost: usize) -> Result<(), AllocError>
     ensures { OnOk result (steps.new + cost ≡ steps.old) }
 {
@@ -208,7 +208,7 @@ fn spend(steps: &mut usize, cost: usize) -> Result<(), AllocError>
     Ok(())
 }
 
-// What it costs to look at a form: 1, and the length of its name.
+/// What it costs to look at a form: 1, and the length of its name.
 fn form_size(form: &TypeForm) -> usize {
     match form {
         TypeForm::Named(name) => name.text.len().saturating_add(1),

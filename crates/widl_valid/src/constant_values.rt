@@ -1,40 +1,40 @@
 //! The values of constants: whether one is of its type, and in its range.
 
 ghost use Rattle.std.specs.Prelude.{◌≡◌, IfOk};
-ghost use Rattle.widl_idl.specs.Least.{LeastWhere};
+ghost use Rattle.widl_idl.specs.First.{FirstWhere};
 ghost use Rattle.widl_idl.specs.PlainTrees.{ConstantMember, constant_of, plain_definitions};
 ghost use Rattle.widl_idl.specs.PlainTypes.{value_of};
 ghost use Rattle.widl_idl.specs.Terms.{type_term};
-ghost use Rattle.widl_idl.specs.Things.{MemberThing};
+ghost use Rattle.widl_idl.specs.Nodes.{MemberNode};
 ghost use Rattle.widl_overload.specs.Ranges.{greatest_value, is_in_range, least_value};
 ghost use Rattle.widl_overload.specs.TypeRules.{HasOtherValue, takes_value};
 
 use std::alloc::{AllocError, Global};
 use widl_idl::tree::{Constant, LiteralValue};
-use widl_idl::{IdlType, IntKind, Spot};
+use widl_idl::{IdlType, IntKind, Violation};
 use widl_names::Resolver;
 use widl_text::integer_of;
 
-// The place of a constant's value that is not of its type, or not in its range.
-//
-// Its errors are those of `Resolver::resolve`.
+/// The place of a constant's value that is not of its type, or not in its range.
+///
+/// Its errors are those of `Resolver::resolve`.
 pub fn other_constant_value<'a>(
     alloc: Global,
     resolver: &Resolver<'_, '_, 'a>,
     steps: &mut usize,
     constant: &'a Constant,
-) -> Result<Option<Spot>, AllocError>
-    ensures { IfOk result (λ found. LeastWhere (HasOtherValue (plain_definitions resolver.now) (MemberThing (ConstantMember (constant_of constant.now)))) found) }
+) -> Result<Option<Violation>, AllocError>
+    ensures { IfOk result (λ found. FirstWhere (HasOtherValue (plain_definitions resolver.now) (MemberNode (ConstantMember (constant_of constant.now)))) found) }
 {
     let ty = resolver.resolve_alone(alloc, steps, &constant.ty)?;
     if takes_value(&ty, &constant.value.value) {
         Ok(None)
     } else {
-        Ok(Some(Spot::at(constant.value.at)))
+        Ok(Some(Violation::at(constant.value.at)))
     }
 }
 
-// Whether a constant of the type may have the value.
+/// Whether a constant of the type may have the value.
 fn takes_value(t: &IdlType, value: &LiteralValue) -> bool
     ensures { result ≡ takes_value (type_term t.now) (value_of value.now) }
 {
@@ -48,7 +48,7 @@ fn takes_value(t: &IdlType, value: &LiteralValue) -> bool
     }
 }
 
-// Whether an integer type has the value.
+/// Whether an integer type has the value.
 fn is_in_range(kind: IntKind, value: i128) -> bool
     ensures { result ≡ is_in_range kind value }
 {

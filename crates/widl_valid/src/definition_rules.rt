@@ -2,7 +2,7 @@
 
 ghost use Rattle.std.specs.Prelude.{◌≡◌, map, is_some, length, IfOk};
 ghost use Rattle.std.specs.List.{list_any};
-ghost use Rattle.widl_idl.specs.Least.{AtOne, LeastWhere, Somewhere};
+ghost use Rattle.widl_idl.specs.First.{AtOne, FirstWhere, Somewhere};
 ghost use Rattle.widl_idl.specs.MergedMembers.{operation_in, operations_in};
 ghost use Rattle.widl_idl.specs.PlainTrees.{argument_kind_of, arguments_of, definition_kind_of, definition_of, enumeration_value_of, member_kind_of, member_of, members_of};
 ghost use Rattle.widl_idl.specs.PlainTypes.{attribute_of};
@@ -17,9 +17,9 @@ use widl_idl::tree::{
     Argument, ArgumentKind, Definition, DefinitionKind, EnumerationValue, ExtendedAttribute,
     Member, MemberKind,
 };
-use widl_idl::{Spot, lesser_spot};
+use widl_idl::{Violation, earlier_violation};
 
-/// The least place of a value of a definition, if it is an enumeration, that is an earlier value of it too.
+/// The first place of a value of a definition, if it is an enumeration, that is an earlier value of it too.
 ///
 /// # Errors
 ///
@@ -27,8 +27,8 @@ use widl_idl::{Spot, lesser_spot};
 pub fn first_repeated_value(
     alloc: Global,
     kind: &DefinitionKind,
-) -> Result<Option<Spot>, AllocError>
-    ensures { IfOk result (λ found. LeastWhere (HasValueTwice (definition_kind_of kind.now)) found) }
+) -> Result<Option<Violation>, AllocError>
+    ensures { IfOk result (λ found. FirstWhere (HasValueTwice (definition_kind_of kind.now)) found) }
 {
     match kind {
         DefinitionKind::Enumeration(enumeration) => {
@@ -38,43 +38,46 @@ pub fn first_repeated_value(
     }
 }
 
-// The same among values.
-fn repeated_among(alloc: Global, values: &[EnumerationValue]) -> Result<Option<Spot>, AllocError>
-    ensures { IfOk result (λ found. LeastWhere (AtOne RepeatsValue (map enumeration_value_of values.now)) found) }
+/// The same among values.
+fn repeated_among(
+    alloc: Global,
+    values: &[EnumerationValue],
+) -> Result<Option<Violation>, AllocError>
+    ensures { IfOk result (λ found. FirstWhere (AtOne RepeatsValue (map enumeration_value_of values.now)) found) }
 {
     let mut known = IndexSet::new(alloc);
     let mut best = None;
     for value in values {
         let found = note_text(&mut known, value.text.as_str(), value.at)?;
-        best = lesser_spot(best, found);
+        best = earlier_violation(best, found);
     }
     Ok(best)
 }
 
-/// The least place of the name of an annotation of types that stands before what is no type: a definition
+/// The first place of the name of an annotation of types that stands before what is no type: a definition
 /// or one of its members.
-pub fn first_annotation_of_no_type(definition: &Definition) -> Option<Spot>
-    ensures { LeastWhere (AnnotatesNoType (definition_of definition.now)) result }
+pub fn first_annotation_of_no_type(definition: &Definition) -> Option<Violation>
+    ensures { FirstWhere (AnnotatesNoType (definition_of definition.now)) result }
 {
     let own = first_annotation(definition.attributes.as_slice());
     let inner = annotation_in_members(members_written(&definition.kind));
-    lesser_spot(own, inner)
+    earlier_violation(own, inner)
 }
 
-// The same before members.
-fn annotation_in_members(members: &[Member]) -> Option<Spot>
-    ensures { LeastWhere (Somewhere (λ m. Somewhere IsAnnotation (attributes_of_no_type m.attributes m.kind)) (members_of members.now)) result }
+/// The same before members.
+fn annotation_in_members(members: &[Member]) -> Option<Violation>
+    ensures { FirstWhere (Somewhere (λ m. Somewhere IsAnnotation (attributes_of_no_type m.attributes m.kind)) (members_of members.now)) result }
 {
     let mut best = None;
     for member in members {
         let found = first_annotation(attributes_of_no_type(member));
-        best = lesser_spot(best, found);
+        best = earlier_violation(best, found);
     }
     best
 }
 
-// The extended attributes before a member that belong to no type: what stands before an attribute
-// belongs to its type.
+/// The extended attributes before a member that belong to no type: what stands before an attribute
+/// belongs to its type.
 fn attributes_of_no_type(member: &Member) -> &[ExtendedAttribute]
     ensures { map attribute_of result.now ≡ attributes_of_no_type (map attribute_of member.now.attributes) (member_kind_of member.now.kind) }
 {
@@ -84,24 +87,24 @@ fn attributes_of_no_type(member: &Member) -> &[ExtendedAttribute]
     }
 }
 
-// The least place of the name of an annotation among extended attributes.
-fn first_annotation(attributes: &[ExtendedAttribute]) -> Option<Spot>
-    ensures { LeastWhere (Somewhere IsAnnotation (map attribute_of attributes.now)) result }
+/// The first place of the name of an annotation among extended attributes.
+fn first_annotation(attributes: &[ExtendedAttribute]) -> Option<Violation>
+    ensures { FirstWhere (Somewhere IsAnnotation (map attribute_of attributes.now)) result }
 {
     let mut best = None;
     for attribute in attributes {
         let found = annotation_at(attribute);
-        best = lesser_spot(best, found);
+        best = earlier_violation(best, found);
     }
     best
 }
 
-// The place of the name of an extended attribute, if it is an annotation.
-fn annotation_at(attribute: &ExtendedAttribute) -> Option<Spot>
-    ensures { LeastWhere (IsAnnotation (attribute_of attribute.now)) result }
+/// The place of the name of an extended attribute, if it is an annotation.
+fn annotation_at(attribute: &ExtendedAttribute) -> Option<Violation>
+    ensures { FirstWhere (IsAnnotation (attribute_of attribute.now)) result }
 {
     if is_annotation(attribute.name.text.as_str()) {
-        Some(Spot::at(attribute.name.at))
+        Some(Violation::at(attribute.name.at))
     } else {
         None
     }
@@ -114,15 +117,15 @@ fn is_annotation(text: &str) -> bool
 }
 
 /// The place of the name of a definition, if it is a callback interface that hasn't exactly one operation.
-pub fn other_than_one_operation(kind: &DefinitionKind) -> Option<Spot>
-    ensures { LeastWhere (HasOtherThanOne (definition_kind_of kind.now)) result }
+pub fn other_than_one_operation(kind: &DefinitionKind) -> Option<Violation>
+    ensures { FirstWhere (HasOtherThanOne (definition_kind_of kind.now)) result }
 {
     match kind {
         DefinitionKind::CallbackInterface(callback) => {
             if count_operations(callback.members.as_slice()) == 1 {
                 None
             } else {
-                Some(Spot::at(callback.name.at))
+                Some(Violation::at(callback.name.at))
             }
         }
         _ => None,
@@ -150,32 +153,32 @@ fn is_operation(kind: &MemberKind) -> bool
     }
 }
 
-/// The least place of the `(` of an operation without a name in a definition.
-pub fn first_nameless_operation(kind: &DefinitionKind) -> Option<Spot>
-    ensures { LeastWhere (HasNameless (definition_kind_of kind.now)) result }
+/// The first place of the `(` of an operation without a name in a definition.
+pub fn first_nameless_operation(kind: &DefinitionKind) -> Option<Violation>
+    ensures { FirstWhere (HasNameless (definition_kind_of kind.now)) result }
 {
     nameless_in(members_written(kind))
 }
 
-// The same among members.
-fn nameless_in(members: &[Member]) -> Option<Spot>
-    ensures { LeastWhere (Somewhere (λ m. IsNameless m.kind) (members_of members.now)) result }
+/// The same among members.
+fn nameless_in(members: &[Member]) -> Option<Violation>
+    ensures { FirstWhere (Somewhere (λ m. IsNameless m.kind) (members_of members.now)) result }
 {
     let mut best = None;
     for member in members {
         let found = nameless_operation(&member.kind);
-        best = lesser_spot(best, found);
+        best = earlier_violation(best, found);
     }
     best
 }
 
-// The place of the `(` of an operation that has no name.
-fn nameless_operation(kind: &MemberKind) -> Option<Spot>
-    ensures { LeastWhere (IsNameless (member_kind_of kind.now)) result }
+/// The place of the `(` of an operation that has no name.
+fn nameless_operation(kind: &MemberKind) -> Option<Violation>
+    ensures { FirstWhere (IsNameless (member_kind_of kind.now)) result }
 {
     match kind {
         MemberKind::Operation(operation) => if operation.name.is_none() {
-            Some(Spot::at(operation.open))
+            Some(Violation::at(operation.open))
         } else {
             None
         },
@@ -183,10 +186,10 @@ fn nameless_operation(kind: &MemberKind) -> Option<Spot>
     }
 }
 
-/// The least place of the `(` of an operation that has no name, or an ellipsis in a place other than the
+/// The first place of the `(` of an operation that has no name, or an ellipsis in a place other than the
 /// last, in a definition that is a callback interface.
-pub fn first_misformed_operation(kind: &DefinitionKind) -> Option<Spot>
-    ensures { LeastWhere (HasMisformed (definition_kind_of kind.now)) result }
+pub fn first_misformed_operation(kind: &DefinitionKind) -> Option<Violation>
+    ensures { FirstWhere (HasMisformed (definition_kind_of kind.now)) result }
 {
     match kind {
         DefinitionKind::CallbackInterface(callback) => misformed_in(callback.members.as_slice()),
@@ -194,26 +197,26 @@ pub fn first_misformed_operation(kind: &DefinitionKind) -> Option<Spot>
     }
 }
 
-// The same among members.
-fn misformed_in(members: &[Member]) -> Option<Spot>
-    ensures { LeastWhere (Somewhere (λ m. IsMisformed m.kind) (members_of members.now)) result }
+/// The same among members.
+fn misformed_in(members: &[Member]) -> Option<Violation>
+    ensures { FirstWhere (Somewhere (λ m. IsMisformed m.kind) (members_of members.now)) result }
 {
     let mut best = None;
     for member in members {
         let found = misformed_operation(&member.kind);
-        best = lesser_spot(best, found);
+        best = earlier_violation(best, found);
     }
     best
 }
 
-// The same of one member.
-fn misformed_operation(kind: &MemberKind) -> Option<Spot>
-    ensures { LeastWhere (IsMisformed (member_kind_of kind.now)) result }
+/// The same of one member.
+fn misformed_operation(kind: &MemberKind) -> Option<Violation>
+    ensures { FirstWhere (IsMisformed (member_kind_of kind.now)) result }
 {
     match kind {
         MemberKind::Operation(operation) => {
             if operation.name.is_none() || has_early_ellipsis(operation.arguments.as_slice()) {
-                Some(Spot::at(operation.open))
+                Some(Violation::at(operation.open))
             } else {
                 None
             }
@@ -222,7 +225,7 @@ fn misformed_operation(kind: &MemberKind) -> Option<Spot>
     }
 }
 
-// Whether an argument other than the last has an ellipsis.
+/// Whether an argument other than the last has an ellipsis.
 fn has_early_ellipsis(arguments: &[Argument]) -> bool
     ensures { result ≡ has_early_ellipsis (arguments_of arguments.now) }
 {
@@ -247,7 +250,7 @@ fn is_variadic(kind: &ArgumentKind) -> bool
     }
 }
 
-// The members that stand in a definition.
+/// The members that stand in a definition.
 fn members_written(kind: &DefinitionKind) -> &[Member]
     ensures { members_of result.now ≡ members_written (definition_kind_of kind.now) }
 {

@@ -5,17 +5,17 @@ ghost use Rattle.widl_idl.specs.PlainTrees.{plain_definitions};
 ghost use Rattle.widl_overload.specs.declared.validity_rule.ValidityRule.TheVariants as rule;
 ghost use Rattle.widl_valid.specs.Invalidity.{IsInvalidity, Joins, JoinsOver};
 
-use crate::definition_spots::find_in_definitions;
+use crate::definition_violations::find_in_definitions;
 use crate::joined_inherited::{join_defaults, join_dictionaries, join_iterables, join_overloads};
-use crate::joined_rules::{join_arguments, join_definitions, join_owners, join_things, join_types};
+use crate::joined_rules::{join_arguments, join_definitions, join_nodes, join_owners, join_types};
 use crate::member_types::find_in_member_types;
 use crate::owners::find_in_owners;
-use crate::type_spots::find_in_types;
+use crate::type_violations::find_in_types;
 use std::alloc::{AllocError, Global};
 use widl_idl::{Defs, Merged, Refusal};
 use widl_names::{Meanings, Parts, Resolver, list_definitions, steps_of};
 
-/// The least refusal of a set of files by the rules of validity, or none where all of them are kept.
+/// The first refusal of a set of files by the rules of validity, or none where all of them are kept.
 ///
 /// # Errors
 ///
@@ -38,12 +38,12 @@ pub fn find_invalid(alloc: Global, merged: &Merged) -> Result<Option<Refusal>, A
     let best = join_defaults(alloc, defs, &meanings, &resolver, &mut steps, best)?;
     let best = join_members(alloc, &meanings, &parts, &resolver, &mut steps, best)?;
     let best = join_uses(alloc, defs, &meanings, &resolver, &mut steps, best)?;
-    let spots = find_in_definitions(alloc, all)?;
-    let best = join_arguments(spots, best);
-    Ok(join_definitions(spots, best))
+    let violations = find_in_definitions(alloc, all)?;
+    let best = join_arguments(violations, best);
+    Ok(join_definitions(violations, best))
 }
 
-// The rules on members.
+/// The rules on members.
 fn join_members<'a>(
     alloc: Global,
     meanings: &Meanings<'_, 'a>,
@@ -54,15 +54,15 @@ fn join_members<'a>(
 ) -> Result<Option<Refusal>, AllocError>
     requires same { parts.now ≡ meanings.now }
     requires resolved { resolver.now ≡ meanings.now }
-    ensures { IfOk result (λ least. Joins (rule.OtherConstantValue ∷ rule.WritablePromise ∷ rule.Stringifiers ∷ rule.PromisesAndOthers ∷ rule.RepeatedMember ∷ rule.KeptName ∷ rule.TooManyOverloads ∷ []) (plain_definitions meanings.now) best least) }
+    ensures { IfOk result (λ earliest. Joins (rule.OtherConstantValue ∷ rule.WritablePromise ∷ rule.Stringifiers ∷ rule.PromisesAndOthers ∷ rule.RepeatedMember ∷ rule.KeptName ∷ rule.TooManyOverloads ∷ []) (plain_definitions meanings.now) best earliest) }
 {
-    let spots = find_in_owners(alloc, meanings, parts, resolver, steps)?;
-    let best = join_owners(spots, best);
+    let violations = find_in_owners(alloc, meanings, parts, resolver, steps)?;
+    let best = join_owners(violations, best);
     let types = find_in_member_types(alloc, resolver, steps, meanings.all())?;
-    Ok(join_things(types, spots.stringifier, best))
+    Ok(join_nodes(types, violations.stringifier, best))
 }
 
-// The rules on types.
+/// The rules on types.
 fn join_uses<'a>(
     alloc: Global,
     defs: &Defs,
@@ -72,8 +72,8 @@ fn join_uses<'a>(
     best: Option<Refusal>,
 ) -> Result<Option<Refusal>, AllocError>
     requires { resolver.now ≡ meanings.now }
-    ensures { IfOk result (λ least. JoinsOver (rule.OtherConstantType ∷ rule.CopiedAttribute ∷ rule.UndefinedInside ∷ rule.WronglyNullable ∷ rule.SeveralNullableMembers ∷ rule.NullableBesideDictionary ∷ rule.AnnotatedUnionMember ∷ rule.NullableDictionary ∷ rule.MisplacedAnnotation ∷ rule.ClampAndEnforceRange ∷ rule.AlikeUnionMembers ∷ []) defs.now (plain_definitions meanings.now) best least) }
+    ensures { IfOk result (λ earliest. JoinsOver (rule.OtherConstantType ∷ rule.CopiedAttribute ∷ rule.UndefinedInside ∷ rule.WronglyNullable ∷ rule.SeveralNullableMembers ∷ rule.NullableBesideDictionary ∷ rule.AnnotatedUnionMember ∷ rule.NullableDictionary ∷ rule.MisplacedAnnotation ∷ rule.ClampAndEnforceRange ∷ rule.IndistinguishableUnionMembers ∷ []) defs.now (plain_definitions meanings.now) best earliest) }
 {
-    let spots = find_in_types(alloc, defs, meanings, resolver, steps)?;
-    Ok(join_types(spots, best))
+    let violations = find_in_types(alloc, defs, meanings, resolver, steps)?;
+    Ok(join_types(violations, best))
 }

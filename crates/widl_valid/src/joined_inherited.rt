@@ -13,7 +13,7 @@ use widl_inheritance::{
     first_repeated_member, first_without_empty_default,
 };
 use widl_names::{Meanings, Parts, Resolver};
-use widl_overload::{ValidityRule, least_overload_spots};
+use widl_overload::{ValidityRule, first_overload_violations};
 
 /// The rules on overloads.
 pub fn join_overloads(
@@ -22,11 +22,19 @@ pub fn join_overloads(
     best: Option<Refusal>,
 ) -> Result<Option<Refusal>, AllocError>
     requires { IsNumberedList defs.now }
-    ensures { IfOk result (λ least. (definitions : List PlainDefinition) → JoinsOver (rule.AlikeOverloads ∷ rule.EarlyDifference ∷ []) defs.now definitions best least) }
+    ensures { IfOk result (λ earliest. (definitions : List PlainDefinition) → JoinsOver (rule.IndistinguishableOverloads ∷ rule.EarlyDifference ∷ []) defs.now definitions best earliest) }
 {
-    let spots = least_overload_spots(alloc, defs)?;
-    let best = joined(ValidityRule::EarlyDifference.number(), spots.early, best);
-    Ok(joined(ValidityRule::AlikeOverloads.number(), spots.alike, best))
+    let violations = first_overload_violations(alloc, defs)?;
+    let best = joined(
+        ValidityRule::EarlyDifference.number(),
+        violations.early,
+        best,
+    );
+    Ok(joined(
+        ValidityRule::IndistinguishableOverloads.number(),
+        violations.indistinguishable,
+        best,
+    ))
 }
 
 /// The rules on dictionaries with all that they inherit.
@@ -35,7 +43,7 @@ pub fn join_dictionaries(
     defs: &Defs,
     best: Option<Refusal>,
 ) -> Result<Option<Refusal>, AllocError>
-    ensures { IfOk result (λ least. (definitions : List PlainDefinition) → JoinsOver (rule.RepeatedDictionaryMember ∷ rule.DictionaryHoldsItself ∷ rule.LongDictionaryChain ∷ []) defs.now definitions best least) }
+    ensures { IfOk result (λ earliest. (definitions : List PlainDefinition) → JoinsOver (rule.RepeatedDictionaryMember ∷ rule.DictionaryHoldsItself ∷ rule.LongDictionaryChain ∷ []) defs.now definitions best earliest) }
 {
     let dicts = defs.dicts.as_slice();
     let holdings = Holdings::of(alloc, dicts)?;
@@ -57,7 +65,7 @@ pub fn join_defaults<'a>(
     best: Option<Refusal>,
 ) -> Result<Option<Refusal>, AllocError>
     requires { resolver.now ≡ meanings.now }
-    ensures { IfOk result (λ least. JoinsOver (rule.OtherDefault ∷ rule.NoEmptyDefault ∷ []) defs.now (plain_definitions meanings.now) best least) }
+    ensures { IfOk result (λ earliest. JoinsOver (rule.OtherDefault ∷ rule.NoEmptyDefault ∷ []) defs.now (plain_definitions meanings.now) best earliest) }
 {
     let all = meanings.all();
     let found = first_without_empty_default(alloc, defs, resolver, steps, all)?;
@@ -74,13 +82,17 @@ pub fn join_iterables(
     best: Option<Refusal>,
 ) -> Result<Option<Refusal>, AllocError>
     requires { parts.now ≡ meanings.now }
-    ensures { IfOk result (λ least. Joins (rule.SecondIterable ∷ rule.HiddenIterationMethod ∷ []) (plain_definitions meanings.now) best least) }
+    ensures { IfOk result (λ earliest. Joins (rule.SecondIterable ∷ rule.HiddenIterationMethod ∷ []) (plain_definitions meanings.now) best earliest) }
 {
-    let spots = find_iterables(alloc, meanings, parts)?;
+    let violations = find_iterables(alloc, meanings, parts)?;
     let best = joined(
         ValidityRule::HiddenIterationMethod.number(),
-        spots.hidden,
+        violations.hidden,
         best,
     );
-    Ok(joined(ValidityRule::SecondIterable.number(), spots.second, best))
+    Ok(joined(
+        ValidityRule::SecondIterable.number(),
+        violations.second,
+        best,
+    ))
 }

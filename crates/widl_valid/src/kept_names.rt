@@ -2,35 +2,35 @@
 //! properties of these names.
 
 ghost use Rattle.std.specs.Prelude.{◌≡◌};
-ghost use Rattle.widl_idl.specs.Least.{AtOne, LeastWhere};
+ghost use Rattle.widl_idl.specs.First.{AtOne, FirstWhere};
 ghost use Rattle.widl_idl.specs.MergedMembers.{is_static_attribute};
 ghost use Rattle.widl_idl.specs.PlainTrees.{member_kind_of};
 ghost use Rattle.widl_overload.specs.MemberRules.{HasKeptName, identifier, is_constant, is_kept_name, is_static_member};
-ghost use Rattle.widl_valid.specs.MemberTables.{listed_members, spot_of_name};
+ghost use Rattle.widl_valid.specs.MemberTables.{listed_members, violation_of_name};
 
 use crate::owner_members::{identifier, is_static};
 use widl_idl::tree::{AttributeKind, Member, MemberKind};
-use widl_idl::{Spot, lesser_spot};
+use widl_idl::{Violation, earlier_violation};
 
-/// The least place of the name of a static member or a constant that it may not have.
-pub fn first_kept_name(members: &[&Member]) -> Option<Spot>
-    ensures { LeastWhere (AtOne HasKeptName (listed_members members.now)) result }
+/// The first place of the name of a static member or a constant that it may not have.
+pub fn first_kept_name(members: &[&Member]) -> Option<Violation>
+    ensures { FirstWhere (AtOne HasKeptName (listed_members members.now)) result }
 {
     let mut best = None;
     for member in members {
         let found = kept_name(&member.kind);
-        best = lesser_spot(best, found);
+        best = earlier_violation(best, found);
     }
     best
 }
 
-// The place of the name of a member, where it may not have it.
-fn kept_name(kind: &MemberKind) -> Option<Spot>
-    ensures { result ≡ spot_of_name (identifier (member_kind_of kind.now)) (is_kept_name (member_kind_of kind.now)) }
+/// The place of the name of a member, where it may not have it.
+fn kept_name(kind: &MemberKind) -> Option<Violation>
+    ensures { result ≡ violation_of_name (identifier (member_kind_of kind.now)) (is_kept_name (member_kind_of kind.now)) }
 {
     let name = identifier(kind)?;
     if is_kept_name(kind, name.text.as_str()) {
-        Some(Spot::at(name.at))
+        Some(Violation::at(name.at))
     } else {
         None
     }

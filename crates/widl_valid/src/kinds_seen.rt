@@ -3,7 +3,7 @@
 ghost use Rattle.std.specs.Prelude.{◌≡◌};
 ghost use Rattle.widl_idl.specs.Terms.{type_term};
 ghost use Rattle.widl_overload.specs.Distinct.{category};
-ghost use Rattle.widl_valid.specs.AlikeKinds.{has_objects, is_met, nothing_seen, with_kind};
+ghost use Rattle.widl_valid.specs.IndistinguishableKinds.{has_objects, is_met, nothing_seen, with_kind};
 
 use widl_idl::IdlType;
 use widl_overload::Category;
@@ -55,7 +55,7 @@ impl KindsSeen {
         }
     }
 
-    /// Whether a member of this kind can't be told apart from one that was seen, where two interfaces
+    /// Whether a member of this kind aren't distinguishable from one that was seen, where two interfaces
     /// don't count.
     pub fn meets(&self, kind: Category) -> bool
         ensures { result ≡ is_met self.now kind }
@@ -76,7 +76,7 @@ impl KindsSeen {
         }
     }
 
-    // Whether a member was seen whose values are objects.
+    /// Whether a member was seen whose values are objects.
     fn meets_object(&self) -> bool
         ensures { result ≡ has_objects self.now }
     {

@@ -1,15 +1,15 @@
 //! Texts that were met before.
 
 ghost use Rattle.std.specs.Prelude.{◌≡◌, ℕ, List, ◌||◌, bytes_eq, None, Some, if◌then◌else◌, IfOk, OnOk};
-ghost use Rattle.widl_idl.specs.Least.{spot_at};
+ghost use Rattle.widl_idl.specs.First.{violation_at};
 ghost use Rattle.widl_valid.specs.KnownTexts.{has_text};
 
 use indexmap::IndexSet;
 use std::alloc::AllocError;
-use widl_idl::Spot;
+use widl_idl::Violation;
 use widl_text::Place;
 
-/// Adds a text that stands at a place, and gives the spot of that place if the text was known.
+/// Adds a text that stands at a place, and gives the violation of that place if the text was known.
 ///
 /// # Errors
 ///
@@ -18,10 +18,10 @@ pub fn note_text<'a>(
     known: &mut IndexSet<&'a str>,
     text: &'a str,
     at: Place,
-) -> Result<Option<Spot>, AllocError>
+) -> Result<Option<Violation>, AllocError>
     ensures adds { OnOk result ((other : List ℕ) → has_text known.new other ≡ (has_text known.old other || bytes_eq text.now other)) }
-    ensures found { IfOk result (λ found. found ≡ (if has_text known.old text.now then Some (spot_at at) else None)) }
+    ensures found { IfOk result (λ found. found ≡ (if has_text known.old text.now then Some (violation_at at) else None)) }
 {
     let fresh = known.insert(text)?;
-    Ok(if fresh { None } else { Some(Spot::at(at)) })
+    Ok(if fresh { None } else { Some(Violation::at(at)) })
 }

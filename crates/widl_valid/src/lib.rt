@@ -1,18 +1,18 @@
 //! The rules of validity over a set of files whose definitions are put together. It stands on the trees
 //! and the merged list of `widl_idl`, on the names of `widl_names`, and on `widl_overload`, where each rule
 //! is stated. The one contract that is used above: [`validate`] accepts exactly the sets that break none of
-//! these rules, and otherwise answers the least refusal.
+//! these rules, and otherwise answers the first refusal.
 #![tactic(auto)]
 
 mod acceptance;
-mod alike_members;
 mod annotation_rules;
 mod argument_lists;
 mod argument_rules;
 mod clamp_rules;
 mod constant_values;
 mod definition_rules;
-mod definition_spots;
+mod definition_violations;
+mod indistinguishable_members;
 mod invalidity;
 mod joined_inherited;
 mod joined_rules;
@@ -37,9 +37,8 @@ mod role_rules;
 mod sought;
 mod stringifiers;
 mod type_rules;
-mod type_spots;
 mod type_uses;
+mod type_violations;
 mod union_rules;
 
 pub use acceptance::{ValidFault, validate};
-pub use invalidity::find_invalid;

@@ -26,20 +26,20 @@ pub fn walked(alloc: Global, ifaces: &[Iface]) -> Result<Vec<Option<Span>>, Allo
     Ok(walk.spans)
 }
 
-// A walk over interfaces.
+/// A walk over interfaces.
 #[derive(Drop)]
 struct Walk {
-    // The spans of those that were visited. Of those on the path, the end is not known: it is taken for
-    // the number of all.
+    /// The spans of those that were visited. Of those on the path, the end is not known: it is taken for
+    /// the number of all.
     spans: Vec<Option<Span>>,
-    // The interface that was visited last and those from which it inherits, the oldest one first.
+    /// The interface that was visited last and those from which it inherits, the oldest one first.
     path: Vec<usize>,
-    // Those that wait for their visit, the next one last.
+    /// Those that wait for their visit, the next one last.
     waiting: Vec<usize>,
 }
 
 impl Walk {
-    // The walk before its first visit.
+    /// The walk before its first visit.
     fn begun(alloc: Global, ifaces: &[Iface]) -> Result<Walk, AllocError>
         ensures { IfOk result (λ walk. IsWalk ifaces.now walk.spans.items walk.path.items 0) }
     {
@@ -50,7 +50,7 @@ impl Walk {
         })
     }
 
-    // Visits the interface that waits at the end, if there is one, and has its direct heirs wait.
+    /// Visits the interface that waits at the end, if there is one, and has its direct heirs wait.
     fn visit_next(
         &mut self,
         ifaces: &[Iface],
@@ -73,7 +73,7 @@ impl Walk {
         }
     }
 
-    // Leaves the end of the path, up to this interface.
+    /// Leaves the end of the path, up to this interface.
     fn leave_others(&mut self, ifaces: &[Iface], parent: Option<usize>, place: usize)
         requires walk { IsWalk ifaces.now self.old.spans.items self.old.path.items place }
         requires within { place ≤ length ifaces.now }
@@ -84,21 +84,21 @@ impl Walk {
         }
     }
 
-    // The last interface of the path.
+    /// The last interface of the path.
     fn last(&self) -> Option<usize>
         ensures { result ≡ slice_get self.now.path.items (length self.now.path.items - 1) }
     {
         self.path.last().copied()
     }
 
-    // Whether the path ends at another interface.
+    /// Whether the path ends at another interface.
     fn is_elsewhere(&self, parent: Option<usize>) -> bool
         ensures { result ≡ true → 0 < length self.now.path.items }
     {
         !self.path.is_empty() && self.last() != parent
     }
 
-    // Leaves the last interface of the path: all of its heirs were visited.
+    /// Leaves the last interface of the path: all of its heirs were visited.
     fn leave(&mut self, ifaces: &[Iface], place: usize)
         requires walk { IsWalk ifaces.now self.old.spans.items self.old.path.items place }
         requires within { place ≤ length ifaces.now }
@@ -111,8 +111,8 @@ impl Walk {
         }
     }
 
-    // Whether the interface is to follow the end of the path: it was not visited, and inherits directly
-    // from the last one, or from none where there is none.
+    /// Whether the interface is to follow the end of the path: it was not visited, and inherits directly
+    /// from the last one, or from none where there is none.
     fn takes(&self, ifaces: &[Iface], number: usize) -> bool
         ensures new { result ≡ true → span_of self.now.spans.items number ≡ None }
         ensures below { result ≡ true → number < length self.now.spans.items }
@@ -124,7 +124,7 @@ impl Walk {
         }
     }
 
-    // Visits an interface, where it is to follow the end of the path. In a circle of parents none does.
+    /// Visits an interface, where it is to follow the end of the path. In a circle of parents none does.
     fn enter(&mut self, ifaces: &[Iface], number: usize, place: usize) -> Result<(), AllocError>
         requires walk { IsWalk ifaces.now self.old.spans.items self.old.path.items place }
         requires within { place < length ifaces.now }
@@ -141,7 +141,7 @@ impl Walk {
     }
 }
 
-// The span of an interface that is left.
+/// The span of an interface that is left.
 fn ended(span: Option<Span>, past: usize) -> Option<Span>
     ensures { (s : declared.Span) → span ≡ Some s → result ≡ Some (record { start = s.start; past = past }) }
 {
@@ -154,7 +154,7 @@ fn ended(span: Option<Span>, past: usize) -> Option<Span>
     }
 }
 
-// The interface from which one inherits directly.
+/// The interface from which one inherits directly.
 fn parent(ifaces: &[Iface], number: usize) -> Option<usize>
     ensures { result ≡ parent_of ifaces.now number }
 {
@@ -167,7 +167,7 @@ fn parent(ifaces: &[Iface], number: usize) -> Option<usize>
     }
 }
 
-// As many interfaces without a span.
+/// As many interfaces without a span.
 fn no_spans(alloc: Global, count: usize) -> Result<Vec<Option<Span>>, AllocError>
     ensures { IfOk result (λ spans. (n : ℕ) → span_of spans.items n ≡ None) }
 {
@@ -178,8 +178,8 @@ fn no_spans(alloc: Global, count: usize) -> Result<Vec<Option<Span>>, AllocError
     Ok(spans)
 }
 
-// For each interface those that inherit directly from it. Those that inherit from none are added to the
-// list of those that wait.
+/// For each interface those that inherit directly from it. Those that inherit from none are added to the
+/// list of those that wait.
 fn direct_heirs(
     alloc: Global,
     ifaces: &[Iface],
@@ -195,7 +195,7 @@ fn direct_heirs(
     Ok(heirs)
 }
 
-// As many interfaces without heirs.
+/// As many interfaces without heirs.
 fn no_heirs(alloc: Global, count: usize) -> Result<Vec<Vec<usize>>, AllocError> {
     let mut heirs = Vec::new(alloc);
     for _number in 0..count {
@@ -204,7 +204,7 @@ fn no_heirs(alloc: Global, count: usize) -> Result<Vec<Vec<usize>>, AllocError> 
     Ok(heirs)
 }
 
-// Adds an heir to those of its parent, where there is such an interface.
+/// Adds an heir to those of its parent, where there is such an interface.
 fn add_heir(heirs: &mut Vec<Vec<usize>>, parent: usize, number: usize) -> Result<(), AllocError> {
     if parent < heirs.len() {
         heirs[parent].push(number)?;
@@ -212,7 +212,7 @@ fn add_heir(heirs: &mut Vec<Vec<usize>>, parent: usize, number: usize) -> Result
     Ok(())
 }
 
-// Adds all to those that wait.
+/// Adds all to those that wait.
 fn add_all(waiting: &mut Vec<usize>, own: &[usize]) -> Result<(), AllocError> {
     for number in own {
         waiting.push(*number)?;

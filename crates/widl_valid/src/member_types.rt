@@ -1,36 +1,36 @@
 //! Where the rules on a constant's value and an attribute's type are broken first.
 
 ghost use Rattle.std.specs.Prelude.{◌≡◌, [], ◌∷◌, IfOk};
-ghost use Rattle.widl_idl.specs.Least.{LeastWhere};
+ghost use Rattle.widl_idl.specs.First.{FirstWhere};
 ghost use Rattle.widl_idl.specs.PlainTrees.{AttributeMember, attribute_member_of, definition_kind_of, member_kind_of, members_of, plain_definitions};
 ghost use Rattle.widl_idl.specs.PlainTypes.{annotated_of};
 ghost use Rattle.widl_idl.specs.Terms.{type_term};
-ghost use Rattle.widl_idl.specs.Things.{MemberThing, things_of};
+ghost use Rattle.widl_idl.specs.Nodes.{MemberNode, nodes_of};
 ghost use Rattle.widl_idl.specs.WrittenTypes.{meaning_of_annotated};
 ghost use Rattle.widl_names.specs.Listings.{listed_definitions};
 ghost use Rattle.widl_overload.specs.MemberRules.{is_promise};
 ghost use Rattle.widl_overload.specs.TypeRules.{HasOtherValue, IsOtherStringifier, IsWritablePromise};
-ghost use Rattle.widl_valid.specs.MemberTypes.{AreMemberTypeSpots, lesser_spots, member_things, no_spots, own_members};
+ghost use Rattle.widl_valid.specs.MemberTypes.{AreMemberTypeViolations, earlier_violations, member_nodes, no_violations, own_members};
 
 use crate::annotation_rules::is_unit_string;
 use crate::constant_values::other_constant_value;
 use std::alloc::{AllocError, Global};
 use widl_idl::tree::{Attribute, AttributeKind, Definition, DefinitionKind, Member, MemberKind};
-use widl_idl::{IdlType, Spot, lesser_spot};
+use widl_idl::{IdlType, Violation, earlier_violation};
 use widl_names::Resolver;
 
 /// Where the rules are broken first that read a member with what its type means.
 #[derive(Clone, Copy)]
-pub struct MemberTypeSpots {
+pub struct MemberTypeViolations {
     /// The value of a constant is not of its type, or not in its range.
-    pub other_value: Option<Spot>,
+    pub other_value: Option<Violation>,
     /// An attribute of promise type isn't read only.
-    pub writable_promise: Option<Spot>,
+    pub writable_promise: Option<Violation>,
     /// A stringifier attribute is neither a DOMString nor a USVString.
-    pub other_stringifier: Option<Spot>,
+    pub other_stringifier: Option<Violation>,
 }
 
-/// The least spots at which these rules are broken, in all these definitions.
+/// The first violations at which these rules are broken, in all these definitions.
 ///
 /// # Errors
 ///
@@ -40,19 +40,19 @@ pub fn find_in_member_types<'a>(
     resolver: &Resolver<'_, '_, 'a>,
     steps: &mut usize,
     definitions: &[&'a Definition],
-) -> Result<MemberTypeSpots, AllocError>
-    ensures { IfOk result (AreMemberTypeSpots (plain_definitions resolver.now) (things_of (listed_definitions definitions.now))) }
+) -> Result<MemberTypeViolations, AllocError>
+    ensures { IfOk result (AreMemberTypeViolations (plain_definitions resolver.now) (nodes_of (listed_definitions definitions.now))) }
 {
-    let mut best = MemberTypeSpots::none();
+    let mut best = MemberTypeViolations::none();
     for definition in definitions {
         let members = own_members(&definition.kind);
         let found = find_in_members(alloc, resolver, steps, members)?;
-        best = lesser_spots(best, found);
+        best = earlier_violations(best, found);
     }
     Ok(best)
 }
 
-// The members of an interface, a mixin or a namespace.
+/// The members of an interface, a mixin or a namespace.
 fn own_members(kind: &DefinitionKind) -> &[Member]
     ensures { members_of result.now ≡ own_members (definition_kind_of kind.now) }
 {
@@ -64,50 +64,50 @@ fn own_members(kind: &DefinitionKind) -> &[Member]
     }
 }
 
-// The least spots among members.
+/// The first violations among members.
 fn find_in_members<'a>(
     alloc: Global,
     resolver: &Resolver<'_, '_, 'a>,
     steps: &mut usize,
     members: &'a [Member],
-) -> Result<MemberTypeSpots, AllocError>
-    ensures { IfOk result (AreMemberTypeSpots (plain_definitions resolver.now) (member_things (members_of members.now))) }
+) -> Result<MemberTypeViolations, AllocError>
+    ensures { IfOk result (AreMemberTypeViolations (plain_definitions resolver.now) (member_nodes (members_of members.now))) }
 {
-    let mut best = MemberTypeSpots::none();
+    let mut best = MemberTypeViolations::none();
     for member in members {
         let found = find_in_member(alloc, resolver, steps, &member.kind)?;
-        best = lesser_spots(best, found);
+        best = earlier_violations(best, found);
     }
     Ok(best)
 }
 
-// The least spots in one member.
+/// The first violations in one member.
 fn find_in_member<'a>(
     alloc: Global,
     resolver: &Resolver<'_, '_, 'a>,
     steps: &mut usize,
     member: &'a MemberKind,
-) -> Result<MemberTypeSpots, AllocError>
-    ensures { IfOk result (AreMemberTypeSpots (plain_definitions resolver.now) (MemberThing (member_kind_of member.now) ∷ [])) }
+) -> Result<MemberTypeViolations, AllocError>
+    ensures { IfOk result (AreMemberTypeViolations (plain_definitions resolver.now) (MemberNode (member_kind_of member.now) ∷ [])) }
 {
     let other_value = other_value(alloc, resolver, steps, member)?;
     let writable_promise = writable_promise(alloc, resolver, steps, member)?;
     let other_stringifier = other_stringifier(alloc, resolver, steps, member)?;
-    Ok(MemberTypeSpots {
+    Ok(MemberTypeViolations {
         other_value,
         writable_promise,
         other_stringifier,
     })
 }
 
-// The place of a constant's value that is not of its type, or not in its range.
+/// The place of a constant's value that is not of its type, or not in its range.
 fn other_value<'a>(
     alloc: Global,
     resolver: &Resolver<'_, '_, 'a>,
     steps: &mut usize,
     member: &'a MemberKind,
-) -> Result<Option<Spot>, AllocError>
-    ensures { IfOk result (λ found. LeastWhere (HasOtherValue (plain_definitions resolver.now) (MemberThing (member_kind_of member.now))) found) }
+) -> Result<Option<Violation>, AllocError>
+    ensures { IfOk result (λ found. FirstWhere (HasOtherValue (plain_definitions resolver.now) (MemberNode (member_kind_of member.now))) found) }
 {
     match member {
         MemberKind::Constant(constant) => other_constant_value(alloc, resolver, steps, constant),
@@ -122,14 +122,14 @@ fn other_value<'a>(
     }
 }
 
-// The place of an attribute's name whose type is a promise and that isn't read only.
+/// The place of an attribute's name whose type is a promise and that isn't read only.
 fn writable_promise<'a>(
     alloc: Global,
     resolver: &Resolver<'_, '_, 'a>,
     steps: &mut usize,
     member: &'a MemberKind,
-) -> Result<Option<Spot>, AllocError>
-    ensures { IfOk result (λ found. LeastWhere (IsWritablePromise (plain_definitions resolver.now) (MemberThing (member_kind_of member.now))) found) }
+) -> Result<Option<Violation>, AllocError>
+    ensures { IfOk result (λ found. FirstWhere (IsWritablePromise (plain_definitions resolver.now) (MemberNode (member_kind_of member.now))) found) }
 {
     match member {
         MemberKind::Attribute(attribute) => promise_place(alloc, resolver, steps, attribute),
@@ -144,21 +144,21 @@ fn writable_promise<'a>(
     }
 }
 
-// The place of the name of an attribute, if its type is a promise and it isn't read only.
+/// The place of the name of an attribute, if its type is a promise and it isn't read only.
 fn promise_place<'a>(
     alloc: Global,
     resolver: &Resolver<'_, '_, 'a>,
     steps: &mut usize,
     attribute: &'a Attribute,
-) -> Result<Option<Spot>, AllocError>
-    ensures { IfOk result (λ found. LeastWhere (IsWritablePromise (plain_definitions resolver.now) (MemberThing (AttributeMember (attribute_member_of attribute.now)))) found) }
+) -> Result<Option<Violation>, AllocError>
+    ensures { IfOk result (λ found. FirstWhere (IsWritablePromise (plain_definitions resolver.now) (MemberNode (AttributeMember (attribute_member_of attribute.now)))) found) }
 {
     if attribute.readonly {
         return Ok(None);
     }
     let ty = own_type(alloc, resolver, steps, attribute)?;
     if is_promise(&ty) {
-        Ok(Some(Spot::at(attribute.name.at)))
+        Ok(Some(Violation::at(attribute.name.at)))
     } else {
         Ok(None)
     }
@@ -170,14 +170,14 @@ fn is_promise(t: &IdlType) -> bool
     matches!(t, IdlType::Promise(_))
 }
 
-// The place of the word `stringifier` before an attribute that is neither a DOMString nor a USVString.
+/// The place of the word `stringifier` before an attribute that is neither a DOMString nor a USVString.
 fn other_stringifier<'a>(
     alloc: Global,
     resolver: &Resolver<'_, '_, 'a>,
     steps: &mut usize,
     member: &'a MemberKind,
-) -> Result<Option<Spot>, AllocError>
-    ensures { IfOk result (λ found. LeastWhere (IsOtherStringifier (plain_definitions resolver.now) (MemberThing (member_kind_of member.now))) found) }
+) -> Result<Option<Violation>, AllocError>
+    ensures { IfOk result (λ found. FirstWhere (IsOtherStringifier (plain_definitions resolver.now) (MemberNode (member_kind_of member.now))) found) }
 {
     match member {
         MemberKind::Attribute(attribute) => stringifier_place(alloc, resolver, steps, attribute),
@@ -192,14 +192,14 @@ fn other_stringifier<'a>(
     }
 }
 
-// The place of the word `stringifier` before an attribute, if that is of another type.
+/// The place of the word `stringifier` before an attribute, if that is of another type.
 fn stringifier_place<'a>(
     alloc: Global,
     resolver: &Resolver<'_, '_, 'a>,
     steps: &mut usize,
     attribute: &'a Attribute,
-) -> Result<Option<Spot>, AllocError>
-    ensures { IfOk result (λ found. LeastWhere (IsOtherStringifier (plain_definitions resolver.now) (MemberThing (AttributeMember (attribute_member_of attribute.now)))) found) }
+) -> Result<Option<Violation>, AllocError>
+    ensures { IfOk result (λ found. FirstWhere (IsOtherStringifier (plain_definitions resolver.now) (MemberNode (AttributeMember (attribute_member_of attribute.now)))) found) }
 {
     let AttributeKind::Stringifier(word) = attribute.kind else {
         return Ok(None);
@@ -208,11 +208,11 @@ fn stringifier_place<'a>(
     if is_unit_string(&ty) {
         Ok(None)
     } else {
-        Ok(Some(Spot::at(word)))
+        Ok(Some(Violation::at(word)))
     }
 }
 
-// What an attribute's type means behind its own annotations alone.
+/// What an attribute's type means after its own annotations alone.
 fn own_type<'a>(
     alloc: Global,
     resolver: &Resolver<'_, '_, 'a>,
@@ -224,22 +224,25 @@ fn own_type<'a>(
     resolver.resolve_with(alloc, steps, &[], &attribute.ty)
 }
 
-// Of each rule the lesser spot.
-fn lesser_spots(best: MemberTypeSpots, found: MemberTypeSpots) -> MemberTypeSpots
-    ensures { result ≡ lesser_spots best found }
+/// Of each rule the earlier violation.
+fn earlier_violations(
+    best: MemberTypeViolations,
+    found: MemberTypeViolations,
+) -> MemberTypeViolations
+    ensures { result ≡ earlier_violations best found }
 {
-    MemberTypeSpots {
-        other_value: lesser_spot(best.other_value, found.other_value),
-        writable_promise: lesser_spot(best.writable_promise, found.writable_promise),
-        other_stringifier: lesser_spot(best.other_stringifier, found.other_stringifier),
+    MemberTypeViolations {
+        other_value: earlier_violation(best.other_value, found.other_value),
+        writable_promise: earlier_violation(best.writable_promise, found.writable_promise),
+        other_stringifier: earlier_violation(best.other_stringifier, found.other_stringifier),
     }
 }
 
-impl MemberTypeSpots {
-    fn none() -> MemberTypeSpots
-        ensures { result ≡ no_spots }
+impl MemberTypeViolations {
+    fn none() -> MemberTypeViolations
+        ensures { result ≡ no_violations }
     {
-        MemberTypeSpots {
+        MemberTypeViolations {
             other_value: None,
             writable_promise: None,
             other_stringifier: None,

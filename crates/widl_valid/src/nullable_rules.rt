@@ -3,7 +3,7 @@
 ghost use Rattle.std.specs.Prelude.{◌≡◌, min};
 ghost use Rattle.std.specs.List.{list_any};
 ghost use Rattle.widl_idl.specs.Flattened.{flattened_members, nullable_members};
-ghost use Rattle.widl_idl.specs.Least.{LeastWhere};
+ghost use Rattle.widl_idl.specs.First.{FirstWhere};
 ghost use Rattle.widl_idl.specs.PlainTypes.{form_term};
 ghost use Rattle.widl_idl.specs.Terms.{type_term};
 ghost use Rattle.widl_overload.specs.Distinct.{is_dictionary};
@@ -13,17 +13,17 @@ ghost use Rattle.widl_valid.specs.UsesListed.{resolved_use};
 use crate::resolved_uses::ResolvedUse;
 use crate::sought::any_dictionary;
 use widl_idl::tree::TypeForm;
-use widl_idl::{IdlType, Spot, includes_nullable, nullable_count};
+use widl_idl::{IdlType, Violation, includes_nullable, nullable_count};
 use widl_overload::TypeRole;
 
-// The place of the `?` of a type that may not have one.
-pub fn wrongly_nullable(ty: &ResolvedUse<'_>) -> Option<Spot>
-    ensures { LeastWhere (IsWronglyNullable (resolved_use ty.now).meaning (resolved_use ty.now).written) result }
+/// The place of the `?` of a type that may not have one.
+pub fn wrongly_nullable(ty: &ResolvedUse<'_>) -> Option<Violation>
+    ensures { FirstWhere (IsWronglyNullable (resolved_use ty.now).meaning (resolved_use ty.now).written) result }
 {
     match ty.written.ty.question {
         None => None,
         Some(question) => if is_wrongly_nullable(&ty.meaning) {
-            Some(Spot::at(question))
+            Some(Violation::at(question))
         } else {
             None
         },
@@ -39,7 +39,7 @@ fn is_wrongly_nullable(t: &IdlType) -> bool
     }
 }
 
-// Whether a type may not stand before a `?`.
+/// Whether a type may not stand before a `?`.
 fn is_never_nullable(t: &IdlType) -> bool
     ensures { result ≡ is_never_nullable (type_term t.now) }
 {
@@ -50,32 +50,32 @@ fn is_never_nullable(t: &IdlType) -> bool
     }
 }
 
-// The place of a union with more than one nullable member.
-pub fn several_nullable(ty: &ResolvedUse<'_>) -> Option<Spot>
-    ensures { LeastWhere (OfUnion HaveSeveralNullable (resolved_use ty.now).meaning (resolved_use ty.now).written) result }
+/// The place of a union with more than one nullable member.
+pub fn several_nullable(ty: &ResolvedUse<'_>) -> Option<Violation>
+    ensures { FirstWhere (OfUnion HaveSeveralNullable (resolved_use ty.now).meaning (resolved_use ty.now).written) result }
 {
     if is_union(&ty.written.ty.form) && count_nullable(&ty.meaning) > 1 {
-        Some(Spot::at(ty.written.ty.at))
+        Some(Violation::at(ty.written.ty.at))
     } else {
         None
     }
 }
 
-// The place of a union that includes a nullable type, and has a dictionary among its flattened members.
-pub fn nullable_beside_dictionary(ty: &ResolvedUse<'_>) -> Option<Spot>
-    ensures { LeastWhere (OfUnion HaveNullableAndDictionary (resolved_use ty.now).meaning (resolved_use ty.now).written) result }
+/// The place of a union that includes a nullable type, and has a dictionary among its flattened members.
+pub fn nullable_beside_dictionary(ty: &ResolvedUse<'_>) -> Option<Violation>
+    ensures { FirstWhere (OfUnion HaveNullableAndDictionary (resolved_use ty.now).meaning (resolved_use ty.now).written) result }
 {
     if is_union(&ty.written.ty.form)
         && count_nullable(&ty.meaning) == 1
         && has_dictionary_member(&ty.meaning)
     {
-        Some(Spot::at(ty.written.ty.at))
+        Some(Violation::at(ty.written.ty.at))
     } else {
         None
     }
 }
 
-// Whether a type without its `?` is written as a union.
+/// Whether a type without its `?` is written as a union.
 pub fn is_union(form: &TypeForm) -> bool
     ensures { result ≡ is_union_form (form_term form.now) }
 {
@@ -98,8 +98,8 @@ pub fn is_union(form: &TypeForm) -> bool
     }
 }
 
-// How many members of a union, with or without a `?`, are nullable, or 4,294,967,295 if they are more;
-// 0 for any other type.
+/// How many members of a union, with or without a `?`, are nullable, or 4,294,967,295 if they are more;
+/// 0 for any other type.
 fn count_nullable(t: &IdlType) -> u32
     ensures { result ≡ min (nullable_members (members_of_union (type_term t.now))) 4294967295 }
 {
@@ -110,7 +110,7 @@ fn count_nullable(t: &IdlType) -> u32
     }
 }
 
-// Whether a union, with or without a `?`, has a dictionary among its flattened members.
+/// Whether a union, with or without a `?`, has a dictionary among its flattened members.
 fn has_dictionary_member(t: &IdlType) -> bool
     ensures { result ≡ list_any is_dictionary (flattened_members (members_of_union (type_term t.now))) }
 {
@@ -121,12 +121,12 @@ fn has_dictionary_member(t: &IdlType) -> bool
     }
 }
 
-// The place of an argument's or a dictionary member's type that is a nullable dictionary.
-pub fn nullable_dictionary(ty: &ResolvedUse<'_>) -> Option<Spot>
-    ensures { LeastWhere (IsNullableDictionary (resolved_use ty.now).meaning (resolved_use ty.now).written) result }
+/// The place of an argument's or a dictionary member's type that is a nullable dictionary.
+pub fn nullable_dictionary(ty: &ResolvedUse<'_>) -> Option<Violation>
+    ensures { FirstWhere (IsNullableDictionary (resolved_use ty.now).meaning (resolved_use ty.now).written) result }
 {
     if is_argument_or_member(ty.written.role) && is_nullable_dictionary(&ty.meaning) {
-        Some(Spot::at(ty.written.ty.at))
+        Some(Violation::at(ty.written.ty.at))
     } else {
         None
     }

@@ -1,38 +1,36 @@
 //! How many overloads operations and constructors have.
 
 ghost use Rattle.std.specs.Prelude.{◌≡◌, ℕ, ◌+◌, ◌&&◌, Bool, List, bytes_eq, nat_eq, if◌then◌else◌, IfOk, OnOk};
-ghost use Rattle.widl_idl.specs.Least.{AtOne, LeastWhere};
+ghost use Rattle.widl_idl.specs.First.{AtOne, FirstWhere};
 ghost use Rattle.widl_idl.specs.MergingRules.{both_or_none, is_static};
 ghost use Rattle.widl_idl.specs.PlainTrees.{member_kind_of, operation_of};
-ghost use Rattle.widl_overload.specs.MemberRules.{HasOverload65};
-ghost use Rattle.widl_valid.specs.MemberTables.{count_in, has_overload, is_constructor, is_overload, listed_members, overload_count, spot_of_name, spot_past_limit};
+ghost use Rattle.widl_overload.specs.MemberRules.{HasOverloadPastLimit};
+ghost use Rattle.widl_valid.specs.MemberTables.{count_in, has_overload, is_constructor, is_overload, listed_members, overload_count, violation_of_name, violation_past_limit};
 
 use crate::owner_members::{is_static, operation_text};
 use indexmap::IndexMap;
 use std::alloc::{AllocError, Global};
 use widl_idl::tree::{Member, MemberKind, Operation};
-use widl_idl::{Spot, lesser_spot};
+use widl_idl::{Violation, earlier_violation};
+use widl_text::limits::MOST_OVERLOADS;
 
-// How many overloads a name or a constructor may have.
-const LIMIT: u32 = 64;
-
-// How many operations have a name.
+/// How many operations have a name.
 #[derive(Drop)]
 struct NameCounts<'a> {
-    // Those that aren't static.
+    /// Those that aren't static.
     regular: IndexMap<&'a str, u32>,
-    // Those that are static.
+    /// Those that are static.
     fixed: IndexMap<&'a str, u32>,
 }
 
-// How many overloads there are.
+/// How many overloads there are.
 #[derive(Drop)]
 struct OverloadCounts<'a> {
     operations: NameCounts<'a>,
     constructors: u32,
 }
 
-/// The least place of an operation's name or of the word `constructor` that follows 64 of its overloads.
+/// The first place of an operation's name or of the word `constructor` that follows 64 of its overloads.
 ///
 /// # Errors
 ///
@@ -40,14 +38,14 @@ struct OverloadCounts<'a> {
 pub fn first_overload_past_limit(
     alloc: Global,
     members: &[&Member],
-) -> Result<Option<Spot>, AllocError>
-    ensures { IfOk result (λ found. LeastWhere (AtOne HasOverload65 (listed_members members.now)) found) }
+) -> Result<Option<Violation>, AllocError>
+    ensures { IfOk result (λ found. FirstWhere (AtOne HasOverloadPastLimit (listed_members members.now)) found) }
 {
     let mut counts = OverloadCounts::new(alloc);
     let mut best = None;
     for member in members {
         let found = counts.past_limit(&member.kind);
-        best = lesser_spot(best, found);
+        best = earlier_violation(best, found);
         counts.add(&member.kind)?;
     }
     Ok(best)
@@ -64,14 +62,14 @@ impl<'a> OverloadCounts<'a> {
         }
     }
 
-    // The place of a member that follows 64 of its overloads.
-    fn past_limit(&self, kind: &MemberKind) -> Option<Spot>
-        ensures { result ≡ spot_past_limit (overload_count self.now.operations.regular self.now.operations.fixed) self.now.constructors (member_kind_of kind.now) }
+    /// The place of a member that follows 64 of its overloads.
+    fn past_limit(&self, kind: &MemberKind) -> Option<Violation>
+        ensures { result ≡ violation_past_limit (overload_count self.now.operations.regular self.now.operations.fixed) self.now.constructors (member_kind_of kind.now) }
     {
         match kind {
             MemberKind::Operation(operation) => self.operations.past_limit(operation),
-            MemberKind::Constructor(constructor) => if self.constructors == LIMIT {
-                Some(Spot::at(constructor.at))
+            MemberKind::Constructor(constructor) => if self.constructors == MOST_OVERLOADS {
+                Some(Violation::at(constructor.at))
             } else {
                 None
             },
@@ -79,7 +77,7 @@ impl<'a> OverloadCounts<'a> {
         }
     }
 
-    // Counts a member.
+    /// Counts a member.
     fn add(&mut self, kind: &'a MemberKind) -> Result<(), AllocError>
         ensures operations { OnOk result ((text : List ℕ) (static : Bool) → overload_count self.new.operations.regular self.new.operations.fixed text static ≡ (if is_overload text static (member_kind_of kind.now) then overload_count self.old.operations.regular self.old.operations.fixed text static + 1 else overload_count self.old.operations.regular self.old.operations.fixed text static)) }
         ensures constructors { OnOk result (self.new.constructors ≡ (if is_constructor (member_kind_of kind.now) then self.old.constructors + 1 else self.old.constructors)) }
@@ -105,13 +103,13 @@ impl<'a> NameCounts<'a> {
         }
     }
 
-    // The place of the name of an operation that follows 64 of its overloads.
-    fn past_limit(&self, operation: &Operation) -> Option<Spot>
-        ensures { result ≡ spot_of_name (operation_of operation.now).name (λ text. nat_eq (overload_count self.now.regular self.now.fixed text (is_static operation.now.kind)) 64) }
+    /// The place of the name of an operation that follows 64 of its overloads.
+    fn past_limit(&self, operation: &Operation) -> Option<Violation>
+        ensures { result ≡ violation_of_name (operation_of operation.now).name (λ text. nat_eq (overload_count self.now.regular self.now.fixed text (is_static operation.now.kind)) 64) }
     {
         let name = operation.name.as_ref()?;
-        if self.count(name.text.as_str(), is_static(operation.kind)) == LIMIT {
-            Some(Spot::at(name.at))
+        if self.count(name.text.as_str(), is_static(operation.kind)) == MOST_OVERLOADS {
+            Some(Violation::at(name.at))
         } else {
             None
         }
@@ -127,7 +125,7 @@ impl<'a> NameCounts<'a> {
         }
     }
 
-    // Counts an operation.
+    /// Counts an operation.
     fn add(&mut self, operation: &'a Operation) -> Result<(), AllocError>
         ensures { OnOk result ((text : List ℕ) (static : Bool) → overload_count self.new.regular self.new.fixed text static ≡ (if has_overload text static (operation_of operation.now) then overload_count self.old.regular self.old.fixed text static + 1 else overload_count self.old.regular self.old.fixed text static)) }
     {
@@ -145,14 +143,14 @@ impl<'a> NameCounts<'a> {
     }
 }
 
-// The count that is kept for a text.
+/// The count that is kept for a text.
 fn count_in(counts: &IndexMap<&str, u32>, text: &str) -> u32
     ensures { result ≡ count_in counts.now text.now }
 {
     counts.get(text).copied().unwrap_or(0)
 }
 
-// Counts a text.
+/// Counts a text.
 fn add_one<'a>(counts: &mut IndexMap<&'a str, u32>, text: &'a str) -> Result<(), AllocError>
     ensures { OnOk result ((other : List ℕ) → count_in counts.new other ≡ (if bytes_eq other text.now then count_in counts.old other + 1 else count_in counts.old other)) }
 {

@@ -1,12 +1,12 @@
 //! The rules on the members of interfaces and namespaces in merged order.
 
 ghost use Rattle.std.specs.Prelude.{◌≡◌, true, Some, option_map, slice_get, IfOk};
-ghost use Rattle.widl_idl.specs.Least.{LeastWhere};
+ghost use Rattle.widl_idl.specs.First.{FirstWhere};
 ghost use Rattle.widl_idl.specs.Meanings.{kind_of, main_name};
 ghost use Rattle.widl_idl.specs.PlainTrees.{definition_kind_of, plain_definitions};
 ghost use Rattle.widl_overload.specs.MemberRules.{HasKeptName, IsSecondStringifier, has_members_of_its_own, is_interface_kind};
 ghost use Rattle.widl_valid.specs.MemberTables.{listed_members};
-ghost use Rattle.widl_valid.specs.Owners.{AreMemberSpots, AreSpots, InMembers, InOwner, is_owner, lesser_spots, means_itself, no_spots};
+ghost use Rattle.widl_valid.specs.Owners.{AreMemberViolations, AreViolations, InMembers, InOwner, is_owner, earlier_violations, means_itself, no_violations};
 
 use crate::kept_names::first_kept_name;
 use crate::overload_counts::first_overload_past_limit;
@@ -16,25 +16,25 @@ use crate::repeated_members::first_repeated_member;
 use crate::stringifiers::first_second_stringifier;
 use std::alloc::{AllocError, Global};
 use widl_idl::tree::{DefinitionKind, Member};
-use widl_idl::{Kind, Spot, lesser_spot};
+use widl_idl::{Kind, Violation, earlier_violation};
 use widl_names::{Meanings, Parts, Resolver, kind_of, main_name, means_number};
 
 /// Where the rules on the members of owners are broken first.
 #[derive(Clone, Copy)]
-pub struct MemberSpots {
+pub struct MemberViolations {
     /// A member has the name of an earlier one, and not both are operations.
-    pub repeated: Option<Spot>,
+    pub repeated: Option<Violation>,
     /// A static member or a constant of an interface has a name that it may not have.
-    pub kept_name: Option<Spot>,
+    pub kept_name: Option<Violation>,
     /// An operation or a constructor follows 64 of its overloads.
-    pub overload: Option<Spot>,
+    pub overload: Option<Violation>,
     /// An operation returns a promise where its earlier overloads return none, or the other way round.
-    pub promise: Option<Spot>,
+    pub promise: Option<Violation>,
     /// An interface has a second stringifier.
-    pub stringifier: Option<Spot>,
+    pub stringifier: Option<Violation>,
 }
 
-/// The least spots at which the rules on members are broken, in all interfaces and namespaces.
+/// The first violations at which the rules on members are broken, in all interfaces and namespaces.
 ///
 /// # Errors
 ///
@@ -45,23 +45,23 @@ pub fn find_in_owners<'a>(
     parts: &Parts<'_, 'a>,
     resolver: &Resolver<'_, '_, 'a>,
     steps: &mut usize,
-) -> Result<MemberSpots, AllocError>
+) -> Result<MemberViolations, AllocError>
     requires same { parts.now ≡ meanings.now }
     requires resolved { resolver.now ≡ meanings.now }
-    ensures { IfOk result (λ spots. AreMemberSpots (plain_definitions meanings.now) spots) }
+    ensures { IfOk result (λ violations. AreMemberViolations (plain_definitions meanings.now) violations) }
 {
-    let mut best = MemberSpots::none();
+    let mut best = MemberViolations::none();
     let definitions = meanings.all();
     for (number, definition) in definitions.iter().enumerate() {
         let kind = &definition.kind;
         let found = find_in_owner(alloc, meanings, parts, resolver, steps, number, kind)?;
-        best = lesser_spots(best, found);
+        best = earlier_violations(best, found);
     }
     Ok(best)
 }
 
-// The least spots in the definition of this number, if it is an interface or a namespace that its name
-// means.
+/// The first violations in the definition of this number, if it is an interface or a namespace that its name
+/// means.
 fn find_in_owner<'a>(
     alloc: Global,
     meanings: &Meanings<'_, 'a>,
@@ -70,22 +70,22 @@ fn find_in_owner<'a>(
     steps: &mut usize,
     number: usize,
     kind: &DefinitionKind,
-) -> Result<MemberSpots, AllocError>
+) -> Result<MemberViolations, AllocError>
     requires same { parts.now ≡ meanings.now }
     requires resolved { resolver.now ≡ meanings.now }
     requires there { option_map (λ d. d.kind) (slice_get (plain_definitions meanings.now) number) ≡ Some (definition_kind_of kind.now) }
-    ensures { IfOk result (λ spots. AreSpots (InOwner (plain_definitions meanings.now) number (definition_kind_of kind.now)) (plain_definitions meanings.now) spots) }
+    ensures { IfOk result (λ violations. AreViolations (InOwner (plain_definitions meanings.now) number (definition_kind_of kind.now)) (plain_definitions meanings.now) violations) }
 {
     if is_owner(meanings, number, kind) {
         let list = parts.list(alloc, number)?;
         let members = list_members(alloc, &list)?;
         find_in_members(alloc, resolver, steps, kind_of(kind), &members)
     } else {
-        Ok(MemberSpots::none())
+        Ok(MemberViolations::none())
     }
 }
 
-// Whether a definition of this number is an interface or a namespace that its name means.
+/// Whether a definition of this number is an interface or a namespace that its name means.
 fn is_owner(meanings: &Meanings, number: usize, kind: &DefinitionKind) -> bool
     ensures { result ≡ is_owner (plain_definitions meanings.now) number (definition_kind_of kind.now) }
 {
@@ -119,21 +119,21 @@ fn is_interface(kind: Kind) -> bool
     }
 }
 
-// The least spots among these members of an interface or a namespace; each rule asks its kinds alone.
+/// The first violations among these members of an interface or a namespace; each rule asks its kinds alone.
 fn find_in_members<'a>(
     alloc: Global,
     resolver: &Resolver<'_, '_, 'a>,
     steps: &mut usize,
     kind: Kind,
     members: &[&'a Member],
-) -> Result<MemberSpots, AllocError>
+) -> Result<MemberViolations, AllocError>
     requires { has_members_of_its_own kind ≡ true }
-    ensures { IfOk result (λ spots. AreSpots (InMembers kind (listed_members members.now)) (plain_definitions resolver.now) spots) }
+    ensures { IfOk result (λ violations. AreViolations (InMembers kind (listed_members members.now)) (plain_definitions resolver.now) violations) }
 {
     let repeated = first_repeated_member(alloc, members)?;
     let overload = first_overload_past_limit(alloc, members)?;
     let promise = first_mixing_promises(alloc, resolver, steps, members)?;
-    Ok(MemberSpots {
+    Ok(MemberViolations {
         repeated,
         kept_name: find_kept_name(kind, members),
         overload,
@@ -142,9 +142,9 @@ fn find_in_members<'a>(
     })
 }
 
-// The least place of a name that a static member or a constant of an interface may not have.
-fn find_kept_name(kind: Kind, members: &[&Member]) -> Option<Spot>
-    ensures { LeastWhere (InMembers kind (listed_members members.now) is_interface_kind HasKeptName) result }
+/// The first place of a name that a static member or a constant of an interface may not have.
+fn find_kept_name(kind: Kind, members: &[&Member]) -> Option<Violation>
+    ensures { FirstWhere (InMembers kind (listed_members members.now) is_interface_kind HasKeptName) result }
 {
     if is_interface(kind) {
         first_kept_name(members)
@@ -153,9 +153,9 @@ fn find_kept_name(kind: Kind, members: &[&Member]) -> Option<Spot>
     }
 }
 
-// The least place of the word of a second stringifier of an interface.
-fn find_stringifier(kind: Kind, members: &[&Member]) -> Option<Spot>
-    ensures { LeastWhere (InMembers kind (listed_members members.now) is_interface_kind IsSecondStringifier) result }
+/// The first place of the word of a second stringifier of an interface.
+fn find_stringifier(kind: Kind, members: &[&Member]) -> Option<Violation>
+    ensures { FirstWhere (InMembers kind (listed_members members.now) is_interface_kind IsSecondStringifier) result }
 {
     if is_interface(kind) {
         first_second_stringifier(members)
@@ -164,24 +164,24 @@ fn find_stringifier(kind: Kind, members: &[&Member]) -> Option<Spot>
     }
 }
 
-// Of each rule the lesser spot.
-fn lesser_spots(best: MemberSpots, found: MemberSpots) -> MemberSpots
-    ensures { result ≡ lesser_spots best found }
+/// Of each rule the earlier violation.
+fn earlier_violations(best: MemberViolations, found: MemberViolations) -> MemberViolations
+    ensures { result ≡ earlier_violations best found }
 {
-    MemberSpots {
-        repeated: lesser_spot(best.repeated, found.repeated),
-        kept_name: lesser_spot(best.kept_name, found.kept_name),
-        overload: lesser_spot(best.overload, found.overload),
-        promise: lesser_spot(best.promise, found.promise),
-        stringifier: lesser_spot(best.stringifier, found.stringifier),
+    MemberViolations {
+        repeated: earlier_violation(best.repeated, found.repeated),
+        kept_name: earlier_violation(best.kept_name, found.kept_name),
+        overload: earlier_violation(best.overload, found.overload),
+        promise: earlier_violation(best.promise, found.promise),
+        stringifier: earlier_violation(best.stringifier, found.stringifier),
     }
 }
 
-impl MemberSpots {
-    fn none() -> MemberSpots
-        ensures { result ≡ no_spots }
+impl MemberViolations {
+    fn none() -> MemberViolations
+        ensures { result ≡ no_violations }
     {
-        MemberSpots {
+        MemberViolations {
             repeated: None,
             kept_name: None,
             overload: None,

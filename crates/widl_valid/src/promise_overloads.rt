@@ -1,30 +1,30 @@
 //! Operations of which some overloads return promises and some don't.
 
 ghost use Rattle.std.specs.Prelude.{◌≡◌, ℕ, Bool, false, List, ◌&&◌, ◌||◌, not, IfOk, OnOk};
-ghost use Rattle.widl_idl.specs.Least.{AtOne, LeastWhere};
+ghost use Rattle.widl_idl.specs.First.{AtOne, FirstWhere};
 ghost use Rattle.widl_idl.specs.MergingRules.{both_or_none, is_static};
 ghost use Rattle.widl_idl.specs.PlainTrees.{member_kind_of, operation_of, plain_definitions};
 ghost use Rattle.widl_idl.specs.Terms.{type_term};
 ghost use Rattle.widl_overload.specs.MemberRules.{MixesPromises, is_promise, returns_promise};
-ghost use Rattle.widl_valid.specs.MemberTables.{gives_promise, has_overload, has_returned, is_overload, listed_members, spot_of_name, spot_of_other};
+ghost use Rattle.widl_valid.specs.MemberTables.{gives_promise, has_overload, has_returned, is_overload, listed_members, violation_of_name, violation_of_other};
 
 use crate::operation_names::OperationNames;
 use crate::owner_members::is_static;
 use std::alloc::{AllocError, Global};
 use widl_idl::tree::{Member, MemberKind, Operation};
-use widl_idl::{IdlType, Spot, lesser_spot};
+use widl_idl::{IdlType, Violation, earlier_violation};
 use widl_names::Resolver;
 
-// The names of operations, by what they return.
+/// The names of operations, by what they return.
 #[derive(Drop)]
 struct ReturnedKinds<'a> {
-    // Those that return promises.
+    /// Those that return promises.
     promises: OperationNames<'a>,
-    // Those that return none.
+    /// Those that return none.
     others: OperationNames<'a>,
 }
 
-/// The least place of the name of an operation that returns a promise where its earlier overloads return
+/// The first place of the name of an operation that returns a promise where its earlier overloads return
 /// none, or returns none where they return promises.
 ///
 /// # Errors
@@ -35,21 +35,21 @@ pub fn first_mixing_promises<'a>(
     resolver: &Resolver<'_, '_, 'a>,
     steps: &mut usize,
     members: &[&'a Member],
-) -> Result<Option<Spot>, AllocError>
-    ensures { IfOk result (λ found. LeastWhere (AtOne (MixesPromises (plain_definitions resolver.now)) (listed_members members.now)) found) }
+) -> Result<Option<Violation>, AllocError>
+    ensures { IfOk result (λ found. FirstWhere (AtOne (MixesPromises (plain_definitions resolver.now)) (listed_members members.now)) found) }
 {
     let mut names = ReturnedKinds::new(alloc);
     let mut best = None;
     for member in members {
         let promise = gives_promise(alloc, resolver, steps, &member.kind)?;
         let found = names.differing(promise, &member.kind);
-        best = lesser_spot(best, found);
+        best = earlier_violation(best, found);
         names.add(promise, &member.kind)?;
     }
     Ok(best)
 }
 
-// Whether a member is an operation that returns a promise.
+/// Whether a member is an operation that returns a promise.
 fn gives_promise<'a>(
     alloc: Global,
     resolver: &Resolver<'_, '_, 'a>,
@@ -95,10 +95,10 @@ impl<'a> ReturnedKinds<'a> {
         }
     }
 
-    // The place of the name of a member, an operation that returns a promise or not, where all that are
-    // known of its name return the other.
-    fn differing(&self, promise: bool, kind: &MemberKind) -> Option<Spot>
-        ensures { result ≡ spot_of_other (has_returned self.now.promises.regular self.now.promises.fixed self.now.others.regular self.now.others.fixed) promise (member_kind_of kind.now) }
+    /// The place of the name of a member, an operation that returns a promise or not, where all that are
+    /// known of its name return the other.
+    fn differing(&self, promise: bool, kind: &MemberKind) -> Option<Violation>
+        ensures { result ≡ violation_of_other (has_returned self.now.promises.regular self.now.promises.fixed self.now.others.regular self.now.others.fixed) promise (member_kind_of kind.now) }
     {
         match kind {
             MemberKind::Operation(operation) => self.differing_operation(promise, operation),
@@ -106,12 +106,12 @@ impl<'a> ReturnedKinds<'a> {
         }
     }
 
-    fn differing_operation(&self, promise: bool, operation: &Operation) -> Option<Spot>
-        ensures { result ≡ spot_of_name (operation_of operation.now).name (λ text. has_returned self.now.promises.regular self.now.promises.fixed self.now.others.regular self.now.others.fixed text (is_static operation.now.kind) (not promise) && not (has_returned self.now.promises.regular self.now.promises.fixed self.now.others.regular self.now.others.fixed text (is_static operation.now.kind) promise)) }
+    fn differing_operation(&self, promise: bool, operation: &Operation) -> Option<Violation>
+        ensures { result ≡ violation_of_name (operation_of operation.now).name (λ text. has_returned self.now.promises.regular self.now.promises.fixed self.now.others.regular self.now.others.fixed text (is_static operation.now.kind) (not promise) && not (has_returned self.now.promises.regular self.now.promises.fixed self.now.others.regular self.now.others.fixed text (is_static operation.now.kind) promise)) }
     {
         let name = operation.name.as_ref()?;
         if self.are_others(name.text.as_str(), is_static(operation.kind), promise) {
-            Some(Spot::at(name.at))
+            Some(Violation::at(name.at))
         } else {
             None
         }
@@ -133,7 +133,7 @@ impl<'a> ReturnedKinds<'a> {
         }
     }
 
-    // Adds the name of a member, if it is an operation; it is empty where the operation has none.
+    /// Adds the name of a member, if it is an operation; it is empty where the operation has none.
     fn add(&mut self, promise: bool, kind: &'a MemberKind) -> Result<(), AllocError>
         ensures { OnOk result ((text : List ℕ) (static asked : Bool) → has_returned self.new.promises.regular self.new.promises.fixed self.new.others.regular self.new.others.fixed text static asked ≡ (has_returned self.old.promises.regular self.old.promises.fixed self.old.others.regular self.old.others.fixed text static asked || (is_overload text static (member_kind_of kind.now) && both_or_none asked promise))) }
     {

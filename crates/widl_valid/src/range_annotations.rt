@@ -1,7 +1,7 @@
 //! Where the annotations of a type stand that say what becomes of numbers out of its range.
 
 ghost use Rattle.std.specs.Prelude.{◌≡◌, ◌++◌, List, [], map};
-ghost use Rattle.widl_idl.specs.Least.{LeastWhere};
+ghost use Rattle.widl_idl.specs.First.{FirstWhere};
 ghost use Rattle.widl_idl.specs.PlainTypes.{attribute_of};
 ghost use Rattle.widl_idl.specs.Resolution.{Note};
 ghost use Rattle.widl_idl.specs.WrittenTypes.{annotation_of, notes_of};
@@ -9,20 +9,20 @@ ghost use Rattle.widl_overload.specs.TypeRules.{HasBoth, later};
 ghost use Rattle.widl_valid.specs.EarliestNotes.{AreEarliest, later_of, said_by};
 
 use widl_idl::tree::ExtendedAttribute;
-use widl_idl::{Spot, lesser_spot};
+use widl_idl::{Violation, earlier_violation};
 use widl_text::Place;
 
-// The names of the earliest `[Clamp]` and of the earliest `[EnforceRange]` in a list of annotations.
+/// The names of the earliest `[Clamp]` and of the earliest `[EnforceRange]` in a list of annotations.
 #[derive(Clone, Copy)]
 pub struct RangeAnnotations {
-    // Where `[Clamp]` stands.
-    pub clamp: Option<Spot>,
-    // Where `[EnforceRange]` stands.
-    pub enforce: Option<Spot>,
+    /// Where `[Clamp]` stands.
+    pub clamp: Option<Violation>,
+    /// Where `[EnforceRange]` stands.
+    pub enforce: Option<Violation>,
 }
 
 impl RangeAnnotations {
-    // Those of no annotation.
+    /// Those of no annotation.
     pub fn none() -> RangeAnnotations
         ensures { AreEarliest result [] }
     {
@@ -32,7 +32,7 @@ impl RangeAnnotations {
         }
     }
 
-    // Those among extended attributes.
+    /// Those among extended attributes.
     pub fn of(attributes: &[ExtendedAttribute]) -> RangeAnnotations
         ensures { AreEarliest result (notes_of (map attribute_of attributes.now)) }
     {
@@ -43,30 +43,30 @@ impl RangeAnnotations {
         said
     }
 
-    // Those in these annotations and others together.
+    /// Those in these annotations and others together.
     pub fn followed_by(self, others: RangeAnnotations) -> RangeAnnotations
         ensures { (notes more : List Note) → AreEarliest self notes → AreEarliest others more → AreEarliest result (notes ++ more) }
     {
         RangeAnnotations {
-            clamp: lesser_spot(self.clamp, others.clamp),
-            enforce: lesser_spot(self.enforce, others.enforce),
+            clamp: earlier_violation(self.clamp, others.clamp),
+            enforce: earlier_violation(self.enforce, others.enforce),
         }
     }
 
-    // The later name of the two, where there are both: the least place that is the later of a `[Clamp]` and an
-    // `[EnforceRange]`.
-    pub fn later(self) -> Option<Spot>
-        ensures { (notes : List Note) → AreEarliest self notes → LeastWhere (HasBoth notes) result }
+    /// The later name of the two, where there are both: the first place that is the later of a `[Clamp]` and an
+    /// `[EnforceRange]`.
+    pub fn later(self) -> Option<Violation>
+        ensures { (notes : List Note) → AreEarliest self notes → FirstWhere (HasBoth notes) result }
     {
-        later_spot(self.clamp, self.enforce)
+        later_violation(self.clamp, self.enforce)
     }
 
-    // What one extended attribute says.
+    /// What one extended attribute says.
     fn of_one(attribute: &ExtendedAttribute) -> RangeAnnotations
         ensures { result ≡ said_by (annotation_of (attribute_of attribute.now).name.text) (attribute_of attribute.now).name.at }
     {
         let name = attribute.name.text.as_str();
-        let at = Spot::at(attribute.name.at);
+        let at = Violation::at(attribute.name.at);
         if name == "Clamp" {
             RangeAnnotations {
                 clamp: Some(at),
@@ -86,17 +86,17 @@ impl RangeAnnotations {
     }
 }
 
-// The later spot of two, where there are both.
-fn later_spot(clamp: Option<Spot>, enforce: Option<Spot>) -> Option<Spot>
+/// The later violation of two, where there are both.
+fn later_violation(clamp: Option<Violation>, enforce: Option<Violation>) -> Option<Violation>
     ensures { result ≡ later_of clamp enforce }
 {
     match (clamp, enforce) {
-        (Some(clamp), Some(enforce)) => Some(Spot::at(later(clamp.at, enforce.at))),
+        (Some(clamp), Some(enforce)) => Some(Violation::at(later(clamp.at, enforce.at))),
         _ => None,
     }
 }
 
-// Of two places the later one.
+/// Of two places the later one.
 fn later(p: Place, q: Place) -> Place
     ensures { result ≡ later p q }
 {

@@ -16,19 +16,19 @@ use std::alloc::{AllocError, Global};
 use widl_idl::tree::{AnnotatedType, TypeForm};
 use widl_names::{Meanings, number_named, typedef_at, typedef_order};
 
-// Where a chain of typedefs ends that begins with a typedef's type.
+/// Where a chain of typedefs ends that begins with a typedef's type.
 #[derive(Clone, Copy)]
 pub struct RangeEnd<'a> {
-    // The last type of the chain without its `?`.
+    /// The last type of the chain without its `?`.
     pub form: &'a TypeForm,
-    // The annotations of the chain's types.
+    /// The annotations of the chain's types.
     pub said: RangeAnnotations,
-    // How many typedefs are passed behind the first type.
+    /// How many typedefs are passed after the first type.
     pub passed: usize,
 }
 
 impl<'a> RangeEnd<'a> {
-    // The end of the chain that is this type alone.
+    /// The end of the chain that is this type alone.
     pub fn of(ty: &'a AnnotatedType) -> RangeEnd<'a>
         ensures end { (definitions : List PlainDefinition) → EndsAt definitions (annotated_of ty.now) result }
         ensures passed { result.passed ≡ 0 }
@@ -40,8 +40,8 @@ impl<'a> RangeEnd<'a> {
         }
     }
 
-    // The end of the chain that begins with a type which names the typedef whose chain ends here.
-    fn behind(&self, ty: &'a AnnotatedType) -> RangeEnd<'a>
+    /// The end of the chain that begins with a type which names the typedef whose chain ends here.
+    fn after(&self, ty: &'a AnnotatedType) -> RangeEnd<'a>
         requires { self.now.passed < 2 ^ 64 - 1 }
         ensures { (definitions : List PlainDefinition) → IsEndOf definitions (typedef_of_form definitions (form_term ty.now.ty.form)) self.now → EndsAt definitions (annotated_of ty.now) result }
     {
@@ -54,9 +54,9 @@ impl<'a> RangeEnd<'a> {
     }
 }
 
-// For each definition the end of its chain, if it is a typedef.
-//
-// `AllocError` is given where there is no memory.
+/// For each definition the end of its chain, if it is a typedef.
+///
+/// `AllocError` is given where there is no memory.
 pub fn range_ends<'a>(
     alloc: Global,
     meanings: &Meanings<'_, 'a>,
@@ -72,7 +72,7 @@ pub fn range_ends<'a>(
     Ok(ends)
 }
 
-// The end of the chain of a definition, if it is a typedef, where those of others are kept.
+/// The end of the chain of a definition, if it is a typedef, where those of others are kept.
 fn end_of<'a>(
     meanings: &Meanings<'_, 'a>,
     ends: &[Option<RangeEnd<'a>>],
@@ -87,7 +87,7 @@ fn end_of<'a>(
     }
 }
 
-// The end of the chain that begins with a type.
+/// The end of the chain that begins with a type.
 fn chain_end<'a>(
     meanings: &Meanings<'_, 'a>,
     ends: &[Option<RangeEnd<'a>>],
@@ -99,14 +99,14 @@ fn chain_end<'a>(
     match end_named(meanings, ends, &ty.ty.form) {
         None => RangeEnd::of(ty),
         Some(next) => if next.passed < usize::MAX {
-            next.behind(ty)
+            next.after(ty)
         } else {
             RangeEnd::of(ty)
         },
     }
 }
 
-// The end of the chain of the typedef that a form names, if it is kept.
+/// The end of the chain of the typedef that a form names, if it is kept.
 fn end_named<'a>(
     meanings: &Meanings<'_, 'a>,
     ends: &[Option<RangeEnd<'a>>],
@@ -121,7 +121,7 @@ fn end_named<'a>(
     }
 }
 
-// What is kept under the number.
+/// What is kept under the number.
 pub fn kept_end<'a>(ends: &[Option<RangeEnd<'a>>], number: usize) -> Option<RangeEnd<'a>>
     ensures { (definitions : List PlainDefinition) → AreEnds definitions ends.now → IfSome result (IsEndOf definitions (typedef_at definitions number)) }
 {
@@ -131,7 +131,7 @@ pub fn kept_end<'a>(ends: &[Option<RangeEnd<'a>>], number: usize) -> Option<Rang
     }
 }
 
-// Keeps an end under the number, if there is a place for it.
+/// Keeps an end under the number, if there is a place for it.
 fn keep_end<'a>(ends: &mut Vec<Option<RangeEnd<'a>>>, number: usize, end: Option<RangeEnd<'a>>)
     ensures { (definitions : List PlainDefinition) → AreEnds definitions ends.old.items → IfSome end.entry (IsEndOf definitions (typedef_at definitions number)) → AreEnds definitions ends.new.items }
 {

@@ -3,7 +3,7 @@
 ghost use Rattle.std.specs.Prelude.{◌≡◌, ◌<◌, IfOk, OnOk, length, slice_index, take, nat_lt};
 ghost use Rattle.std.specs.List.{All, list_any};
 ghost use Rattle.std.specs.List.Sorted.{IsNonDecreasingBy, IsPermutation};
-ghost use Rattle.widl_valid.specs.AlikePairs.{any_pair, are_related};
+ghost use Rattle.widl_valid.specs.IndistinguishablePairs.{any_pair, are_related};
 ghost use Rattle.widl_valid.specs.Lineages.{TellRelated, begins_within, touches};
 
 use crate::lineages::{Lineages, Span};
@@ -32,7 +32,7 @@ pub fn any_related(
     }
 }
 
-// Whether two of the spans have a place in common.
+/// Whether two of the spans have a place in common.
 fn any_touch(spans: Vec<Span>) -> Result<bool, AllocError>
     requires { All (λ s. s.start < s.past) spans.items }
     ensures { IfOk result (λ found. found ≡ any_pair touches spans.items) }
@@ -42,7 +42,7 @@ fn any_touch(spans: Vec<Span>) -> Result<bool, AllocError>
     Ok(any_begins_within(&spans))
 }
 
-// Sorts spans by where they start.
+/// Sorts spans by where they start.
 fn sort_by_start(spans: &mut Vec<Span>) -> Result<(), AllocError>
     ensures same { IsPermutation spans.old.items spans.new.items }
     ensures sorted { OnOk result (IsNonDecreasingBy (λ s. s.start) spans.new.items) }
@@ -51,7 +51,7 @@ fn sort_by_start(spans: &mut Vec<Span>) -> Result<(), AllocError>
     Ok(())
 }
 
-// Whether one of the spans starts before an earlier one is past.
+/// Whether one of the spans starts before an earlier one is past.
 fn any_begins_within(spans: &[Span]) -> bool
     ensures { result ≡ any_pair begins_within spans.now }
 {
@@ -65,8 +65,8 @@ fn any_begins_within(spans: &[Span]) -> bool
     false
 }
 
-// Whether one of the interfaces is another one, or inherits from it, by a walk along the parents for
-// each two.
+/// Whether one of the interfaces is another one, or inherits from it, by a walk along the parents for
+/// each two.
 fn any_pair_related(ifaces: &[Iface], numbers: &[u32]) -> bool
     ensures { result ≡ any_pair (are_related ifaces.now) numbers.now }
 {
@@ -78,7 +78,7 @@ fn any_pair_related(ifaces: &[Iface], numbers: &[u32]) -> bool
     false
 }
 
-// Whether the interface at a place is one of those before it, inherits from it, or the other way round.
+/// Whether the interface at a place is one of those before it, inherits from it, or the other way round.
 fn relates_before(ifaces: &[Iface], numbers: &[u32], place: usize) -> bool
     requires { place < length numbers.now }
     ensures { result ≡ list_any (λ m. are_related ifaces.now m (slice_index numbers.now place)) (take place numbers.now) }

@@ -1,40 +1,43 @@
 //! Members that have one name.
 
 ghost use Rattle.std.specs.Prelude.{◌≡◌, ℕ, Bool, false, List, ◌&&◌, ◌||◌, not, bytes_eq, IfOk, OnOk};
-ghost use Rattle.widl_idl.specs.Least.{AtOne, LeastWhere};
+ghost use Rattle.widl_idl.specs.First.{AtOne, FirstWhere};
 ghost use Rattle.widl_idl.specs.PlainTrees.{member_kind_of};
 ghost use Rattle.widl_overload.specs.MemberRules.{RepeatsMember, identifier, is_named, is_operation};
-ghost use Rattle.widl_valid.specs.MemberTables.{clashes, listed_members, spot_of_name};
+ghost use Rattle.widl_valid.specs.MemberTables.{clashes, listed_members, violation_of_name};
 
 use crate::operation_names::add_text;
 use crate::owner_members::{identifier, is_operation};
 use indexmap::IndexSet;
 use std::alloc::{AllocError, Global};
 use widl_idl::tree::{Member, MemberKind};
-use widl_idl::{Spot, lesser_spot};
+use widl_idl::{Violation, earlier_violation};
 
-// The names of members.
+/// The names of members.
 #[derive(Drop)]
 struct MemberNames<'a> {
-    // Those of operations.
+    /// Those of operations.
     operations: IndexSet<&'a str>,
-    // Those of constants and attributes.
+    /// Those of constants and attributes.
     others: IndexSet<&'a str>,
 }
 
-/// The least place of the name of a member that an earlier one has too, where not both are operations.
+/// The first place of the name of a member that an earlier one has too, where not both are operations.
 ///
 /// # Errors
 ///
 /// `AllocError` where there is no memory.
-pub fn first_repeated_member(alloc: Global, members: &[&Member]) -> Result<Option<Spot>, AllocError>
-    ensures { IfOk result (λ found. LeastWhere (AtOne RepeatsMember (listed_members members.now)) found) }
+pub fn first_repeated_member(
+    alloc: Global,
+    members: &[&Member],
+) -> Result<Option<Violation>, AllocError>
+    ensures { IfOk result (λ found. FirstWhere (AtOne RepeatsMember (listed_members members.now)) found) }
 {
     let mut names = MemberNames::new(alloc);
     let mut best = None;
     for member in members {
         let found = names.repeated(&member.kind);
-        best = lesser_spot(best, found);
+        best = earlier_violation(best, found);
         names.add(&member.kind)?;
     }
     Ok(best)
@@ -50,13 +53,13 @@ impl<'a> MemberNames<'a> {
         }
     }
 
-    // The place of the name of a member, where it may not have it.
-    fn repeated(&self, kind: &MemberKind) -> Option<Spot>
-        ensures { result ≡ spot_of_name (identifier (member_kind_of kind.now)) (λ text. clashes self.now.operations self.now.others text (is_operation (member_kind_of kind.now))) }
+    /// The place of the name of a member, where it may not have it.
+    fn repeated(&self, kind: &MemberKind) -> Option<Violation>
+        ensures { result ≡ violation_of_name (identifier (member_kind_of kind.now)) (λ text. clashes self.now.operations self.now.others text (is_operation (member_kind_of kind.now))) }
     {
         let name = identifier(kind)?;
         if self.clashes(name.text.as_str(), is_operation(kind)) {
-            Some(Spot::at(name.at))
+            Some(Violation::at(name.at))
         } else {
             None
         }
@@ -68,7 +71,7 @@ impl<'a> MemberNames<'a> {
         self.others.contains(text) || !operation && self.operations.contains(text)
     }
 
-    // Adds the name of a member, if it has one.
+    /// Adds the name of a member, if it has one.
     fn add(&mut self, kind: &'a MemberKind) -> Result<(), AllocError>
         ensures { OnOk result ((text : List ℕ) (operation : Bool) → clashes self.new.operations self.new.others text operation ≡ (clashes self.old.operations self.old.others text operation || (is_named text (identifier (member_kind_of kind.now)) && not (is_operation (member_kind_of kind.now) && operation)))) }
     {

@@ -41,7 +41,7 @@ pub fn resolve_uses<'a>(
     Ok(resolved)
 }
 
-// One of these types with what it means.
+/// One of these types with what it means.
 fn resolve_use<'a>(
     alloc: Global,
     resolver: &Resolver<'_, '_, 'a>,

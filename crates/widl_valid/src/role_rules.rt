@@ -2,7 +2,7 @@
 //! where `undefined` may stand.
 
 ghost use Rattle.std.specs.Prelude.{◌≡◌};
-ghost use Rattle.widl_idl.specs.Least.{LeastWhere};
+ghost use Rattle.widl_idl.specs.First.{FirstWhere};
 ghost use Rattle.widl_idl.specs.PlainTypes.{form_term};
 ghost use Rattle.widl_idl.specs.Terms.{type_term};
 ghost use Rattle.widl_overload.specs.TypeRules.{IsCopiedAttribute, IsOtherConstantType, IsUndefinedInside, is_attribute_role, is_constant_role, is_constant_type, is_undefined_form, takes_undefined};
@@ -11,15 +11,15 @@ ghost use Rattle.widl_valid.specs.UsesListed.{resolved_use};
 use crate::resolved_uses::ResolvedUse;
 use crate::sought::any_copied;
 use widl_idl::tree::TypeForm;
-use widl_idl::{IdlType, Spot};
+use widl_idl::{IdlType, Violation};
 use widl_overload::TypeRole;
 
-// The place of a constant's type that is neither boolean nor an integer type.
-pub fn other_constant_type(ty: &ResolvedUse<'_>) -> Option<Spot>
-    ensures { LeastWhere (IsOtherConstantType (resolved_use ty.now).meaning (resolved_use ty.now).written) result }
+/// The place of a constant's type that is neither boolean nor an integer type.
+pub fn other_constant_type(ty: &ResolvedUse<'_>) -> Option<Violation>
+    ensures { FirstWhere (IsOtherConstantType (resolved_use ty.now).meaning (resolved_use ty.now).written) result }
 {
     if is_constant_role(ty.written.role) && !is_constant_type(&ty.meaning) {
-        Some(Spot::at(ty.written.ty.at))
+        Some(Violation::at(ty.written.ty.at))
     } else {
         None
     }
@@ -37,12 +37,12 @@ fn is_constant_type(t: &IdlType) -> bool
     matches!(t, IdlType::Boolean | IdlType::Int(_, _))
 }
 
-// The place of an attribute's type whose values are copied when they are read.
-pub fn copied_attribute(ty: &ResolvedUse<'_>) -> Option<Spot>
-    ensures { LeastWhere (IsCopiedAttribute (resolved_use ty.now).meaning (resolved_use ty.now).written) result }
+/// The place of an attribute's type whose values are copied when they are read.
+pub fn copied_attribute(ty: &ResolvedUse<'_>) -> Option<Violation>
+    ensures { FirstWhere (IsCopiedAttribute (resolved_use ty.now).meaning (resolved_use ty.now).written) result }
 {
     if is_attribute_role(ty.written.role) && any_copied(&ty.meaning) {
-        Some(Spot::at(ty.written.ty.at))
+        Some(Violation::at(ty.written.ty.at))
     } else {
         None
     }
@@ -54,15 +54,15 @@ fn is_attribute_role(role: TypeRole) -> bool
     matches!(role, TypeRole::Attribute)
 }
 
-// The place of `undefined` elsewhere than as a whole return type or the whole type of a promise.
-pub fn undefined_inside(ty: &ResolvedUse<'_>) -> Option<Spot>
-    ensures { LeastWhere (IsUndefinedInside (resolved_use ty.now).written) result }
+/// The place of `undefined` elsewhere than as a whole return type or the whole type of a promise.
+pub fn undefined_inside(ty: &ResolvedUse<'_>) -> Option<Violation>
+    ensures { FirstWhere (IsUndefinedInside (resolved_use ty.now).written) result }
 {
     let written = ty.written.ty;
     if is_undefined(&written.form)
         && (!takes_undefined(ty.written.role) || written.question.is_some())
     {
-        Some(Spot::at(written.at))
+        Some(Violation::at(written.at))
     } else {
         None
     }

@@ -10,16 +10,16 @@ ghost use Rattle.widl_valid.specs.TypeRuleList.{is_sought};
 
 use widl_idl::{IdlType, IdlTypes};
 
-// What types are sought.
+/// What types are sought.
 #[derive(Clone, Copy)]
 pub enum Sought {
-    // Dictionaries.
+    /// Dictionaries.
     Dictionary,
-    // Types whose values are copied when they are read: sequences, dictionaries and records.
+    /// Types whose values are copied when they are read: sequences, dictionaries and records.
     Copied,
 }
 
-// Whether one of the types that this one is flattened to is a dictionary.
+/// Whether one of the types that this one is flattened to is a dictionary.
 #[tactic(auto, unfolding(crate::specs::TypeRuleList::is_sought))]
 pub fn any_dictionary(t: &IdlType) -> bool
     ensures { result ≡ list_any is_dictionary (flattened_member (type_term t.now)) }
@@ -27,7 +27,7 @@ pub fn any_dictionary(t: &IdlType) -> bool
     any_sought(Sought::Dictionary, t)
 }
 
-// Whether values of one of the types that this one is flattened to are copied when they are read.
+/// Whether values of one of the types that this one is flattened to are copied when they are read.
 #[tactic(auto, unfolding(crate::specs::TypeRuleList::is_sought))]
 pub fn any_copied(t: &IdlType) -> bool
     ensures { result ≡ list_any is_copied (flattened_member (type_term t.now)) }
@@ -35,7 +35,7 @@ pub fn any_copied(t: &IdlType) -> bool
     any_sought(Sought::Copied, t)
 }
 
-// Whether one of the types that this one is flattened to is sought.
+/// Whether one of the types that this one is flattened to is sought.
 #[cycle(flattened)]
 fn any_sought(sought: Sought, t: &IdlType) -> bool
     ensures { result ≡ list_any (is_sought sought) (flattened_member (type_term t.now)) }
@@ -59,7 +59,7 @@ fn any_member_sought(sought: Sought, members: &IdlTypes) -> bool
     false
 }
 
-// Whether a type, which is neither nullable nor a union, is sought, with its annotation or without.
+/// Whether a type, which is neither nullable nor a union, is sought, with its annotation or without.
 #[tactic(auto, unfolding(crate::specs::TypeRuleList::is_sought))]
 fn is_sought(sought: Sought, t: &IdlType) -> bool
     ensures { result ≡ is_sought sought (unannotated (type_term t.now)) }

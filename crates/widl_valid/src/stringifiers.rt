@@ -1,31 +1,31 @@
 //! Second stringifiers.
 
 ghost use Rattle.std.specs.Prelude.{◌≡◌, ◌||◌, is_some};
-ghost use Rattle.widl_idl.specs.Least.{AtOne, LeastWhere};
+ghost use Rattle.widl_idl.specs.First.{AtOne, FirstWhere};
 ghost use Rattle.widl_idl.specs.PlainTrees.{member_kind_of};
 ghost use Rattle.widl_overload.specs.MemberRules.{IsSecondStringifier, stringifier_place, word_of_attribute};
-ghost use Rattle.widl_valid.specs.MemberTables.{listed_members, spot_behind};
+ghost use Rattle.widl_valid.specs.MemberTables.{listed_members, violation_after};
 
 use widl_idl::tree::{AttributeKind, Member, MemberKind};
-use widl_idl::{Spot, lesser_spot};
+use widl_idl::{Violation, earlier_violation};
 use widl_text::Place;
 
-/// The least place of the word of a stringifier that follows another.
-pub fn first_second_stringifier(members: &[&Member]) -> Option<Spot>
-    ensures { LeastWhere (AtOne IsSecondStringifier (listed_members members.now)) result }
+/// The first place of the word of a stringifier that follows another.
+pub fn first_second_stringifier(members: &[&Member]) -> Option<Violation>
+    ensures { FirstWhere (AtOne IsSecondStringifier (listed_members members.now)) result }
 {
     let mut seen = false;
     let mut best = None;
     for member in members {
         let place = stringifier_place(&member.kind);
-        let found = spot_behind(seen, place);
-        best = lesser_spot(best, found);
+        let found = violation_after(seen, place);
+        best = earlier_violation(best, found);
         seen = either(seen, place);
     }
     best
 }
 
-// Where the word `stringifier` of a member stands.
+/// Where the word `stringifier` of a member stands.
 fn stringifier_place(kind: &MemberKind) -> Option<Place>
     ensures { result ≡ stringifier_place (member_kind_of kind.now) }
 {
@@ -45,12 +45,16 @@ fn word_of_attribute(kind: AttributeKind) -> Option<Place>
     }
 }
 
-fn spot_behind(seen: bool, place: Option<Place>) -> Option<Spot>
-    ensures { result ≡ spot_behind seen place }
+fn violation_after(seen: bool, place: Option<Place>) -> Option<Violation>
+    ensures { result ≡ violation_after seen place }
 {
     match place {
         None => None,
-        Some(place) => if seen { Some(Spot::at(place)) } else { None },
+        Some(place) => if seen {
+            Some(Violation::at(place))
+        } else {
+            None
+        },
     }
 }
 

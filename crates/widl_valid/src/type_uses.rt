@@ -20,7 +20,7 @@ use widl_text::Place;
 pub struct TypeUse<'a> {
     /// What it is the type of.
     pub role: TypeRole,
-    /// The extended attributes of the thing that it is the type of, which belong to the type.
+    /// The extended attributes of the node that it is the type of, which belong to the type.
     pub outer: &'a [ExtendedAttribute],
     /// The extended attributes before the type itself.
     pub own: &'a [ExtendedAttribute],
@@ -46,7 +46,7 @@ pub fn list_type_uses<'a>(
     Ok(uses)
 }
 
-// Adds one type.
+/// Adds one type.
 fn add_use<'a>(uses: &mut Vec<TypeUse<'a>>, added: TypeUse<'a>) -> Result<(), AllocError>
     ensures { OnOk result (Adds uses.old.items uses.new.items (use_of added.entry ∷ [])) }
 {
@@ -54,7 +54,7 @@ fn add_use<'a>(uses: &mut Vec<TypeUse<'a>>, added: TypeUse<'a>) -> Result<(), Al
     Ok(())
 }
 
-// Adds a type without extended attributes, and those inside it.
+/// Adds a type without extended attributes, and those inside it.
 #[cycle(list)]
 fn list_plain<'a>(
     uses: &mut Vec<TypeUse<'a>>,
@@ -74,8 +74,8 @@ fn list_plain<'a>(
     list_form(uses, &ty.form)
 }
 
-// Adds a type behind these extended attributes of the thing that it is the type of and its own, and
-// those inside it.
+/// Adds a type after these extended attributes of the node that it is the type of and its own, and
+/// those inside it.
 #[cycle(list)]
 fn list_annotated<'a>(
     uses: &mut Vec<TypeUse<'a>>,
@@ -96,7 +96,7 @@ fn list_annotated<'a>(
     list_form(uses, &ty.ty.form)
 }
 
-// Adds the types inside a type.
+/// Adds the types inside a type.
 #[cycle(list)]
 fn list_form<'a>(uses: &mut Vec<TypeUse<'a>>, form: &'a TypeForm) -> Result<(), AllocError>
     ensures { OnOk result (Adds uses.old.items uses.new.items (uses_in_form (form_term form.now))) }
@@ -110,7 +110,7 @@ fn list_form<'a>(uses: &mut Vec<TypeUse<'a>>, form: &'a TypeForm) -> Result<(), 
     }
 }
 
-// Adds the member types of a union, and those inside them.
+/// Adds the member types of a union, and those inside them.
 #[cycle(list)]
 fn list_union<'a>(
     uses: &mut Vec<TypeUse<'a>>,
@@ -124,14 +124,14 @@ fn list_union<'a>(
     Ok(())
 }
 
-// Adds a type that no extended attributes of another thing belong to.
+/// Adds a type that no extended attributes of another node belong to.
 fn list_inner<'a>(uses: &mut Vec<TypeUse<'a>>, ty: &'a AnnotatedType) -> Result<(), AllocError>
     ensures { OnOk result (Adds uses.old.items uses.new.items (uses_of_annotated role.Inner [] (annotated_of ty.now))) }
 {
     list_annotated(uses, TypeRole::Inner, &[], ty)
 }
 
-// Adds such a type, if there is one.
+/// Adds such a type, if there is one.
 fn list_optional<'a>(
     uses: &mut Vec<TypeUse<'a>>,
     ty: &'a Option<AnnotatedType>,
@@ -144,7 +144,7 @@ fn list_optional<'a>(
     }
 }
 
-// Adds the types of an argument.
+/// Adds the types of an argument.
 fn list_argument<'a>(uses: &mut Vec<TypeUse<'a>>, argument: &'a Argument) -> Result<(), AllocError>
     ensures { OnOk result (Adds uses.old.items uses.new.items (uses_of_argument (argument_of argument.now))) }
 {
@@ -152,7 +152,7 @@ fn list_argument<'a>(uses: &mut Vec<TypeUse<'a>>, argument: &'a Argument) -> Res
     list_annotated(uses, TypeRole::Argument, attributes, &argument.ty)
 }
 
-// Adds the types of arguments.
+/// Adds the types of arguments.
 fn list_arguments<'a>(
     uses: &mut Vec<TypeUse<'a>>,
     arguments: &'a [Argument],
@@ -165,7 +165,7 @@ fn list_arguments<'a>(
     Ok(())
 }
 
-// Adds the types of arguments, if there are parentheses for them.
+/// Adds the types of arguments, if there are parentheses for them.
 fn list_optional_arguments<'a>(
     uses: &mut Vec<TypeUse<'a>>,
     arguments: &'a Option<Arguments>,
@@ -178,7 +178,7 @@ fn list_optional_arguments<'a>(
     }
 }
 
-// Adds the types of a member that has these extended attributes.
+/// Adds the types of a member that has these extended attributes.
 fn list_member_kind<'a>(
     uses: &mut Vec<TypeUse<'a>>,
     attributes: &'a [ExtendedAttribute],
@@ -216,14 +216,14 @@ fn list_member_kind<'a>(
     }
 }
 
-// Adds the types of a member of an interface, a callback interface, a mixin or a namespace.
+/// Adds the types of a member of an interface, a callback interface, a mixin or a namespace.
 fn list_member<'a>(uses: &mut Vec<TypeUse<'a>>, member: &'a Member) -> Result<(), AllocError>
     ensures { OnOk result (Adds uses.old.items uses.new.items (uses_of_member (member_of member.now))) }
 {
     list_member_kind(uses, member.attributes.as_slice(), &member.kind)
 }
 
-// Adds the types of such members.
+/// Adds the types of such members.
 fn list_members<'a>(uses: &mut Vec<TypeUse<'a>>, members: &'a [Member]) -> Result<(), AllocError>
     ensures { OnOk result (Adds uses.old.items uses.new.items (flat_map uses_of_member (members_of members.now))) }
 {
@@ -233,7 +233,7 @@ fn list_members<'a>(uses: &mut Vec<TypeUse<'a>>, members: &'a [Member]) -> Resul
     Ok(())
 }
 
-// Adds the types of a member of a dictionary.
+/// Adds the types of a member of a dictionary.
 fn list_dictionary_member<'a>(
     uses: &mut Vec<TypeUse<'a>>,
     member: &'a DictionaryMember,
@@ -244,7 +244,7 @@ fn list_dictionary_member<'a>(
     list_annotated(uses, TypeRole::DictionaryMember, attributes, &member.ty)
 }
 
-// Adds the types of the members of a dictionary.
+/// Adds the types of the members of a dictionary.
 fn list_dictionary_members<'a>(
     uses: &mut Vec<TypeUse<'a>>,
     members: &'a [DictionaryMember],
@@ -257,7 +257,7 @@ fn list_dictionary_members<'a>(
     Ok(())
 }
 
-// Adds the types in a definition.
+/// Adds the types in a definition.
 fn list_inside<'a>(uses: &mut Vec<TypeUse<'a>>, kind: &'a DefinitionKind) -> Result<(), AllocError>
     ensures { OnOk result (Adds uses.old.items uses.new.items (uses_in_definition (definition_kind_of kind.now))) }
 {

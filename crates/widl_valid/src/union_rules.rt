@@ -1,75 +1,77 @@
-//! The rule on unions with two flattened members that can't be told apart.
+//! The rule on unions with two flattened members that aren't distinguishable.
 
 ghost use Rattle.std.specs.Prelude.{◌≡◌, Ok, true, false, map, IfOk};
-ghost use Rattle.widl_idl.specs.Least.{LeastWhere, Somewhere};
+ghost use Rattle.widl_idl.specs.First.{FirstWhere, Somewhere};
 ghost use Rattle.widl_idl.specs.Terms.{type_term};
-ghost use Rattle.widl_overload.specs.TypeRules.{HaveAlikeMembers, OfUnion, members_of_union};
+ghost use Rattle.widl_overload.specs.TypeRules.{HaveIndistinguishableMembers, OfUnion, members_of_union};
 ghost use Rattle.widl_valid.specs.Lineages.{TellRelated};
 ghost use Rattle.widl_valid.specs.UsesListed.{UseTerm, resolved_use};
 
-use crate::alike_members::have_alike;
+use crate::indistinguishable_members::have_indistinguishable;
 use crate::lineages::Lineages;
 use crate::nullable_rules::is_union;
 use crate::resolved_uses::ResolvedUse;
 use std::alloc::{AllocError, Global};
-use widl_idl::{Defs, IdlType, Spot, flattened, lesser_spot};
+use widl_idl::{Defs, IdlType, Violation, earlier_violation, flattened};
 
-/// The least place of a union of which two flattened members can't be told apart.
+/// The first place of a union of which two flattened members aren't distinguishable.
 ///
 /// # Errors
 ///
 /// `AllocError` where there is no memory.
-pub fn first_alike_union(
+pub fn first_indistinguishable_union(
     alloc: Global,
     defs: &Defs,
     lineages: &Lineages,
     uses: &[ResolvedUse<'_>],
-) -> Result<Option<Spot>, AllocError>
+) -> Result<Option<Violation>, AllocError>
     requires { TellRelated defs.now.ifaces lineages.now.spans.items }
-    ensures { IfOk result (λ found. LeastWhere (Somewhere (λ (r : UseTerm). OfUnion (HaveAlikeMembers defs.now.ifaces) r.meaning r.written) (map resolved_use uses.now)) found) }
+    ensures { IfOk result (λ found. FirstWhere (Somewhere (λ (r : UseTerm). OfUnion (HaveIndistinguishableMembers defs.now.ifaces) r.meaning r.written) (map resolved_use uses.now)) found) }
 {
     let mut best = None;
     for ty in uses {
-        let found = alike_union(alloc, defs, lineages, ty)?;
-        best = lesser_spot(best, found);
+        let found = indistinguishable_union(alloc, defs, lineages, ty)?;
+        best = earlier_violation(best, found);
     }
     Ok(best)
 }
 
-// The place of a type that is written as such a union.
-fn alike_union(
+/// The place of a type that is written as such a union.
+fn indistinguishable_union(
     alloc: Global,
     defs: &Defs,
     lineages: &Lineages,
     ty: &ResolvedUse<'_>,
-) -> Result<Option<Spot>, AllocError>
+) -> Result<Option<Violation>, AllocError>
     requires { TellRelated defs.now.ifaces lineages.now.spans.items }
-    ensures { IfOk result (λ found. LeastWhere (OfUnion (HaveAlikeMembers defs.now.ifaces) (resolved_use ty.now).meaning (resolved_use ty.now).written) found) }
+    ensures { IfOk result (λ found. FirstWhere (OfUnion (HaveIndistinguishableMembers defs.now.ifaces) (resolved_use ty.now).meaning (resolved_use ty.now).written) found) }
 {
-    if is_union(&ty.written.ty.form) && has_alike_members(alloc, defs, lineages, &ty.meaning)? {
-        Ok(Some(Spot::at(ty.written.ty.at)))
+    if is_union(&ty.written.ty.form)
+        && has_indistinguishable_members(alloc, defs, lineages, &ty.meaning)?
+    {
+        Ok(Some(Violation::at(ty.written.ty.at)))
     } else {
         Ok(None)
     }
 }
 
-// Whether two flattened members of a union, with or without a `?`, can't be told apart.
-#[cycle(alike)]
-fn has_alike_members(
+/// Whether two flattened members of a union, with or without a `?`, aren't distinguishable.
+#[cycle(indistinguishable)]
+fn has_indistinguishable_members(
     alloc: Global,
     defs: &Defs,
     lineages: &Lineages,
     t: &IdlType,
 ) -> Result<bool, AllocError>
     requires { TellRelated defs.now.ifaces lineages.now.spans.items }
-    ensures yes { result ≡ Ok true → HaveAlikeMembers defs.now.ifaces (members_of_union (type_term t.now)) }
-    ensures no { result ≡ Ok false → HaveAlikeMembers defs.now.ifaces (members_of_union (type_term t.now)) → ⊥ }
+    ensures yes { result ≡ Ok true → HaveIndistinguishableMembers defs.now.ifaces (members_of_union (type_term t.now)) }
+    ensures no { result ≡ Ok false → HaveIndistinguishableMembers defs.now.ifaces (members_of_union (type_term t.now)) → ⊥ }
 {
     match t {
-        IdlType::Nullable(inner) => has_alike_members(alloc, defs, lineages, inner),
+        IdlType::Nullable(inner) => has_indistinguishable_members(alloc, defs, lineages, inner),
         IdlType::Union(_) => {
             let members = flattened(alloc, t)?;
-            have_alike(alloc, defs, lineages, &members)
+            have_indistinguishable(alloc, defs, lineages, &members)
         }
         _ => Ok(false),
     }

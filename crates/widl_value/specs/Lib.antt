@@ -1,3 +1,5 @@
 pub mod Classes
+pub mod IdlTerms
 pub mod Near
+pub mod Rounding
 pub mod Steps

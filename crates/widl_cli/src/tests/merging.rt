@@ -87,7 +87,7 @@ fn nested_typedefs(alloc: Global, count: u32) -> Result<String, AllocError> {
 }
 
 #[test]
-fn sixteen_levels_behind_typedefs_are_kept(rt: HostRuntime) -> Result<(), Fail> {
+fn sixteen_levels_after_typedefs_are_kept(rt: HostRuntime) -> Result<(), Fail> {
     let alloc = rt.alloc();
     let fifteen = nested_typedefs(alloc, 15)?;
     expect_check(
@@ -142,7 +142,7 @@ fn many_members(alloc: Global) -> Result<String, AllocError> {
 fn a_million_members_are_the_most(rt: HostRuntime) -> Result<(), Fail> {
     let alloc = rt.alloc();
     let most = many_members(alloc)?;
-    // So many members break no rule of merging: the one that is broken stands behind them.
+    // So many members break no rule of merging: the one that is broken stands after them.
     let kept = format!(in alloc; "{}partial interface Z {{ }};", most.as_str())?;
     let line = format!(in alloc; "refused 3 0 {}\n", most.len().saturating_add(18))?;
     expect_rows(&rt, alloc, &[(kept.as_str(), line.as_str())])?;

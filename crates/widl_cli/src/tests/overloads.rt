@@ -1,6 +1,6 @@
-//! The rules of validity on overloads, and the words `sets`.
+//! The rules of validity on overloads, and the command `sets`.
 
-use super::{expect_kept, expect_rows, expect_words};
+use super::{expect_command, expect_kept, expect_rows};
 use crate::Status;
 use std::test::Fail;
 
@@ -98,7 +98,7 @@ fn the_sets_of_a_namespace(rt: HostRuntime) -> Result<(), Fail> {
     let fragment = "namespace N { undefined f(long... a); undefined f(DOMString s, long b); };";
     let lines =
         "N.f 0 #0 ()\nN.f 1 #0 (long variadic)\nN.f 2 #0 (long variadic, long variadic)\nN.f 2 #1 (DOMString required, long required)\nN.f 2 index 0\n";
-    expect_words(&rt, rt.alloc(), "sets", &[fragment], Status::Done, lines)
+    expect_command(&rt, rt.alloc(), "sets", &[fragment], Status::Done, lines)
 }
 
 #[test]
@@ -107,7 +107,7 @@ fn the_sets_of_interfaces_by_their_ids(rt: HostRuntime) -> Result<(), Fail> {
         "interface B : A { static undefined f(optional object a); undefined f(); }; interface A { constructor(); constructor(sequence<long?> a); }; namespace N { any g(record<DOMString, [Clamp] unsigned long long> a); };";
     let lines =
         "A.constructor 0 #0 ()\nA.constructor 1 #1 (sequence<long?> required)\nB.static f 0 #0 ()\nB.static f 1 #0 (object optional)\nB.f 0 #0 ()\nN.g 1 #0 (record<DOMString, unsigned long long> required)\n";
-    expect_words(&rt, rt.alloc(), "sets", &[fragment], Status::Done, lines)
+    expect_command(&rt, rt.alloc(), "sets", &[fragment], Status::Done, lines)
 }
 
 #[test]
@@ -115,7 +115,7 @@ fn names_of_the_grammar_have_their_underscore(rt: HostRuntime) -> Result<(), Fai
     let fragment =
         "dictionary _object { required long a; }; enum E { \"e\" }; typedef (E or _object) T; interface _interface { undefined _any(T a, Promise<E> b); };";
     let lines = "interface.any 2 #0 ((E or _object) required, Promise<E> required)\n";
-    expect_words(&rt, rt.alloc(), "sets", &[fragment], Status::Done, lines)
+    expect_command(&rt, rt.alloc(), "sets", &[fragment], Status::Done, lines)
 }
 
 #[test]
@@ -123,7 +123,7 @@ fn the_sets_of_files_that_are_refused(rt: HostRuntime) -> Result<(), Fail> {
     let alloc = rt.alloc();
     let refused = "refused 35 1 45 other 1 24\n";
     let fragment = "namespace N { undefined f(long a); undefined f(octet a); };";
-    expect_words(
+    expect_command(
         &rt,
         alloc,
         "sets",
@@ -131,5 +131,5 @@ fn the_sets_of_files_that_are_refused(rt: HostRuntime) -> Result<(), Fail> {
         Status::Refused,
         refused,
     )?;
-    expect_words(&rt, alloc, "sets", &["dictionary D { };"], Status::Done, "")
+    expect_command(&rt, alloc, "sets", &["dictionary D { };"], Status::Done, "")
 }

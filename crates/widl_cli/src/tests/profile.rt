@@ -5,7 +5,7 @@ use crate::Status;
 use std::test::Fail;
 
 #[test]
-fn each_form_that_is_left_out_is_named(rt: HostRuntime) -> Result<(), Fail> {
+fn each_form_that_is_unsupported_is_named(rt: HostRuntime) -> Result<(), Fail> {
     let rows = [
         ("interface I { attribute double d; };", "refused X1 0 24\n"),
         (

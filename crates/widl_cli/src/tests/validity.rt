@@ -495,7 +495,7 @@ fn the_file_comes_before_the_offset(rt: HostRuntime) -> Result<(), Fail> {
     Ok(())
 }
 
-/// So many operations of one name behind a text, each with one argument more than the one before.
+/// So many operations of one name after a text, each with one argument more than the one before.
 fn with_overloads(
     alloc: Global,
     first: &str,
@@ -516,7 +516,7 @@ fn with_overloads(
 }
 
 /// Checks that 64 overloads are kept, and that 65 are refused at the name of the last, which stands so
-/// many bytes behind its beginning.
+/// many bytes after its beginning.
 fn expect_most(
     rt: &impl Abort,
     alloc: Global,
@@ -543,7 +543,7 @@ fn sixty_four_overloads_of_each_kind_are_kept(rt: HostRuntime) -> Result<(), Fai
     expect_most(&rt, alloc, "interface I { ", "constructor", 0)
 }
 
-/// The beginning of an operation with so many arguments, each with a comma behind it.
+/// The beginning of an operation with so many arguments, each with a comma after it.
 fn many_arguments(alloc: Global, count: u32) -> Result<String, AllocError> {
     let mut text = String::from_str(alloc, "interface I { undefined f(")?;
     for number in 0..count {

@@ -1,8 +1,7 @@
 //! Arguments of operations, constructors and callbacks.
 
 use super::{AnnotatedType, ExtendedAttributes, Literal, Name};
-use crate::Items;
-use widl_text::Place;
+use widl_text::{Items, Place};
 
 /// An argument ([Web IDL, Operations](https://webidl.spec.whatwg.org/#idl-operations)).
 #[derive(Drop)]
@@ -11,7 +10,7 @@ pub struct Argument {
     pub attributes: ExtendedAttributes,
     /// Whether a call may leave it out, or repeat it.
     pub kind: ArgumentKind,
-    /// Its type. Extended attributes of its own stand only behind the word `optional`.
+    /// Its type. Extended attributes of its own stand only after the word `optional`.
     pub ty: AnnotatedType,
     /// Its name.
     pub name: Name,

@@ -4,7 +4,7 @@ use super::{
     Callback, CallbackInterface, Dictionary, Enumeration, ExtendedAttributes, Includes, Interface,
     Mixin, Namespace, Typedef,
 };
-use crate::Items;
+use widl_text::Items;
 
 /// A definition with the extended attributes before it.
 #[derive(Drop)]

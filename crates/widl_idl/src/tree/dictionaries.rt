@@ -1,7 +1,7 @@
 //! Dictionaries.
 
 use super::{AnnotatedType, ExtendedAttributes, Literal, Name};
-use crate::Items;
+use widl_text::Items;
 
 /// A dictionary ([Web IDL, Dictionaries](https://webidl.spec.whatwg.org/#idl-dictionaries)).
 #[derive(Drop)]
@@ -23,7 +23,7 @@ pub struct DictionaryMember {
     pub attributes: ExtendedAttributes,
     /// Whether it is `required`.
     pub required: bool,
-    /// Its type. Extended attributes of its own stand only behind the word `required`.
+    /// Its type. Extended attributes of its own stand only after the word `required`.
     pub ty: AnnotatedType,
     /// Its name.
     pub name: Name,

@@ -1,8 +1,7 @@
 //! Enumerations.
 
 use super::Name;
-use crate::Items;
-use widl_text::Place;
+use widl_text::{Items, Place};
 
 /// An enumeration ([Web IDL, Enumerations](https://webidl.spec.whatwg.org/#idl-enums)).
 #[derive(Drop)]

@@ -1,8 +1,7 @@
 //! Extended attributes.
 
 use super::Name;
-use crate::Items;
-use widl_text::Place;
+use widl_text::{Items, Place};
 
 /// An extended attribute ([Web IDL, Extended
 /// attributes](https://webidl.spec.whatwg.org/#idl-extended-attributes)).

@@ -1,7 +1,7 @@
 //! The trees of files.
 
 use super::Definitions;
-use crate::Items;
+use widl_text::Items;
 
 /// The tree of one file ([Web IDL, IDL fragments](https://webidl.spec.whatwg.org/#idl)).
 #[derive(Drop)]

@@ -4,8 +4,7 @@ use super::{
     AnnotatedType, Arguments, AsyncIterable, Constant, ExtendedAttributes, Iterable, Maplike, Name,
     Operation, Setlike,
 };
-use crate::Items;
-use widl_text::Place;
+use widl_text::{Items, Place};
 
 /// A member with the extended attributes before it
 /// ([Web IDL, Members](https://webidl.spec.whatwg.org/#idl-members)).

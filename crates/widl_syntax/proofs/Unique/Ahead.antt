@@ -9,7 +9,7 @@ use Rattle.widl_grammar.specs.declared.terminal.Terminal.{Terminal}
 use Rattle.widl_grammar.specs.declared.terminal.Terminal.TheVariants.{Other}
 use Rattle.widl_grammar.specs.Source.{terminal_of}
 use Rattle.widl_grammar.specs.Terminals.{terminal_code, all_terminals, terminal_at}
-use Rattle.widl_syntax.specs.Signs.{Sign, Spells, AtPlace, OfTerminal, OfBytes, OfText, OfPart, Nowhere}
+use Rattle.widl_syntax.specs.Signs.{Sign, UnparsesTo, AtPlace, OfTerminal, OfBytes, OfText, OfPart, Nowhere}
 use Rattle.widl_syntax.specs.Reading.{terminal_ahead}
 use Rattle.widl_syntax.proofs.Reading.{is_among, is_other}
 
@@ -27,10 +27,10 @@ Anywhere w = Unit {0}
 
 -- tokens that begin with those of the signs are E where what follows these is F
 pub record Keeps (E F : List Lexeme → Type 0) (x : List Sign) : Type 0 where
-  pub keeps : (w m : List Lexeme) → Spells x w m → F m → E w
+  pub keeps : (w m : List Lexeme) → UnparsesTo x w m → F m → E w
 
 -- signs one after the other
-pub split : (x y : List Sign) (w v : List Lexeme) → Spells (x ++ y) w v → (m : List Lexeme) × Spells x w m × Spells y m v
+pub split : (x y : List Sign) (w v : List Lexeme) → UnparsesTo (x ++ y) w v → (m : List Lexeme) × UnparsesTo x w m × UnparsesTo y m v
 split [] y w v s = (w, refl, s)
 split (sign ∷ x) y w v s = let r = split x y s.0 v s.2 in (r.0, (s.0, s.1, r.1), r.2)
 
@@ -38,14 +38,14 @@ pub keeps_anywhere : {F : List Lexeme → Type 0} {x : List Sign} → Keeps Anyw
 keeps_anywhere = record { keeps = λ w m s fm. tt }
 
 -- signs without the first
-pub without_place : (x : List Sign) {p : Place} {w : List Lexeme} (m : List Lexeme) → Spells (AtPlace p ∷ x) w m → Spells x w m
-without_place x {p} {w} m s = subst (λ v. Spells x v m) s.1.4 s.2
+pub without_place : (x : List Sign) {p : Place} {w : List Lexeme} (m : List Lexeme) → UnparsesTo (AtPlace p ∷ x) w m → UnparsesTo x w m
+without_place x {p} {w} m s = subst (λ v. UnparsesTo x v m) s.1.4 s.2
 
-pub word_ahead : (x : List Sign) {t : Terminal} {w : List Lexeme} (m : List Lexeme) → Spells (OfTerminal t ∷ x) w m → terminal_ahead w ≡ t
+pub word_ahead : (x : List Sign) {t : Terminal} {w : List Lexeme} (m : List Lexeme) → UnparsesTo (OfTerminal t ∷ x) w m → terminal_ahead w ≡ t
 word_ahead x m s = ap terminal_ahead s.1.1 ∙ s.1.2
 
-pub behind_word : (x : List Sign) {t : Terminal} {w : List Lexeme} (m : List Lexeme) → Spells (OfTerminal t ∷ x) w m → Spells x (drop 1 w) m
-behind_word x {t} {w} m s = subst (λ v. Spells x v m) (sym (ap (drop 1) s.1.1)) s.2
+pub after_word : (x : List Sign) {t : Terminal} {w : List Lexeme} (m : List Lexeme) → UnparsesTo (OfTerminal t ∷ x) w m → UnparsesTo x (drop 1 w) m
+after_word x {t} {w} m s = subst (λ v. UnparsesTo x v m) (sym (ap (drop 1) s.1.1)) s.2
 
 -- the terminal that signs begin with, where it is known
 abbrev pub head : List Sign → Terminal
@@ -57,7 +57,7 @@ head (OfText test bytes ∷ x) = Other
 head (OfPart rule texts ∷ x) = Other
 head (Nowhere ∷ x) = Other
 
-pub head_ahead : (x : List Sign) (w m : List Lexeme) → is_other (head x) ≡ false → Spells x w m → terminal_ahead w ≡ head x
+pub head_ahead : (x : List Sign) (w m : List Lexeme) → is_other (head x) ≡ false → UnparsesTo x w m → terminal_ahead w ≡ head x
 head_ahead [] w m known s = cc
 head_ahead (AtPlace place ∷ x) w m known s = head_ahead x w m known (without_place x m s)
 head_ahead (OfTerminal t ∷ x) w m known s = word_ahead x m s
@@ -92,7 +92,7 @@ none_pass test t (a ∷ ts) known none = go (λ h. none_pass test t ts known h) 
     go rest false true e f h = let bad : true ≡ false = sym known ∙ ap test (sym (same_code a t f)) ∙ e in cc
     go rest false false e f h = rest h
 
-avoided : (x : List Sign) (ts : List Terminal) (w m : List Lexeme) → avoids x ts ≡ true → Spells x w m → is_among ts (terminal_ahead w) ≡ false
+avoided : (x : List Sign) (ts : List Terminal) (w m : List Lexeme) → avoids x ts ≡ true → UnparsesTo x w m → is_among ts (terminal_ahead w) ≡ false
 avoided [] ts w m h s = cc
 avoided (AtPlace place ∷ x) ts w m h s = avoided x ts w m h (without_place x m s)
 avoided (OfTerminal t ∷ x) ts w m h s = ap (is_among ts) (word_ahead x m s) ∙ not_true (is_among ts t) h

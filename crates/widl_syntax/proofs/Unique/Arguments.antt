@@ -11,15 +11,15 @@ use Rattle.widl_lex.specs.Tokens.{Lexeme}
 use Rattle.widl_grammar.specs.declared.rule.Rule.TheVariants.{ArgumentName}
 use Rattle.widl_grammar.specs.declared.terminal.Terminal.{Terminal}
 use Rattle.widl_grammar.specs.declared.terminal.Terminal.TheVariants as t
-use Rattle.widl_syntax.specs.Signs.{Sign, at, word, behind, ◌⧺◌}
-use Rattle.widl_syntax.specs.SpelledNames.{any_name}
-use Rattle.widl_syntax.specs.SpelledMembers.{argument_rest, argument, in_parentheses, optional_arguments}
+use Rattle.widl_syntax.specs.Signs.{Sign, at, word, after, ◌⧺◌}
+use Rattle.widl_syntax.specs.UnparsedNames.{any_name}
+use Rattle.widl_syntax.specs.UnparsedMembers.{argument_rest, argument, in_parentheses, optional_arguments}
 use Rattle.widl_syntax.proofs.Unique.Same.{SameName, SameOption, SameAnnotatedType, SameArgumentKind, SameArgument, SameArguments}
 use Rattle.widl_syntax.proofs.Reading.{is_among}
 use Rattle.widl_syntax.proofs.Unique.Ahead.{Keeps, NoneAhead, IsAhead, Anywhere, begins_else, first_keeps, ahead_none}
 use Rattle.widl_syntax.proofs.Unique.Tells.{Tells, told, under, nothing_told, and_tells, then_tells, given, place_then, word_then, apart, apart_back, word_apart, clash_apart, and_else, up_to}
 use Rattle.widl_syntax.proofs.Unique.Items.{SeparatedTell, not_before, begins_another, option_tells, separated_tell}
-use Rattle.widl_syntax.proofs.Unique.Names.{any_name_tells, extended_attributes_tell, behind_attributes, default_value_tells}
+use Rattle.widl_syntax.proofs.Unique.Names.{any_name_tells, extended_attributes_tell, after_attributes, default_value_tells}
 use Rattle.widl_syntax.proofs.Unique.Types.{begin_no_type, annotated_tells, bare_tells, bare_keeps}
 
 rest_keeps : {F : List Lexeme → Type 0} (k : ArgumentKind) (ty : AnnotatedType) (name : List Sign) (ts : List Terminal) → begin_no_type ts ≡ true → not (is_among ts t.Optional) ≡ true → Keeps (NoneAhead ts) F (argument_rest k ty name)
@@ -27,7 +27,7 @@ rest_keeps kind.Required ty name ts h o = first_keeps _ (bare_keeps (tree_of_ann
 rest_keeps (kind.Optional default) ty name ts h o = begins_else (argument_rest (kind.Optional default) ty name) ts o
 rest_keeps (kind.Variadic place) ty name ts h o = first_keeps _ (bare_keeps (tree_of_annotated ty) ts h)
 
--- an argument behind its extended attributes, where no `=` follows
+-- an argument after its extended attributes, where no `=` follows
 abbrev RestTells : ArgumentKind → ArgumentKind → Type 0
 RestTells a b = (x y : AnnotatedType) (m n : Name) → Tells (SameArgumentKind a b × SameAnnotatedType x y × SameName m n) (NoneAhead (t.Equals ∷ [])) (argument_rest a x (any_name ArgumentName m)) (argument_rest b y (any_name ArgumentName n))
 
@@ -53,13 +53,13 @@ argument_tells a b =
     (λ p. record { attributes = p.0; kind = p.1.0; ty = p.1.1; name = p.1.2 })
 
 argument_keeps : {F : List Lexeme → Type 0} (a : Argument) → Keeps (NoneAhead (t.CloseParen ∷ [])) F (argument a)
-argument_keeps a = behind_attributes a.attributes (argument_rest a.kind a.ty (any_name ArgumentName a.name)) (t.CloseParen ∷ []) refl (rest_keeps a.kind a.ty (any_name ArgumentName a.name) (t.CloseParen ∷ []) refl refl)
+argument_keeps a = after_attributes a.attributes (argument_rest a.kind a.ty (any_name ArgumentName a.name)) (t.CloseParen ∷ []) refl (rest_keeps a.kind a.ty (any_name ArgumentName a.name) (t.CloseParen ∷ []) refl refl)
 
 between_parentheses : SeparatedTell t.Comma (NoneAhead (t.Equals ∷ [])) (IsAhead t.CloseParen) argument SameArgument
 between_parentheses = record {
   last = ahead_none t.CloseParen (t.Equals ∷ []) refl;
-  next = λ x. begins_else (behind t.Comma argument x) (t.Equals ∷ []) refl;
-  more = λ x. begins_another t.CloseParen (behind t.Comma argument x) refl;
+  next = λ x. begins_else (after t.Comma argument x) (t.Equals ∷ []) refl;
+  more = λ x. begins_another t.CloseParen (after t.Comma argument x) refl;
   begins = λ x. not_before (argument_keeps x);
   tells = argument_tells;
 }

@@ -21,19 +21,19 @@ use Rattle.widl_idl.specs.TypeTrees.{tree_of_type, tree_of_annotated}
 use Rattle.widl_lex.specs.Tokens.{Lexeme}
 use Rattle.widl_grammar.specs.declared.terminal.Terminal.{Terminal}
 use Rattle.widl_grammar.specs.declared.terminal.Terminal.TheVariants as t
-use Rattle.widl_syntax.specs.Signs.{Sign, Spells, word, all_signs, separated, ◌⧺◌}
-use Rattle.widl_syntax.specs.SpelledNames.{word_if, quoted_bytes}
-use Rattle.widl_syntax.specs.SpelledDefinitions.{parent, body, callback_rest, callback_interface_rest, interface_rest, mixin_rest, namespace, member_type, dictionary_member_rest, dictionary_member, dictionary, enumeration_value, enumeration, typedef, includes, is_partial, behind_partial, definition_kind, definition}
+use Rattle.widl_syntax.specs.Signs.{Sign, UnparsesTo, word, all_signs, separated, ◌⧺◌}
+use Rattle.widl_syntax.specs.UnparsedNames.{word_if, quoted_bytes}
+use Rattle.widl_syntax.specs.UnparsedDefinitions.{parent, body, callback_rest, callback_interface_rest, interface_rest, mixin_rest, namespace, member_type, dictionary_member_rest, dictionary_member, dictionary, enumeration_value, enumeration, typedef, includes, is_partial, after_partial, definition_kind, definition}
 use Rattle.widl_syntax.proofs.Unique.Same.{SameName, SameOption, SameItems, SameAnnotatedType, SameCallback, SameCallbackInterface, SameInterface, SameMixin, SameNamespace, SameDictionaryMember, SameDictionary, SameEnumerationValue, SameEnumeration, SameTypedef, SameIncludes, SameDefinitionKind, SameDefinition, SameDefinitions}
 use Rattle.widl_syntax.specs.Reading.{terminal_ahead}
 use Rattle.widl_syntax.proofs.Reading.{is_among}
 use Rattle.widl_syntax.proofs.Lists.{fewer_left}
 use Rattle.widl_syntax.proofs.Tokens.{definition_has_token}
-use Rattle.widl_syntax.proofs.Unique.Ahead.{ahead_none, Keeps, NoneAhead, IsAhead, Anywhere, keeps_anywhere, word_ahead, behind_word, head_ahead, ahead_among, begins_else, first_keeps, keeps_fewer}
+use Rattle.widl_syntax.proofs.Unique.Ahead.{ahead_none, Keeps, NoneAhead, IsAhead, Anywhere, keeps_anywhere, word_ahead, after_word, head_ahead, ahead_among, begins_else, first_keeps, keeps_fewer}
 use Rattle.widl_syntax.proofs.Unique.Tells.{where_ends, Tells, told, under, nothing_told, and_tells, then_tells, given, place_then, word_then, word_told, bytes_then, apart, apart_back, word_apart, and_else, up_to}
 use Rattle.widl_syntax.proofs.Unique.Items.{ItemsTell, SeparatedTell, not_without, not_before, word_if_tells, word_if_keeps, option_tells, items_tell, separated_tell}
 use Rattle.widl_syntax.proofs.Unique.Numbers.{number_at, by_first, by_two, of_one_number, other_number}
-use Rattle.widl_syntax.proofs.Unique.Names.{identifier_tells, extended_attributes_tell, behind_attributes, default_value_tells, in_quotes}
+use Rattle.widl_syntax.proofs.Unique.Names.{identifier_tells, extended_attributes_tell, after_attributes, default_value_tells, in_quotes}
 use Rattle.widl_syntax.proofs.Unique.Types.{TypeEnd, begin_no_type, type_tells, annotated_tells, bare_tells, bare_keeps}
 use Rattle.widl_syntax.proofs.Unique.Arguments.{in_parentheses_tells}
 use Rattle.widl_syntax.proofs.Unique.MemberKinds.{members_tell}
@@ -99,7 +99,7 @@ dictionary_braces : ItemsTell Anywhere (IsAhead t.CloseBrace) dictionary_member 
 dictionary_braces = record {
   last = λ w is. tt;
   next = λ x. keeps_anywhere;
-  begins = λ x. not_before (behind_attributes x.attributes (dictionary_member_rest x) (t.CloseBrace ∷ []) refl (rest_begins x (t.CloseBrace ∷ []) refl refl));
+  begins = λ x. not_before (after_attributes x.attributes (dictionary_member_rest x) (t.CloseBrace ∷ []) refl (rest_begins x (t.CloseBrace ∷ []) refl refl));
   tells = dictionary_member_tells;
 }
 
@@ -114,7 +114,7 @@ enumeration_value_tells a b =
     told (place_then a.at b.at (bytes_then t.String (quoted_bytes (string_bytes a.text)) (quoted_bytes (string_bytes b.text)) nothing_told))
     (λ p. record { at = p.0; text = in_quotes (string_bytes a.text) (string_bytes b.text) p.1.0 })
 
--- no text is ahead, and none behind a comma
+-- no text is ahead, and none after a comma
 record ValuesEnd (w : List Lexeme) : Type 0 where
   here : NoneAhead (t.String ∷ []) w
   further : terminal_ahead w ≡ t.Comma → NoneAhead (t.String ∷ []) (drop 1 w)
@@ -123,7 +123,7 @@ between_values : SeparatedTell t.Comma Anywhere ValuesEnd enumeration_value Same
 between_values = record {
   last = λ w end. tt;
   next = λ x. keeps_anywhere;
-  more = λ x. record { never = λ w m s end. ahead_among t.String (drop 1 w) (head_ahead (enumeration_value x) (drop 1 w) m refl (behind_word (enumeration_value x) m s)) (end.further (word_ahead (enumeration_value x) m s)).none };
+  more = λ x. record { never = λ w m s end. ahead_among t.String (drop 1 w) (head_ahead (enumeration_value x) (drop 1 w) m refl (after_word (enumeration_value x) m s)) (end.further (word_ahead (enumeration_value x) m s)).none };
   begins = λ x. record { never = λ w m s end. ahead_among t.String w (head_ahead (enumeration_value x) w m refl s) end.here.none };
   tells = enumeration_value_tells;
 }
@@ -132,7 +132,7 @@ comma_keeps : (b : Bool) → Keeps ValuesEnd (IsAhead t.CloseBrace) (word_if b t
 comma_keeps true = record {
   keeps = λ w m s is.
       let begins : Keeps (NoneAhead (t.String ∷ [])) Anywhere (word t.Comma) = begins_else (word t.Comma) (t.String ∷ []) refl in
-      record { here = begins.keeps w m s tt; further = λ e. subst (NoneAhead (t.String ∷ [])) (sym (behind_word [] m s)) (ahead_none t.CloseBrace (t.String ∷ []) refl m is) };
+      record { here = begins.keeps w m s tt; further = λ e. subst (NoneAhead (t.String ∷ [])) (sym (after_word [] m s)) (ahead_none t.CloseBrace (t.String ∷ []) refl m is) };
 }
 comma_keeps false = record {
   keeps = λ w m s is.
@@ -140,7 +140,7 @@ comma_keeps false = record {
       record { here = ahead_none t.CloseBrace (t.String ∷ []) refl w brace; further = λ e. let bad : t.Comma ≡ t.CloseBrace = sym e ∙ brace.ahead in cc };
 }
 
--- the values and the comma that may stand behind them, up to the brace
+-- the values and the comma that may stand after them, up to the brace
 abbrev values : Enumeration → List Sign
 values e = separated t.Comma enumeration_value e.values ⧺ word_if e.trailing_comma t.Comma
 
@@ -167,7 +167,7 @@ includes_tells a b =
     (then_tells (identifier_tells a.mixin b.mixin) (word_told t.Semicolon))))
     (λ p. record { interface_name = p.0; mixin_name = p.1.0 })
 
--- the first two tokens behind the word `partial` tell the kind of a definition
+-- the first two tokens after the word `partial` tell the kind of a definition
 abbrev number_of : DefinitionKind → ℕ
 number_of (kind.Callback c) = 0
 number_of (kind.CallbackInterface c) = 1
@@ -179,24 +179,24 @@ number_of (kind.Enumeration e) = 6
 number_of (kind.Typedef d) = 7
 number_of (kind.Includes i) = 8
 
-abbrev behind_callback : Terminal → ℕ
-behind_callback t.Interface = 1
-behind_callback _ = 0
+abbrev after_callback : Terminal → ℕ
+after_callback t.Interface = 1
+after_callback _ = 0
 
-abbrev behind_interface : Terminal → ℕ
-behind_interface t.Mixin = 3
-behind_interface _ = 2
+abbrev after_interface : Terminal → ℕ
+after_interface t.Mixin = 3
+after_interface _ = 2
 
 abbrev number_by : Terminal → Terminal → ℕ
-number_by t.Callback after = behind_callback after
-number_by t.Interface after = behind_interface after
+number_by t.Callback after = after_callback after
+number_by t.Interface after = after_interface after
 number_by t.Namespace after = 4
 number_by t.Dictionary after = 5
 number_by t.Enum after = 6
 number_by t.Typedef after = 7
 number_by _ after = 8
 
-kind_ahead : (k : DefinitionKind) (w m : List Lexeme) → Spells (behind_partial k) w m → number_at number_by w ≡ number_of k
+kind_ahead : (k : DefinitionKind) (w m : List Lexeme) → UnparsesTo (after_partial k) w m → number_at number_by w ≡ number_of k
 kind_ahead (kind.Callback c) w m s = by_two number_by t.Callback (callback_rest c) w m refl s
 kind_ahead (kind.CallbackInterface c) w m s = by_two number_by t.Callback (callback_interface_rest c) w m refl s
 kind_ahead (kind.Interface i) w m s = by_two number_by t.Interface (interface_rest i) w m refl s
@@ -207,7 +207,7 @@ kind_ahead (kind.Enumeration e) w m s = by_first number_by (enumeration e) w m r
 kind_ahead (kind.Typedef d) w m s = by_first number_by (typedef d) w m refl s
 kind_ahead (kind.Includes i) w m s = by_first number_by (includes i) w m refl s
 
-of_one_kind : (a b : DefinitionKind) → is_partial a ≡ is_partial b → number_of a ≡ number_of b → Tells (SameDefinitionKind a b) Anywhere (behind_partial a) (behind_partial b)
+of_one_kind : (a b : DefinitionKind) → is_partial a ≡ is_partial b → number_of a ≡ number_of b → Tells (SameDefinitionKind a b) Anywhere (after_partial a) (after_partial b)
 of_one_kind (kind.Callback a) (kind.Callback b) same e = word_then t.Callback (callback_tells a b)
 of_one_kind (kind.CallbackInterface a) (kind.CallbackInterface b) same e = word_then t.Callback (callback_interface_tells a b)
 of_one_kind (kind.Interface a) (kind.Interface b) same e = word_then t.Interface (interface_tells a b same)
@@ -219,21 +219,21 @@ of_one_kind (kind.Typedef a) (kind.Typedef b) same e = typedef_tells a b
 of_one_kind (kind.Includes a) (kind.Includes b) same e = includes_tells a b
 of_one_kind a b same e = other_number (number_of a) (number_of b) e refl
 
-behind_partial_tells : (a b : DefinitionKind) → is_partial a ≡ is_partial b → Tells (SameDefinitionKind a b) Anywhere (behind_partial a) (behind_partial b)
-behind_partial_tells a b same = of_one_number number_by behind_partial number_of kind_ahead a b (of_one_kind a b same)
+after_partial_tells : (a b : DefinitionKind) → is_partial a ≡ is_partial b → Tells (SameDefinitionKind a b) Anywhere (after_partial a) (after_partial b)
+after_partial_tells a b same = of_one_number number_by after_partial number_of kind_ahead a b (of_one_kind a b same)
 
--- what a definition begins with behind its extended attributes
-behind_partial_keeps : (k : DefinitionKind) → Keeps (NoneAhead (t.Partial ∷ t.OpenBracket ∷ [])) Anywhere (behind_partial k)
-behind_partial_keeps (kind.Callback c) = begins_else (behind_partial (kind.Callback c)) (t.Partial ∷ t.OpenBracket ∷ []) refl
-behind_partial_keeps k = begins_else (behind_partial k) (t.Partial ∷ t.OpenBracket ∷ []) refl
+-- what a definition begins with after its extended attributes
+after_partial_keeps : (k : DefinitionKind) → Keeps (NoneAhead (t.Partial ∷ t.OpenBracket ∷ [])) Anywhere (after_partial k)
+after_partial_keeps (kind.Callback c) = begins_else (after_partial (kind.Callback c)) (t.Partial ∷ t.OpenBracket ∷ []) refl
+after_partial_keeps k = begins_else (after_partial k) (t.Partial ∷ t.OpenBracket ∷ []) refl
 
 definition_kind_tells : (a b : DefinitionKind) → Tells (SameDefinitionKind a b) Anywhere (definition_kind a) (definition_kind b)
 definition_kind_tells a b =
-    given (word_if_tells t.Partial (is_partial a) (is_partial b) refl) (λ same. behind_partial_tells a b same)
-    (keeps_fewer (t.Partial ∷ []) (t.Partial ∷ t.OpenBracket ∷ []) refl (behind_partial_keeps a)) (keeps_fewer (t.Partial ∷ []) (t.Partial ∷ t.OpenBracket ∷ []) refl (behind_partial_keeps b))
+    given (word_if_tells t.Partial (is_partial a) (is_partial b) refl) (λ same. after_partial_tells a b same)
+    (keeps_fewer (t.Partial ∷ []) (t.Partial ∷ t.OpenBracket ∷ []) refl (after_partial_keeps a)) (keeps_fewer (t.Partial ∷ []) (t.Partial ∷ t.OpenBracket ∷ []) refl (after_partial_keeps b))
 
 definition_kind_keeps : (k : DefinitionKind) → Keeps (NoneAhead (t.OpenBracket ∷ [])) Anywhere (definition_kind k)
-definition_kind_keeps k = word_if_keeps t.Partial (is_partial k) (behind_partial k) (t.OpenBracket ∷ []) refl (keeps_fewer (t.OpenBracket ∷ []) (t.Partial ∷ t.OpenBracket ∷ []) refl (behind_partial_keeps k))
+definition_kind_keeps k = word_if_keeps t.Partial (is_partial k) (after_partial k) (t.OpenBracket ∷ []) refl (keeps_fewer (t.OpenBracket ∷ []) (t.Partial ∷ t.OpenBracket ∷ []) refl (after_partial_keeps k))
 
 definition_tells : (a b : Definition) → Tells (SameDefinition a b) Anywhere (definition a) (definition b)
 definition_tells a b =
@@ -252,7 +252,7 @@ in_file = record {
   tells = definition_tells;
 }
   where
-    none_at_end : (x : Definition) (w m : List Lexeme) → Spells (definition x) w m → w ≡ [] → ⊥
+    none_at_end : (x : Definition) (w m : List Lexeme) → UnparsesTo (definition x) w m → w ≡ [] → ⊥
     none_at_end x w m s end =
         let fewer : length m < length w = fewer_left (definition x) w m (definition_has_token x) s in
         let none : length w ≡ 0 = ap length end in

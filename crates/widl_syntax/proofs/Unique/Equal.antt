@@ -32,7 +32,7 @@ use Rattle.widl_idl.specs.TypeTrees.{FormTree, TypeTree, AnnotatedTree, MemberTr
 use Rattle.widl_idl.specs.PlainTypes.{PlainToken, name_of, token_of, attribute_of, value_of, literal_of, plain_form, plain_of, plain_inner, plain_union, type_of, annotated_of, PlainInteger, PlainFloat, PlainText, PlainBuffer, PlainNamed, PlainContainer, PlainRecord, PlainPromise, PlainUnion, BooleanValue, IntegerValue, DecimalValue, TextValue, more_plain}
 use Rattle.widl_idl.specs.PlainTrees.{argument_kind_of, argument_of, arguments_of, constant_of, attribute_member_of, operation_of, constructor_of, iterable_of, async_iterable_of, maplike_of, setlike_of, member_kind_of, member_of, members_of, dictionary_member_of, enumeration_value_of, definition_kind_of, definition_of, plain_definitions, OptionalArgument, VariadicArgument, ConstantMember, AttributeMember, OperationMember, ConstructorMember, StringifierMember, IterableMember, AsyncIterableMember, MaplikeMember, SetlikeMember}
 use Rattle.widl_syntax.specs.Signs.{Text}
-use Rattle.widl_syntax.specs.SpelledNames.{text_of}
+use Rattle.widl_syntax.specs.UnparsedNames.{text_of}
 use Rattle.widl_syntax.proofs.Unique.Same.{SameOption, SameItems, SameName, SameExtendedAttribute, SameExtendedAttributes, SameValue, SameLiteral, SameForm, SameTypeTree, SameAnnotatedTree, SameMembersTree, SameType, SameAnnotatedType, SameArgumentKind, SameArgument, SameArguments, SameConstant, SameAttribute, SameOperation, SameConstructor, SameIterable, SameAsyncIterable, SameMaplike, SameSetlike, SameMemberKind, SameMember, SameMembers, SameDictionaryMember, SameEnumerationValue, SameDefinitionKind, SameDefinition, SameDefinitions}
 
 module _ {X Y : Type 0} (term : X → Y) (Same : X → X → Type 0) (one : (x y : X) → Same x y → term x ≡ term y) where

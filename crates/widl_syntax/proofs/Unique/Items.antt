@@ -1,10 +1,10 @@
--- Parts that may be left out or repeated: what stands behind them tells where they end.
+-- Parts that may be left out or repeated: what stands after them tells where they end.
 use Rattle.std.proofs.Common.{◌≡◌, Bool, true, false, Option, Some, None, List, [], ◌∷◌, ◌++◌, refl, sym, ◌∙◌, ap, subst}
 use Rattle.std.specs.Prelude.{not}
 use Rattle.widl_lex.specs.Tokens.{Lexeme}
 use Rattle.widl_grammar.specs.declared.terminal.Terminal.{Terminal}
-use Rattle.widl_syntax.specs.Signs.{Sign, Spells, OfTerminal, word, all_signs, behind, separated}
-use Rattle.widl_syntax.specs.SpelledNames.{word_if}
+use Rattle.widl_syntax.specs.Signs.{Sign, UnparsesTo, OfTerminal, word, all_signs, after, separated}
+use Rattle.widl_syntax.specs.UnparsedNames.{word_if}
 use Rattle.widl_syntax.proofs.Unique.Same.{SameOption, SameItems}
 use Rattle.widl_syntax.proofs.Reading.{is_among, is_other}
 use Rattle.widl_syntax.proofs.Unique.Ahead.{Keeps, NoneAhead, IsAhead, Anywhere, split, head, head_ahead, avoids, begins_else, first_keeps, ahead_among}
@@ -12,7 +12,7 @@ use Rattle.widl_syntax.proofs.Unique.Tells.{Tells, told, nothing_told, and_tells
 
 -- the signs do not stand at tokens that are E
 pub record Excludes (E : List Lexeme → Type 0) (x : List Sign) : Type 0 where
-  pub never : (w m : List Lexeme) → Spells x w m → E w → ⊥
+  pub never : (w m : List Lexeme) → UnparsesTo x w m → E w → ⊥
 
 -- signs that begin with the terminal, which is not ahead
 pub not_without : (t : Terminal) (x : List Sign) → is_other (head x) ≡ false → head x ≡ t → Excludes (NoneAhead (t ∷ [])) x
@@ -63,25 +63,25 @@ pub record ItemsTell {X : Type 0} (E F : List Lexeme → Type 0) (one : X → Li
   pub begins : (x : X) → Excludes F (one x)
   pub tells : (x y : X) → Tells (same x y) E (one x) (one y)
 
-behind_item : {X : Type 0} {E F : List Lexeme → Type 0} {one : X → List Sign} {same : X → X → Type 0} → ItemsTell E F one same → (xs : List X) → Keeps E F (all_signs one xs)
-behind_item {X} {E} {F} known [] = record { keeps = λ w m s fm. subst E (sym s) (known.last m fm) }
-behind_item known (x ∷ xs) = first_keeps _ (known.next x)
+after_item : {X : Type 0} {E F : List Lexeme → Type 0} {one : X → List Sign} {same : X → X → Type 0} → ItemsTell E F one same → (xs : List X) → Keeps E F (all_signs one xs)
+after_item {X} {E} {F} known [] = record { keeps = λ w m s fm. subst E (sym s) (known.last m fm) }
+after_item known (x ∷ xs) = first_keeps _ (known.next x)
 
 pub items_tell : {X : Type 0} {E F : List Lexeme → Type 0} {one : X → List Sign} {same : X → X → Type 0} → ItemsTell E F one same → (xs ys : List X) → Tells (SameItems same xs ys) F (all_signs one xs) (all_signs one ys)
 items_tell known [] [] = nothing_told
 items_tell known [] (y ∷ ys) = none_some (first_excludes _ (known.begins y))
 items_tell known (x ∷ xs) [] = some_none (first_excludes _ (known.begins x))
-items_tell known (x ∷ xs) (y ∷ ys) = and_tells (known.tells x y) (items_tell known xs ys) (behind_item known xs) (behind_item known ys)
+items_tell known (x ∷ xs) (y ∷ ys) = and_tells (known.tells x y) (items_tell known xs ys) (after_item known xs) (after_item known ys)
 
 -- items with a separator between each two
 pub record SeparatedTell {X : Type 0} (separator : Terminal) (E F : List Lexeme → Type 0) (one : X → List Sign) (same : X → X → Type 0) : Type 0 where
   pub last : (w : List Lexeme) → F w → E w
-  pub next : (x : X) → Keeps E Anywhere (behind separator one x)
-  pub more : (x : X) → Excludes F (behind separator one x)
+  pub next : (x : X) → Keeps E Anywhere (after separator one x)
+  pub more : (x : X) → Excludes F (after separator one x)
   pub begins : (x : X) → Excludes F (one x)
   pub tells : (x y : X) → Tells (same x y) E (one x) (one y)
 
-more_items : {X : Type 0} {separator : Terminal} {E F : List Lexeme → Type 0} {one : X → List Sign} {same : X → X → Type 0} → SeparatedTell separator E F one same → ItemsTell E F (behind separator one) same
+more_items : {X : Type 0} {separator : Terminal} {E F : List Lexeme → Type 0} {one : X → List Sign} {same : X → X → Type 0} → SeparatedTell separator E F one same → ItemsTell E F (after separator one) same
 more_items {separator = separator} known = record { last = known.last; next = known.next; begins = known.more; tells = λ x y. word_then separator (known.tells x y) }
 
 pub separated_tell : {X : Type 0} {separator : Terminal} {E F : List Lexeme → Type 0} {one : X → List Sign} {same : X → X → Type 0} → SeparatedTell separator E F one same → (xs ys : List X) → Tells (SameItems same xs ys) F (separated separator one xs) (separated separator one ys)
@@ -90,4 +90,4 @@ separated_tell known [] (y ∷ ys) = none_some (first_excludes _ (known.begins y
 separated_tell known (x ∷ xs) [] = some_none (first_excludes _ (known.begins x))
 separated_tell known (x ∷ xs) (y ∷ ys) =
     let items = more_items known in
-    and_tells (known.tells x y) (items_tell items xs ys) (behind_item items xs) (behind_item items ys)
+    and_tells (known.tells x y) (items_tell items xs ys) (after_item items xs) (after_item items ys)

@@ -14,18 +14,18 @@ use Rattle.widl_idl.specs.TypeTrees.{TypeTree, tree_of_type}
 use Rattle.widl_lex.specs.Tokens.{Lexeme}
 use Rattle.widl_grammar.specs.declared.terminal.Terminal.{Terminal}
 use Rattle.widl_grammar.specs.declared.terminal.Terminal.TheVariants as t
-use Rattle.widl_syntax.specs.Signs.{Sign, Spells, word, all_signs, ◌⧺◌}
-use Rattle.widl_syntax.specs.SpelledNames.{word_if}
-use Rattle.widl_syntax.specs.SpelledTypes.{type_signs}
-use Rattle.widl_syntax.specs.SpelledMembers.{constant, attribute_word, operation_word, constructor, stringifier, iterable, async_words, maplike_rest, setlike_rest, member_kind, member}
+use Rattle.widl_syntax.specs.Signs.{Sign, UnparsesTo, word, all_signs, ◌⧺◌}
+use Rattle.widl_syntax.specs.UnparsedNames.{word_if}
+use Rattle.widl_syntax.specs.UnparsedTypes.{type_signs}
+use Rattle.widl_syntax.specs.UnparsedMembers.{constant, attribute_word, operation_word, constructor, stringifier, iterable, async_words, maplike_rest, setlike_rest, member_kind, member}
 use Rattle.widl_syntax.proofs.Unique.Same.{SameMemberKind, SameMember, SameMembers}
 use Rattle.widl_syntax.specs.Reading.{terminal_ahead}
 use Rattle.widl_syntax.proofs.Reading.{is_among, is_other}
-use Rattle.widl_syntax.proofs.Unique.Ahead.{Keeps, NoneAhead, IsAhead, Anywhere, without_place, behind_word, head, begins_else, first_keeps, place_keeps, keeps_anywhere, keeps_fewer}
+use Rattle.widl_syntax.proofs.Unique.Ahead.{Keeps, NoneAhead, IsAhead, Anywhere, without_place, after_word, head, begins_else, first_keeps, place_keeps, keeps_anywhere, keeps_fewer}
 use Rattle.widl_syntax.proofs.Unique.Tells.{Tells, told, and_tells}
 use Rattle.widl_syntax.proofs.Unique.Items.{ItemsTell, not_before, word_if_keeps, items_tell}
 use Rattle.widl_syntax.proofs.Unique.Numbers.{number_at, by_first, by_two, of_one_number, other_number}
-use Rattle.widl_syntax.proofs.Unique.Names.{extended_attributes_tell, behind_attributes}
+use Rattle.widl_syntax.proofs.Unique.Names.{extended_attributes_tell, after_attributes}
 use Rattle.widl_syntax.proofs.Unique.Types.{type_keeps}
 use Rattle.widl_syntax.proofs.Unique.Members.{constant_tells, attribute_tells, operation_tells, constructor_tells, stringifier_tells, iterable_tells, async_iterable_tells, maplike_tells, setlike_tells}
 
@@ -40,20 +40,20 @@ number_of (kind.AsyncIterable i) = 6
 number_of (kind.Maplike m) = 7
 number_of (kind.Setlike s) = 8
 
--- the number by the second word, behind `readonly`, `static` and `stringifier`
-abbrev behind_readonly : Terminal → ℕ
-behind_readonly t.Maplike = 7
-behind_readonly t.Setlike = 8
-behind_readonly _ = 1
+-- the number by the second word, after `readonly`, `static` and `stringifier`
+abbrev after_readonly : Terminal → ℕ
+after_readonly t.Maplike = 7
+after_readonly t.Setlike = 8
+after_readonly _ = 1
 
-abbrev behind_static : Terminal → ℕ
-behind_static t.Attribute = 1
-behind_static t.Readonly = 1
-behind_static _ = 2
+abbrev after_static : Terminal → ℕ
+after_static t.Attribute = 1
+after_static t.Readonly = 1
+after_static _ = 2
 
-abbrev behind_stringifier : Terminal → ℕ
-behind_stringifier t.Semicolon = 4
-behind_stringifier _ = 1
+abbrev after_stringifier : Terminal → ℕ
+after_stringifier t.Semicolon = 4
+after_stringifier _ = 1
 
 -- the number by the first two tokens
 abbrev number_by : Terminal → Terminal → ℕ
@@ -66,9 +66,9 @@ number_by t.Async after = 6
 number_by t.AsyncIterable after = 6
 number_by t.Maplike after = 7
 number_by t.Setlike after = 8
-number_by t.Readonly after = behind_readonly after
-number_by t.Static after = behind_static after
-number_by t.Stringifier after = behind_stringifier after
+number_by t.Readonly after = after_readonly after
+number_by t.Static after = after_static after
+number_by t.Stringifier after = after_stringifier after
 number_by _ after = 2
 
 -- the words that begin members which are no operations
@@ -90,12 +90,12 @@ operation_number t.Static after h = cc
 operation_number t.Stringifier after h = cc
 operation_number _ after h = refl
 
-static_number : (after : Terminal) → is_among (t.Attribute ∷ t.Readonly ∷ []) after ≡ false → behind_static after ≡ 2
+static_number : (after : Terminal) → is_among (t.Attribute ∷ t.Readonly ∷ []) after ≡ false → after_static after ≡ 2
 static_number t.Attribute h = cc
 static_number t.Readonly h = cc
 static_number _ h = refl
 
-attribute_ahead : (k : AttributeKind) (readonly : Bool) (x : List Sign) (w m : List Lexeme) → Spells (attribute_word k ⧺ word_if readonly t.Readonly ⧺ word t.Attribute ⧺ x) w m → number_at number_by w ≡ 1
+attribute_ahead : (k : AttributeKind) (readonly : Bool) (x : List Sign) (w m : List Lexeme) → UnparsesTo (attribute_word k ⧺ word_if readonly t.Readonly ⧺ word t.Attribute ⧺ x) w m → number_at number_by w ≡ 1
 attribute_ahead attribute_kind.Regular true x w m s = by_two number_by t.Readonly (word t.Attribute ⧺ x) w m refl s
 attribute_ahead attribute_kind.Regular false x w m s = by_first number_by (word t.Attribute ⧺ x) w m refl s
 attribute_ahead attribute_kind.Static true x w m s = by_two number_by t.Static (word t.Readonly ⧺ word t.Attribute ⧺ x) w m refl s
@@ -104,30 +104,30 @@ attribute_ahead (attribute_kind.Inherited p) readonly x w m s = by_first number_
 attribute_ahead (attribute_kind.Stringifier p) true x w m s = by_two number_by t.Stringifier (word t.Readonly ⧺ word t.Attribute ⧺ x) w m refl (without_place (word t.Stringifier ⧺ word t.Readonly ⧺ word t.Attribute ⧺ x) m s)
 attribute_ahead (attribute_kind.Stringifier p) false x w m s = by_two number_by t.Stringifier (word t.Attribute ⧺ x) w m refl (without_place (word t.Stringifier ⧺ word t.Attribute ⧺ x) m s)
 
-operation_ahead : (k : OperationKind) (ty : TypeTree) (x : List Sign) (w m : List Lexeme) → Spells (operation_word k ⧺ type_signs ty ⧺ x) w m → number_at number_by w ≡ 2
+operation_ahead : (k : OperationKind) (ty : TypeTree) (x : List Sign) (w m : List Lexeme) → UnparsesTo (operation_word k ⧺ type_signs ty ⧺ x) w m → number_at number_by w ≡ 2
 operation_ahead operation_kind.Regular ty x w m s =
     let known : Keeps (NoneAhead other_words) Anywhere (type_signs ty ⧺ x) = first_keeps x (type_keeps ty other_words refl) in
     operation_number (terminal_ahead w) (terminal_ahead (drop 1 w)) (known.keeps w m s tt).none
 operation_ahead operation_kind.Static ty x w m s =
     let known : Keeps (NoneAhead (t.Attribute ∷ t.Readonly ∷ [])) Anywhere (type_signs ty ⧺ x) = first_keeps x (type_keeps ty (t.Attribute ∷ t.Readonly ∷ []) refl) in
-    by_first number_by (word t.Static ⧺ type_signs ty ⧺ x) w m refl s ∙ static_number (terminal_ahead (drop 1 w)) (known.keeps (drop 1 w) m (behind_word (type_signs ty ⧺ x) m s) tt).none
+    by_first number_by (word t.Static ⧺ type_signs ty ⧺ x) w m refl s ∙ static_number (terminal_ahead (drop 1 w)) (known.keeps (drop 1 w) m (after_word (type_signs ty ⧺ x) m s) tt).none
 operation_ahead (operation_kind.Special Getter p) ty x w m s = by_first number_by (operation_word (operation_kind.Special Getter p) ⧺ type_signs ty ⧺ x) w m refl s
 operation_ahead (operation_kind.Special Setter p) ty x w m s = by_first number_by (operation_word (operation_kind.Special Setter p) ⧺ type_signs ty ⧺ x) w m refl s
 operation_ahead (operation_kind.Special Deleter p) ty x w m s = by_first number_by (operation_word (operation_kind.Special Deleter p) ⧺ type_signs ty ⧺ x) w m refl s
 
-async_ahead : (word : AsyncWord) (x : List Sign) (w m : List Lexeme) → Spells (async_words word ⧺ x) w m → number_at number_by w ≡ 6
+async_ahead : (word : AsyncWord) (x : List Sign) (w m : List Lexeme) → UnparsesTo (async_words word ⧺ x) w m → number_at number_by w ≡ 6
 async_ahead TwoWords x w m s = by_first number_by (async_words TwoWords ⧺ x) w m refl s
 async_ahead OneWord x w m s = by_first number_by (async_words OneWord ⧺ x) w m refl s
 
-maplike_ahead : (readonly : Bool) (x : List Sign) (w m : List Lexeme) → head x ≡ t.Maplike → Spells (word_if readonly t.Readonly ⧺ x) w m → number_at number_by w ≡ 7
-maplike_ahead true x w m e s = by_two number_by t.Readonly x w m (ap is_other e) s ∙ ap behind_readonly e
+maplike_ahead : (readonly : Bool) (x : List Sign) (w m : List Lexeme) → head x ≡ t.Maplike → UnparsesTo (word_if readonly t.Readonly ⧺ x) w m → number_at number_by w ≡ 7
+maplike_ahead true x w m e s = by_two number_by t.Readonly x w m (ap is_other e) s ∙ ap after_readonly e
 maplike_ahead false x w m e s = by_first number_by x w m (ap is_other e) s ∙ ap (λ word. number_by word (terminal_ahead (drop 1 w))) e
 
-setlike_ahead : (readonly : Bool) (x : List Sign) (w m : List Lexeme) → head x ≡ t.Setlike → Spells (word_if readonly t.Readonly ⧺ x) w m → number_at number_by w ≡ 8
-setlike_ahead true x w m e s = by_two number_by t.Readonly x w m (ap is_other e) s ∙ ap behind_readonly e
+setlike_ahead : (readonly : Bool) (x : List Sign) (w m : List Lexeme) → head x ≡ t.Setlike → UnparsesTo (word_if readonly t.Readonly ⧺ x) w m → number_at number_by w ≡ 8
+setlike_ahead true x w m e s = by_two number_by t.Readonly x w m (ap is_other e) s ∙ ap after_readonly e
 setlike_ahead false x w m e s = by_first number_by x w m (ap is_other e) s ∙ ap (λ word. number_by word (terminal_ahead (drop 1 w))) e
 
-kind_ahead : (k : MemberKind) (w m : List Lexeme) → Spells (member_kind k) w m → number_at number_by w ≡ number_of k
+kind_ahead : (k : MemberKind) (w m : List Lexeme) → UnparsesTo (member_kind k) w m → number_at number_by w ≡ number_of k
 kind_ahead (kind.Constant c) w m s = by_first number_by (constant c) w m refl s
 kind_ahead (kind.Attribute a) w m s = attribute_ahead a.kind a.readonly _ w m s
 kind_ahead (kind.Operation o) w m s = operation_ahead o.kind (tree_of_type o.result) _ w m s
@@ -153,7 +153,7 @@ of_one_kind a b e = other_number (number_of a) (number_of b) e refl
 member_kind_tells : (a b : MemberKind) → Tells (SameMemberKind a b) Anywhere (member_kind a) (member_kind b)
 member_kind_tells a b = of_one_number number_by member_kind number_of kind_ahead a b (of_one_kind a b)
 
--- a member begins with neither of these behind its extended attributes
+-- a member begins with neither of these after its extended attributes
 abbrev around_members : List Terminal
 around_members = t.OpenBracket ∷ t.CloseBrace ∷ []
 
@@ -194,7 +194,7 @@ between_braces : ItemsTell Anywhere (IsAhead t.CloseBrace) member SameMember
 between_braces = record {
   last = λ w is. tt;
   next = λ x. keeps_anywhere;
-  begins = λ x. not_before (behind_attributes x.attributes (member_kind x.kind) (t.CloseBrace ∷ []) refl (keeps_fewer (t.CloseBrace ∷ []) around_members refl (kind_inside x.kind)));
+  begins = λ x. not_before (after_attributes x.attributes (member_kind x.kind) (t.CloseBrace ∷ []) refl (keeps_fewer (t.CloseBrace ∷ []) around_members refl (kind_inside x.kind)));
   tells = member_tells;
 }
 

@@ -24,9 +24,9 @@ use Rattle.widl_grammar.specs.declared.rule.Rule.TheVariants.{AttributeName, Ope
 use Rattle.widl_grammar.specs.declared.terminal.Terminal.{Terminal}
 use Rattle.widl_grammar.specs.declared.terminal.Terminal.TheVariants as t
 use Rattle.widl_syntax.specs.Signs.{Sign, word, at, ◌⧺◌}
-use Rattle.widl_syntax.specs.SpelledNames.{any_name, optional_name, word_if}
-use Rattle.widl_syntax.specs.SpelledTypes.{second_type}
-use Rattle.widl_syntax.specs.SpelledMembers.{constant, attribute_word, attribute_rest, attribute, special_terminal, operation_word, operation, constructor, stringifier, iterable, async_words, async_iterable, maplike_rest, setlike_rest, in_parentheses, optional_arguments}
+use Rattle.widl_syntax.specs.UnparsedNames.{any_name, optional_name, word_if}
+use Rattle.widl_syntax.specs.UnparsedTypes.{second_type}
+use Rattle.widl_syntax.specs.UnparsedMembers.{constant, attribute_word, attribute_rest, attribute, special_terminal, operation_word, operation, constructor, stringifier, iterable, async_words, async_iterable, maplike_rest, setlike_rest, in_parentheses, optional_arguments}
 use Rattle.widl_syntax.proofs.Unique.Same.{SameConstant, SameAttribute, SameOperation, SameConstructor, SameIterable, SameAsyncIterable, SameMaplike, SameSetlike}
 use Rattle.widl_syntax.proofs.Unique.Ahead.{Keeps, NoneAhead, Anywhere, avoids, begins_else, begins_with, first_keeps, then_keeps}
 use Rattle.widl_syntax.proofs.Unique.Tells.{Tells, told, nothing_told, and_tells, then_tells, place_then, terminal_then, word_then, word_told, Apart, apart, apart_back, clash_apart, clashes, and_else, and_word, up_to}

@@ -11,8 +11,8 @@ use Rattle.widl_idl.specs.declared.tree.names.Name.{Name}
 use Rattle.widl_grammar.specs.declared.rule.Rule.{Rule}
 use Rattle.widl_grammar.specs.declared.rule.Rule.TheVariants.{ExtendedAttributeRest, OperationName}
 use Rattle.widl_grammar.specs.declared.terminal.Terminal.TheVariants as t
-use Rattle.widl_syntax.specs.Signs.{Sign, Nowhere, behind}
-use Rattle.widl_syntax.specs.SpelledNames.{name_bytes, is_escape_apart, escape_apart, identifier, is_word_of, any_name, optional_name, text_of, extended_attribute, extended_attributes, quoted_bytes, literal_value, literal, default_value}
+use Rattle.widl_syntax.specs.Signs.{Sign, Nowhere, after}
+use Rattle.widl_syntax.specs.UnparsedNames.{name_bytes, is_escape_apart, escape_apart, identifier, is_word_of, any_name, optional_name, text_of, extended_attribute, extended_attributes, quoted_bytes, literal_value, literal, default_value}
 use Rattle.widl_syntax.proofs.Unique.Same.{SameName, SameOption, SameExtendedAttribute, SameExtendedAttributes, SameValue, SameLiteral}
 use Rattle.widl_syntax.proofs.Reading.{is_among}
 use Rattle.widl_syntax.proofs.Unique.Ahead.{Keeps, begins_else, NoneAhead, IsAhead, Anywhere, keeps_anywhere}
@@ -60,7 +60,7 @@ between_brackets : SeparatedTell t.Comma Anywhere (IsAhead t.CloseBracket) exten
 between_brackets = record {
   last = λ w is. tt;
   next = λ x. keeps_anywhere;
-  more = λ x. begins_another t.CloseBracket (behind t.Comma extended_attribute x) refl;
+  more = λ x. begins_another t.CloseBracket (after t.Comma extended_attribute x) refl;
   begins = λ x. begins_another t.CloseBracket (extended_attribute x) refl;
   tells = extended_attribute_tells;
 }
@@ -73,10 +73,10 @@ extended_attributes_tell (x ∷ xs) (y ∷ ys) =
     under (word_then t.OpenBracket
     (told (up_to t.CloseBracket refl (separated_tell between_brackets (x ∷ xs) (y ∷ ys)) nothing_told) (λ p. p.0)))
 
--- signs behind extended attributes, or where there are none
-pub behind_attributes : {F : List Lexeme → Type 0} (attributes : List ExtendedAttribute) (x : List Sign) (ts : List Terminal) → not (is_among ts t.OpenBracket) ≡ true → Keeps (NoneAhead ts) F x → Keeps (NoneAhead ts) F (extended_attributes attributes ++ x)
-behind_attributes [] x ts h k = k
-behind_attributes (a ∷ more) x ts h k = begins_else (extended_attributes (a ∷ more) ++ x) ts h
+-- signs after extended attributes, or where there are none
+pub after_attributes : {F : List Lexeme → Type 0} (attributes : List ExtendedAttribute) (x : List Sign) (ts : List Terminal) → not (is_among ts t.OpenBracket) ≡ true → Keeps (NoneAhead ts) F x → Keeps (NoneAhead ts) F (extended_attributes attributes ++ x)
+after_attributes [] x ts h k = k
+after_attributes (a ∷ more) x ts h k = begins_else (extended_attributes (a ∷ more) ++ x) ts h
 
 cut_end : (xs ys : List ℕ) (b : ℕ) → xs ++ b ∷ [] ≡ ys ++ b ∷ [] → xs ≡ ys
 cut_end [] [] b e = refl

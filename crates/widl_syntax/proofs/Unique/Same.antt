@@ -36,7 +36,7 @@ use Rattle.widl_idl.specs.declared.tree.typedefs.Typedef.{Typedef}
 use Rattle.widl_idl.specs.declared.tree.types.AnnotatedType.{AnnotatedType}
 use Rattle.widl_idl.specs.declared.tree.types.WrittenType.{WrittenType}
 use Rattle.widl_idl.specs.TypeTrees.{FormTree, TypeTree, AnnotatedTree, MemberTrees, AnyForm, UndefinedForm, BooleanForm, ObjectForm, SymbolForm, BigIntForm, IntegerForm, FloatForm, TextForm, BufferForm, NamedForm, ContainerForm, RecordForm, PromiseForm, UnionForm, type_tree, annotated_tree, no_members, more_members, tree_of_type, tree_of_annotated}
-use Rattle.widl_syntax.specs.SpelledNames.{text_of}
+use Rattle.widl_syntax.specs.UnparsedNames.{text_of}
 
 -- both or none
 abbrev pub SameOption : {X : Type 0} → (X → X → Type 0) → Option X → Option X → Type 0

@@ -6,13 +6,13 @@ use Rattle.widl_lex.specs.Tokens.{Lexeme}
 use Rattle.widl_predictive.proofs.Booleans.{and_cases}
 use Rattle.widl_grammar.specs.declared.terminal.Terminal.{Terminal}
 use Rattle.widl_grammar.specs.Source.{terminal_of}
-use Rattle.widl_syntax.specs.Signs.{Sign, Stands, Spells, AtPlace, OfTerminal, OfBytes, OfText, word}
+use Rattle.widl_syntax.specs.Signs.{Sign, Stands, UnparsesTo, AtPlace, OfTerminal, OfBytes, OfText, word}
 use Rattle.widl_syntax.proofs.Reading.{is_among, is_other}
 use Rattle.widl_syntax.proofs.Unique.Ahead.{NoneAhead, IsAhead, Anywhere, Keeps, split, keeps_anywhere, head, head_ahead, avoids, not_true, begins_else, begins_with, ahead_among}
 
 -- where the signs stand at the same tokens and what follows them is E, the fact holds, and they end at the same place
 pub record Tells (P : Type 0) (E : List Lexeme → Type 0) (x y : List Sign) : Type 0 where
-  pub tells : (w m n : List Lexeme) → Spells x w m → Spells y w n → E m → E n → P × (m ≡ n)
+  pub tells : (w m n : List Lexeme) → UnparsesTo x w m → UnparsesTo y w n → E m → E n → P × (m ≡ n)
 
 pub told : {P Q : Type 0} {E : List Lexeme → Type 0} {x y : List Sign} → Tells P E x y → (P → Q) → Tells Q E x y
 told t f = record { tells = λ w m n s r em en. let a = t.tells w m n s r em en in (f a.0, a.1) }
@@ -34,7 +34,7 @@ given {P} {Q} {E} {F} {x} {y} {x2} {y2} f g k l = record {
       let a = split x x2 w m s in
       let b = split y y2 w n r in
       let one = f.tells w a.0 b.0 a.1 b.1 (k.keeps a.0 m a.2 em) (l.keeps b.0 n b.2 en) in
-      (g one.0).tells a.0 m n a.2 (subst (λ v. Spells y2 v n) (sym one.1) b.2) em en;
+      (g one.0).tells a.0 m n a.2 (subst (λ v. UnparsesTo y2 v n) (sym one.1) b.2) em en;
 }
 
 pub and_tells : {P Q : Type 0} {E F : List Lexeme → Type 0} {x y x2 y2 : List Sign} → Tells P E x y → Tells Q F x2 y2 → Keeps E F x2 → Keeps E F y2 → Tells (P × Q) F (x ++ x2) (y ++ y2)
@@ -53,7 +53,7 @@ sign_then : {F P : Type 0} {E : List Lexeme → Type 0} {x y : List Sign} (a b :
 sign_then {y = y} a b one f = record {
   tells = λ w m n s r em en.
       let first = one w s.0 r.0 s.1 r.1 in
-      let rest = f.tells s.0 m n s.2 (subst (λ v. Spells y v n) (sym first.1) r.2) em en in
+      let rest = f.tells s.0 m n s.2 (subst (λ v. UnparsesTo y v n) (sym first.1) r.2) em en in
       ((first.0, rest.0), rest.1);
 }
 
@@ -90,8 +90,8 @@ word_told t = word_then t nothing_told
 pub and_word : {P Q : Type 0} {ts : List Terminal} {F : List Lexeme → Type 0} {x y x2 y2 : List Sign} (t : Terminal) → not (is_among ts t) ≡ true → Tells P (NoneAhead ts) x y → Tells Q F x2 y2 → Tells (P × Q) F (x ++ (OfTerminal t ∷ x2)) (y ++ (OfTerminal t ∷ y2))
 and_word t h f g = and_else h h f (word_then t g)
 
-pub word_behind : {P : Type 0} {ts : List Terminal} {x y : List Sign} (t : Terminal) → not (is_among ts t) ≡ true → Tells P (NoneAhead ts) x y → Tells P Anywhere (x ++ word t) (y ++ word t)
-word_behind t h f = told (and_word t h f nothing_told) (λ p. p.0)
+pub word_after : {P : Type 0} {ts : List Terminal} {x y : List Sign} (t : Terminal) → not (is_among ts t) ≡ true → Tells P (NoneAhead ts) x y → Tells P Anywhere (x ++ word t) (y ++ word t)
+word_after t h f = told (and_word t h f nothing_told) (λ p. p.0)
 
 -- signs before the word that they go up to
 pub up_to : {P Q : Type 0} {F : List Lexeme → Type 0} {x y x2 y2 : List Sign} (t : Terminal) → is_other t ≡ false → Tells P (IsAhead t) x y → Tells Q F x2 y2 → Tells (P × Q) F (x ++ (OfTerminal t ∷ x2)) (y ++ (OfTerminal t ∷ y2))
@@ -99,7 +99,7 @@ up_to {x2 = x2} {y2 = y2} t known f g = and_tells f (word_then t g) (begins_with
 
 -- the signs do not stand at the same tokens
 pub record Apart (x y : List Sign) : Type 0 where
-  pub never : (w m n : List Lexeme) → Spells x w m → Spells y w n → ⊥
+  pub never : (w m n : List Lexeme) → UnparsesTo x w m → UnparsesTo y w n → ⊥
 
 pub apart : {P : Type 0} {E : List Lexeme → Type 0} {x y : List Sign} → Apart x y → Tells P E x y
 apart a = record { tells = λ w m n s r em en. absurd (a.never w m n s r) }

@@ -20,14 +20,14 @@ use Rattle.widl_predictive.proofs.Booleans.{and_cases, or_cases}
 use Rattle.widl_grammar.specs.declared.terminal.Terminal.{Terminal}
 use Rattle.widl_grammar.specs.declared.terminal.Terminal.TheVariants as t
 use Rattle.widl_grammar.specs.Terminals.{all_terminals}
-use Rattle.widl_syntax.specs.Signs.{Spells, word, ◌⧺◌}
-use Rattle.widl_syntax.specs.SpelledNames.{extended_attributes}
-use Rattle.widl_syntax.specs.SpelledTypes.{integer_words, float_words, string_terminal, buffer_terminal, container_terminal, question_mark, form_signs, type_signs, annotated_signs, member_signs, more_member_signs, bare_signs, second_type}
+use Rattle.widl_syntax.specs.Signs.{UnparsesTo, word, ◌⧺◌}
+use Rattle.widl_syntax.specs.UnparsedNames.{extended_attributes}
+use Rattle.widl_syntax.specs.UnparsedTypes.{integer_words, float_words, string_terminal, buffer_terminal, container_terminal, question_mark, form_signs, type_signs, annotated_signs, member_signs, more_member_signs, bare_signs, second_type}
 use Rattle.widl_syntax.proofs.Unique.Same.{SameOption, SameForm, SameTypeTree, SameAnnotatedTree, SameMembersTree, SameAnnotatedType}
 use Rattle.widl_syntax.specs.Reading.{terminal_ahead}
 use Rattle.widl_syntax.proofs.Reading.{is_among, is_other, pass_all, passes}
 use Rattle.widl_syntax.proofs.Unique.Ahead.{Keeps, NoneAhead, IsAhead, Anywhere, head, head_ahead, not_true, begins_else, first_keeps, place_keeps, ahead_none, fewer}
-use Rattle.widl_syntax.proofs.Unique.Tells.{Tells, told, where_ends, under, nothing_told, and_tells, place_then, terminal_then, word_then, word_told, clashes, word_behind, up_to}
+use Rattle.widl_syntax.proofs.Unique.Tells.{Tells, told, where_ends, under, nothing_told, and_tells, place_then, terminal_then, word_then, word_told, clashes, word_after, up_to}
 use Rattle.widl_syntax.proofs.Unique.Items.{not_without, not_before, begins_another, first_excludes, none_some, some_none, option_tells}
 use Rattle.widl_syntax.proofs.Unique.Numbers.{number_at, of_one_number, other_number}
 use Rattle.widl_syntax.proofs.Unique.Names.{identifier_tells, extended_attributes_tell}
@@ -169,7 +169,7 @@ form_begins _ = refl
 abbrev form_by : Terminal → Terminal → ℕ
 form_by first after = number_in form_words first
 
-form_ahead : (form : FormTree) (w m : List Lexeme) → Spells (form_signs form) w m → number_at form_by w ≡ form_number form
+form_ahead : (form : FormTree) (w m : List Lexeme) → UnparsesTo (form_signs form) w m → number_at form_by w ≡ form_number form
 form_ahead form w m s =
     let both = and_cases (not (is_other (head (form_signs form)))) _ (form_begins form) in
     ap (number_in form_words) (head_ahead (form_signs form) w m (not_true (is_other (head (form_signs form))) both.0) s) ∙ eqb-true (number_in form_words (head (form_signs form))) (form_number form) both.1
@@ -185,7 +185,7 @@ each_has_number _ = refl
 form_keeps : {F : List Lexeme → Type 0} (form : FormTree) (ts : List Terminal) → begin_no_type ts ≡ true → Keeps (NoneAhead ts) F (form_signs form)
 form_keeps {F} form ts h = record { keeps = λ w m s fm. record { none = go w m s } }
   where
-    go : (w m : List Lexeme) → Spells (form_signs form) w m → is_among ts (terminal_ahead w) ≡ false
+    go : (w m : List Lexeme) → UnparsesTo (form_signs form) w m → is_among ts (terminal_ahead w) ≡ false
     go w m s = elim (or_cases (not (is_among ts (terminal_ahead w))) _ (passes (λ terminal. not (is_among ts terminal) || nat_eq (number_in form_words terminal) 15) h (terminal_ahead w))) [
       | inl none ↦ not_true (is_among ts (terminal_ahead w)) none
       | inr none ↦ let bad : true ≡ false = sym none ∙ ap (λ n. nat_eq n 15) (form_ahead form w m s) ∙ each_has_number form in cc
@@ -262,16 +262,16 @@ named_form a b e = other_number 10 (form_number b) e refl
 
 container_form : (a : Container) (x : AnnotatedTree) → AnnotatedTells x → (b : FormTree) → 11 ≡ form_number b → FormTells (ContainerForm a x) b
 container_form a x inner (ContainerForm b y) e =
-    under (told (terminal_then (container_terminal a) (container_terminal b) (word_then t.Less (word_behind t.Greater refl (inner y)))) (λ p. (container_known a b p.0, p.1)))
+    under (told (terminal_then (container_terminal a) (container_terminal b) (word_then t.Less (word_after t.Greater refl (inner y)))) (λ p. (container_known a b p.0, p.1)))
 container_form a x inner b e = other_number 11 (form_number b) e refl
 
 record_form : (a : TextKind) (x : AnnotatedTree) → AnnotatedTells x → (b : FormTree) → 12 ≡ form_number b → FormTells (RecordForm a x) b
 record_form a x inner (RecordForm b y) e =
-    under (word_then t.Record (word_then t.Less (told (terminal_then (string_terminal a) (string_terminal b) (word_then t.Comma (word_behind t.Greater refl (inner y)))) (λ p. (string_known a b p.0, p.1)))))
+    under (word_then t.Record (word_then t.Less (told (terminal_then (string_terminal a) (string_terminal b) (word_then t.Comma (word_after t.Greater refl (inner y)))) (λ p. (string_known a b p.0, p.1)))))
 record_form a x inner b e = other_number 12 (form_number b) e refl
 
 promise_form : (x : TypeTree) → TypeTells x → (b : FormTree) → 13 ≡ form_number b → FormTells (PromiseForm x) b
-promise_form x inner (PromiseForm y) e = under (word_then t.Promise (word_then t.Less (word_behind t.Greater refl (inner y))))
+promise_form x inner (PromiseForm y) e = under (word_then t.Promise (word_then t.Less (word_after t.Greater refl (inner y))))
 promise_form x inner b e = other_number 13 (form_number b) e refl
 
 union_form : (x : MemberTrees) → MembersTell x → (b : FormTree) → 14 ≡ form_number b → FormTells (UnionForm x) b
@@ -326,7 +326,7 @@ pub bare_keeps : {F : List Lexeme → Type 0} (ty : AnnotatedTree) (ts : List Te
 bare_keeps (annotated_tree place [] inner) ts h = place_keeps (type_keeps inner ts h)
 bare_keeps (annotated_tree place (a ∷ more) inner) ts h = record { keeps = λ w m s fm. absurd s.1 }
 
--- a second type, before the `>` behind it
+-- a second type, before the `>` after it
 pub second_type_tells : (a b : Option AnnotatedType) → Tells (SameOption SameAnnotatedType a b) (IsAhead t.Greater) (second_type a) (second_type b)
 second_type_tells a b =
     option_tells second_type refl (λ x. begins_another t.Greater (second_type (Some x)) refl)

@@ -6,10 +6,10 @@ ghost use Rattle.widl_lex.specs.Tokens.{Lexeme};
 ghost use Rattle.widl_grammar.specs.declared.rule.Rule.TheVariants as rule;
 ghost use Rattle.widl_grammar.specs.declared.terminal.Terminal.TheVariants as terminal;
 ghost use Rattle.widl_syntax.specs.Reading.{Symbols, Reads, Appends, part, token, terminal_ahead};
-ghost use Rattle.widl_syntax.specs.Signs.{Sign, behind, separated};
-ghost use Rattle.widl_syntax.specs.SpelledMembers.{argument, argument_rest, in_parentheses};
-ghost use Rattle.widl_syntax.specs.SpelledNames.{extended_attributes};
-ghost use Rattle.widl_syntax.specs.SpelledTypes.{bare_type};
+ghost use Rattle.widl_syntax.specs.Signs.{Sign, after, separated};
+ghost use Rattle.widl_syntax.specs.UnparsedMembers.{argument, argument_rest, in_parentheses};
+ghost use Rattle.widl_syntax.specs.UnparsedNames.{extended_attributes};
+ghost use Rattle.widl_syntax.specs.UnparsedTypes.{bare_type};
 
 use super::Reader;
 use std::alloc::AllocError;
@@ -27,7 +27,7 @@ impl<'t, 's> Reader<'t, 's> {
         Ok(arguments)
     }
 
-    /// The arguments up to the parenthesis behind them.
+    /// The arguments up to the parenthesis after them.
     fn argument_list(&mut self) -> Result<Arguments, AllocError>
         ensures { IfOk result (λ arguments. Reads (part rule.ArgumentList) (separated terminal.Comma argument arguments) self.old self.new) }
     {
@@ -40,9 +40,9 @@ impl<'t, 's> Reader<'t, 's> {
         Ok(arguments)
     }
 
-    /// Adds the arguments behind the first one.
+    /// Adds the arguments after the first one.
     fn more_arguments(&mut self, arguments: &mut Arguments) -> Result<(), AllocError>
-        ensures { IfOk result (λ _. Appends rule.MoreArguments (behind terminal.Comma argument) arguments.old arguments.new self.old self.new) }
+        ensures { IfOk result (λ _. Appends rule.MoreArguments (after terminal.Comma argument) arguments.old arguments.new self.old self.new) }
     {
         for _ in 0..self.left() {
             if self.take_if(Terminal::Comma).is_none() {
@@ -98,7 +98,7 @@ impl<'t, 's> Reader<'t, 's> {
 
     /// Whether an ellipsis stands here, between a type and a name.
     fn ellipsis(&mut self) -> ArgumentKind
-        ensures { (start end : List Lexeme) (before behind : Symbols) (ty : TypeOfTree) (name : List Sign) → Reads before (bare_type ty) start self.old → Reads behind name self.new end → Reads (before ++ (part rule.Ellipsis ++ behind)) (argument_rest result ty name) start end }
+        ensures { (start end : List Lexeme) (before after : Symbols) (ty : TypeOfTree) (name : List Sign) → Reads before (bare_type ty) start self.old → Reads after name self.new end → Reads (before ++ (part rule.Ellipsis ++ after)) (argument_rest result ty name) start end }
     {
         match self.take_if(Terminal::Ellipsis) {
             Some(at) => ArgumentKind::Variadic(at),

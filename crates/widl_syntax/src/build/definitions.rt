@@ -5,7 +5,7 @@ ghost use Rattle.widl_grammar.specs.declared.rule.Rule.TheVariants as rule;
 ghost use Rattle.widl_grammar.specs.declared.terminal.Terminal.TheVariants as terminal;
 ghost use Rattle.widl_syntax.specs.Reading.{Reads, part, token};
 ghost use Rattle.widl_syntax.specs.Signs.{all_signs};
-ghost use Rattle.widl_syntax.specs.SpelledDefinitions.{definition, definition_kind, is_partial, behind_partial, callback_rest, callback_interface_rest, interface_rest, mixin_rest, namespace, parent, typedef, includes};
+ghost use Rattle.widl_syntax.specs.UnparsedDefinitions.{definition, definition_kind, is_partial, after_partial, callback_rest, callback_interface_rest, interface_rest, mixin_rest, namespace, parent, typedef, includes};
 
 use super::Reader;
 use super::members::MemberList;
@@ -40,7 +40,7 @@ impl<'t, 's> Reader<'t, 's> {
         Ok(Definition { attributes, kind })
     }
 
-    /// A definition behind its extended attributes.
+    /// A definition after its extended attributes.
     fn definition_kind(&mut self) -> Result<DefinitionKind, AllocError>
         ensures { IfOk result (λ kind. Reads (part rule.Definition) (definition_kind kind) self.old self.new) }
     {
@@ -162,7 +162,7 @@ impl<'t, 's> Reader<'t, 's> {
         })
     }
 
-    /// The name behind a colon, if there is one.
+    /// The name after a colon, if there is one.
     pub fn parent(&mut self) -> Result<Option<Name>, AllocError>
         ensures { IfOk result (λ name. Reads (part rule.Parent) (parent name) self.old self.new) }
     {
@@ -186,7 +186,7 @@ impl<'t, 's> Reader<'t, 's> {
 
     /// A part of an interface or a mixin from the word `interface` on.
     fn partial_interface(&mut self) -> Result<DefinitionKind, AllocError>
-        ensures { IfOk result (λ kind. (is_partial kind ≡ true) × Reads (token terminal.Interface ++ part rule.PartialInterfaceRest) (behind_partial kind) self.old self.new) }
+        ensures { IfOk result (λ kind. (is_partial kind ≡ true) × Reads (token terminal.Interface ++ part rule.PartialInterfaceRest) (after_partial kind) self.old self.new) }
     {
         let _word = self.take();
         if self.is_ahead(Terminal::Mixin) {

@@ -5,9 +5,9 @@ ghost use Rattle.widl_grammar.specs.declared.rule.Rule.TheVariants as rule;
 ghost use Rattle.widl_grammar.specs.declared.terminal.Terminal.TheVariants as terminal;
 ghost use Rattle.widl_idl.specs.declared.tree.enumerations.EnumerationValue.{EnumerationValue};
 ghost use Rattle.widl_syntax.specs.Reading.{Reads, part, token, terminal_ahead};
-ghost use Rattle.widl_syntax.specs.Signs.{all_signs, behind, ◌⧺◌};
-ghost use Rattle.widl_syntax.specs.SpelledDefinitions.{dictionary, dictionary_member, dictionary_member_rest, enumeration, enumeration_value};
-ghost use Rattle.widl_syntax.specs.SpelledNames.{word_if};
+ghost use Rattle.widl_syntax.specs.Signs.{all_signs, after, ◌⧺◌};
+ghost use Rattle.widl_syntax.specs.UnparsedDefinitions.{dictionary, dictionary_member, dictionary_member_rest, enumeration, enumeration_value};
+ghost use Rattle.widl_syntax.specs.UnparsedNames.{word_if};
 
 use super::Reader;
 use std::alloc::AllocError;
@@ -146,9 +146,9 @@ impl<'t, 's> Reader<'t, 's> {
         })
     }
 
-    /// Adds the values behind the first one, and tells whether a comma stands behind the last.
+    /// Adds the values after the first one, and tells whether a comma stands after the last.
     fn more_values(&mut self, values: &mut EnumerationValues) -> Result<bool, AllocError>
-        ensures { IfOk result (λ trailing_comma. (more : List EnumerationValue) × (values.new ≡ values.old ++ more) × Reads (part rule.EnumMore) (all_signs (behind terminal.Comma enumeration_value) more ⧺ word_if trailing_comma terminal.Comma) self.old self.new) }
+        ensures { IfOk result (λ trailing_comma. (more : List EnumerationValue) × (values.new ≡ values.old ++ more) × Reads (part rule.EnumMore) (all_signs (after terminal.Comma enumeration_value) more ⧺ word_if trailing_comma terminal.Comma) self.old self.new) }
     {
         for _ in 0..self.left() {
             if self.take_if(Terminal::Comma).is_none() {

@@ -4,8 +4,8 @@ ghost use Rattle.std.specs.Prelude.{◌≤◌, IfOk, length};
 ghost use Rattle.widl_grammar.specs.declared.rule.Rule.TheVariants as rule;
 ghost use Rattle.widl_grammar.specs.declared.terminal.Terminal.TheVariants as terminal;
 ghost use Rattle.widl_syntax.specs.Reading.{Reads, Appends, part};
-ghost use Rattle.widl_syntax.specs.Signs.{behind};
-ghost use Rattle.widl_syntax.specs.SpelledNames.{extended_attribute, extended_attributes, attribute_rest};
+ghost use Rattle.widl_syntax.specs.Signs.{after};
+ghost use Rattle.widl_syntax.specs.UnparsedNames.{extended_attribute, extended_attributes, attribute_rest};
 
 use super::Reader;
 use std::alloc::AllocError;
@@ -29,12 +29,12 @@ impl<'t, 's> Reader<'t, 's> {
         Ok(attributes)
     }
 
-    /// Adds the extended attributes behind the first one.
+    /// Adds the extended attributes after the first one.
     fn more_extended_attributes(
         &mut self,
         attributes: &mut ExtendedAttributes,
     ) -> Result<(), AllocError>
-        ensures appends { IfOk result (λ _. Appends rule.MoreExtendedAttributes (behind terminal.Comma extended_attribute) attributes.old attributes.new self.old self.new) }
+        ensures appends { IfOk result (λ _. Appends rule.MoreExtendedAttributes (after terminal.Comma extended_attribute) attributes.old attributes.new self.old self.new) }
         ensures shorter { IfOk result (λ _. length self.new ≤ length self.old) }
     {
         for _ in 0..self.left() {
@@ -56,7 +56,7 @@ impl<'t, 's> Reader<'t, 's> {
         Ok(ExtendedAttribute { name, arguments })
     }
 
-    /// The tokens of an attribute behind its name. The machine of the grammar reads them, since they nest
+    /// The tokens of an attribute after its name. The machine of the grammar reads them, since they nest
     /// without a bound.
     fn attribute_arguments(&mut self) -> Result<SourceTokens, AllocError>
         ensures reads { IfOk result (λ tokens. Reads (part rule.ExtendedAttributeRest) (attribute_rest tokens) self.old self.new) }

@@ -3,8 +3,8 @@
 ghost use Rattle.std.specs.Prelude.{◌≡◌, IfOk};
 ghost use Rattle.widl_grammar.specs.declared.rule.Rule.TheVariants as rule;
 ghost use Rattle.widl_syntax.specs.Reading.{Reads, part};
-ghost use Rattle.widl_syntax.specs.SpelledMembers.{iterable, async_iterable, async_words, maplike_rest, setlike_rest, optional_arguments};
-ghost use Rattle.widl_syntax.specs.SpelledTypes.{second_type};
+ghost use Rattle.widl_syntax.specs.UnparsedMembers.{iterable, async_iterable, async_words, maplike_rest, setlike_rest, optional_arguments};
+ghost use Rattle.widl_syntax.specs.UnparsedTypes.{second_type};
 
 use super::Reader;
 use std::alloc::AllocError;
@@ -14,7 +14,7 @@ use widl_idl::tree::{
 };
 
 impl<'t, 's> Reader<'t, 's> {
-    /// A second type behind a comma, if there is one.
+    /// A second type after a comma, if there is one.
     fn second_type(&mut self) -> Result<Option<AnnotatedType>, AllocError>
         ensures { IfOk result (λ ty. Reads (part rule.SecondType) (second_type ty) self.old self.new) }
     {

@@ -8,7 +8,7 @@ ghost use Rattle.widl_grammar.specs.declared.terminal.Terminal.{Terminal};
 ghost use Rattle.widl_grammar.specs.declared.terminal.Terminal.TheVariants as terminal;
 ghost use Rattle.widl_syntax.specs.Reading.{Reads, IsTaken, part, token};
 ghost use Rattle.widl_syntax.specs.Signs.{word, ◌⧺◌};
-ghost use Rattle.widl_syntax.specs.SpelledNames.{literal, literal_value, default_value};
+ghost use Rattle.widl_syntax.specs.UnparsedNames.{literal, literal_value, default_value};
 
 use super::Reader;
 use std::alloc::AllocError;
@@ -40,7 +40,7 @@ impl<'t, 's> Reader<'t, 's> {
         }
     }
 
-    /// A value behind the `=` of a default value.
+    /// A value after the `=` of a default value.
     fn literal(&mut self) -> Result<Literal, AllocError>
         ensures { IfOk result (λ value. Reads (part rule.DefaultValue) (literal value) self.old self.new) }
     {

@@ -6,8 +6,8 @@ ghost use Rattle.widl_grammar.specs.declared.terminal.Terminal.TheVariants as te
 ghost use Rattle.widl_syntax.specs.MemberLists.{member_rule, members_rule};
 ghost use Rattle.widl_syntax.specs.Reading.{Reads, part, token, terminal_ahead};
 ghost use Rattle.widl_syntax.specs.Signs.{all_signs};
-ghost use Rattle.widl_syntax.specs.SpelledNames.{optional_name};
-ghost use Rattle.widl_syntax.specs.SpelledMembers.{member, member_kind, constant, constructor, attribute_rest, operation_rest, special_terminal};
+ghost use Rattle.widl_syntax.specs.UnparsedNames.{optional_name};
+ghost use Rattle.widl_syntax.specs.UnparsedMembers.{member, member_kind, constant, constructor, attribute_rest, operation_rest, special_terminal};
 
 use super::Reader;
 use std::alloc::AllocError;
@@ -51,7 +51,7 @@ impl<'t, 's> Reader<'t, 's> {
         Ok(Member { attributes, kind })
     }
 
-    /// A member behind its extended attributes.
+    /// A member after its extended attributes.
     fn member_kind(&mut self, list: MemberList) -> Result<MemberKind, AllocError>
         ensures { IfOk result (λ kind. Reads (part (member_rule list)) (member_kind kind) self.old self.new) }
     {

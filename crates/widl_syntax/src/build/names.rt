@@ -4,7 +4,7 @@ ghost use Rattle.std.specs.Prelude.{◌≡◌, ℕ, true, List, ◌∷◌, if◌
 ghost use Rattle.widl_grammar.specs.declared.terminal.Terminal.TheVariants as terminal;
 ghost use Rattle.widl_grammar.specs.Source.{terminal_of};
 ghost use Rattle.widl_syntax.specs.Reading.{IfAhead, IsTaken, IsName};
-ghost use Rattle.widl_syntax.specs.SpelledNames.{name_bytes, is_escape_apart, quoted_bytes};
+ghost use Rattle.widl_syntax.specs.UnparsedNames.{name_bytes, is_escape_apart, quoted_bytes};
 
 use super::Reader;
 use std::alloc::{AllocError, Global};

@@ -37,7 +37,7 @@ impl<'t, 's> Model for Reader<'t, 's> {
     ghost invariant = { λ r. (r.terminals.now ≡ terminals_of r.tokens.now) × (r.ahead ≡ terminal_ahead (drop r.next r.tokens.now.lexemes)) };
 }
 
-/// The terminal of that number; [`Terminal::Other`] behind the last one.
+/// The terminal of that number; [`Terminal::Other`] after the last one.
 fn terminal_at(terminals: &[Terminal], number: usize) -> Terminal
     ensures { (tokens : List Lexeme) → terminals.now ≡ map terminal_of tokens → result ≡ terminal_ahead (drop number tokens) }
 {

@@ -7,8 +7,8 @@ ghost use Rattle.widl_grammar.specs.declared.rule.Rule.TheVariants as rule;
 ghost use Rattle.widl_grammar.specs.declared.terminal.Terminal.TheVariants as terminal;
 ghost use Rattle.widl_syntax.specs.Reading.{Reads, IsTaken, part, terminal_ahead};
 ghost use Rattle.widl_syntax.specs.Signs.{word, ◌⧺◌};
-ghost use Rattle.widl_syntax.specs.SpelledNames.{word_if};
-ghost use Rattle.widl_syntax.specs.SpelledTypes.{written_type, form_signs, integer_words, float_words, string_terminal, container_terminal};
+ghost use Rattle.widl_syntax.specs.UnparsedNames.{word_if};
+ghost use Rattle.widl_syntax.specs.UnparsedTypes.{written_type, form_signs, integer_words, float_words, string_terminal, container_terminal};
 ghost use Rattle.widl_syntax.specs.TypeWords.{IsWordForm, integer_rest, float_rest, is_primitive_word, is_buffer_word, is_type_word, is_container_word};
 
 use super::Reader;

@@ -7,7 +7,7 @@ ghost use Rattle.widl_idl.specs.Written.{members_in};
 ghost use Rattle.widl_grammar.specs.declared.rule.Rule.TheVariants as rule;
 ghost use Rattle.widl_grammar.specs.declared.terminal.Terminal.TheVariants as terminal;
 ghost use Rattle.widl_syntax.specs.Reading.{Reads, part, token, terminal_ahead};
-ghost use Rattle.widl_syntax.specs.SpelledTypes.{written_type, annotated_type, bare_type, form_signs, question_mark, union_signs, container_terminal};
+ghost use Rattle.widl_syntax.specs.UnparsedTypes.{written_type, annotated_type, bare_type, form_signs, question_mark, union_signs, container_terminal};
 
 use super::Reader;
 use super::type_words::{container, is_primitive, word_form};

@@ -1,4 +1,4 @@
-use Rattle.widl_trace.proofs.Grows.{sends_torn_err}
+use Rattle.widl_sink.proofs.Grows.{sends_torn_err}
 use Rattle.widl_cli.proofs.answer.write_line.Goals as goal
 
 pub returns-clause-torn : goal.returns-clause-torn

@@ -1,7 +1,7 @@
 use Rattle.std.proofs.Common.{length, ◌≡◌, ℕ, ◌-◌, ◌≤◌, List, drop}
 use Rattle.std.specs.Prelude.{◌⊎◌, Some}
 use Rattle.widl_cli.specs.Readings.{read_in_order, with_texts, starts_after}
-use Rattle.widl_cli.specs.Texts.{AreShort}
+use Rattle.widl_front.specs.Texts.{AreShort}
 use Rattle.widl_cli.proofs.fetching.fetch_all.Given as goal
 
 abbrev pub invariant-loop-place : goal.invariant-loop-place

@@ -1,6 +1,6 @@
 use Rattle.std.proofs.Common.{arith, [], ◌++◌, sym, ap, ◌∙◌, append-nil}
-use Rattle.widl_trace.specs.Lines.{ended}
-use Rattle.widl_trace.proofs.Grows.{on_err, sends_then}
+use Rattle.widl_sink.specs.Lines.{ended}
+use Rattle.widl_sink.proofs.Grows.{on_err, sends_then}
 use Rattle.widl_cli.specs.Runs.{bytes_of}
 use Rattle.widl_cli.proofs.Runs.{stop_written, stop_end, step_written, step_end, all_written, all_end, run_torn, run_stopped, run_ended, moved_past}
 use Rattle.widl_cli.proofs.perform.perform_all.Goals as goal

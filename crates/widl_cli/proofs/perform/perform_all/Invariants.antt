@@ -1,5 +1,5 @@
 use Rattle.std.proofs.Common.{◌≡◌, List, ℕ, ◌++◌, drop}
-use Rattle.widl_trace.specs.Growth.{Sends}
+use Rattle.widl_sink.specs.Growth.{Sends}
 use Rattle.widl_cli.specs.Runs.{written, end_of}
 use Rattle.widl_cli.proofs.perform.perform_all.Given as goal
 

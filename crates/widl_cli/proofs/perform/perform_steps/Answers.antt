@@ -1,4 +1,4 @@
-use Rattle.widl_trace.proofs.Grows.{on_err, sends_torn}
+use Rattle.widl_sink.proofs.Grows.{on_err, sends_torn}
 use Rattle.widl_cli.proofs.perform.perform_steps.Goals as goal
 
 pub returns-in_err-flush-clause-torn : goal.returns-in_err-flush-clause-torn

@@ -1,7 +1,7 @@
 use Rattle.std.proofs.Common.{ap, sym, ◌∙◌, inl, refl, ◌≡◌}
 use Rattle.std.specs.Prelude.{Some, None}
 use Rattle.widl_cli.specs.Requests.{request_of}
-use Rattle.widl_cli.specs.declared.request.Request.TheVariants.{Help, Version, Check, Sets, Run}
+use Rattle.widl_cli.specs.declared.request.Request.TheVariants.{Help, Version, OverFiles}
 use Rattle.widl_cli.proofs.Asked.{IsAsked, writes_asked, part_asked, either_asked, writes_output, writes_part}
 use Rattle.widl_cli.proofs.top.widl.Goals as goal
 
@@ -50,47 +50,17 @@ returns-in-Some-Version-clause-torn_fault g c told files small w =
     let is : Some Version ≡ request_of c.args.words.now = sym (c.in-Some-Version.is ∙ ap Some c.in-Some-Version.field-0-is) ∙ c.read_request.ensures.request in
     inl (part_asked c.args.words.now (Some Version) told _ _ is (writes_part (IsAsked c.args.words.now (Some Version) told) _ _ _ _ _ _ refl c.last_line-in-Some-Version.ensures w))
 
-pub returns-in-Some-Check-clause-output : goal.returns-in-Some-Check-clause-output
-returns-in-Some-Check-clause-output g c told files m r w =
-    let is : Some Check ≡ request_of c.args.words.now = sym (c.in-Some-Check.is ∙ ap Some c.in-Some-Check.field-0-is) ∙ c.read_request.ensures.request in
-    writes_asked c.args.words.now (Some Check) told _ _ _ is (c.check_files.ensures.ends.written told files m r w)
+pub returns-in-Some-OverFiles-clause-output : goal.returns-in-Some-OverFiles-clause-output
+returns-in-Some-OverFiles-clause-output g c told files m r w =
+    let is : Some (OverFiles c.in-Some-OverFiles.command) ≡ request_of c.args.words.now = sym (c.in-Some-OverFiles.is ∙ ap Some c.in-Some-OverFiles.field-0-is) ∙ c.read_request.ensures.request in
+    writes_asked c.args.words.now (Some (OverFiles c.in-Some-OverFiles.command)) told _ _ _ is (c.answer_files.ensures.ends.written told files m r w)
 
-pub returns-in-Some-Check-clause-torn : goal.returns-in-Some-Check-clause-torn
-returns-in-Some-Check-clause-torn g c told files calm w =
-    let is : Some Check ≡ request_of c.args.words.now = sym (c.in-Some-Check.is ∙ ap Some c.in-Some-Check.field-0-is) ∙ c.read_request.ensures.request in
-    part_asked c.args.words.now (Some Check) told _ _ is (c.check_files.ensures.ends.torn told files calm w)
+pub returns-in-Some-OverFiles-clause-torn : goal.returns-in-Some-OverFiles-clause-torn
+returns-in-Some-OverFiles-clause-torn g c told files calm w =
+    let is : Some (OverFiles c.in-Some-OverFiles.command) ≡ request_of c.args.words.now = sym (c.in-Some-OverFiles.is ∙ ap Some c.in-Some-OverFiles.field-0-is) ∙ c.read_request.ensures.request in
+    part_asked c.args.words.now (Some (OverFiles c.in-Some-OverFiles.command)) told _ _ is (c.answer_files.ensures.ends.torn told files calm w)
 
-pub returns-in-Some-Check-clause-torn_fault : goal.returns-in-Some-Check-clause-torn_fault
-returns-in-Some-Check-clause-torn_fault g c told files small w =
-    let is : Some Check ≡ request_of c.args.words.now = sym (c.in-Some-Check.is ∙ ap Some c.in-Some-Check.field-0-is) ∙ c.read_request.ensures.request in
-    either_asked c.args.words.now (Some Check) told _ _ _ is (c.check_files.ensures.ends.torn_fault told files small w)
-
-pub returns-in-Some-Sets-clause-output : goal.returns-in-Some-Sets-clause-output
-returns-in-Some-Sets-clause-output g c told files m r w =
-    let is : Some Sets ≡ request_of c.args.words.now = sym (c.in-Some-Sets.is ∙ ap Some c.in-Some-Sets.field-0-is) ∙ c.read_request.ensures.request in
-    writes_asked c.args.words.now (Some Sets) told _ _ _ is (c.list_sets.ensures.ends.written told files m r w)
-
-pub returns-in-Some-Sets-clause-torn : goal.returns-in-Some-Sets-clause-torn
-returns-in-Some-Sets-clause-torn g c told files calm w =
-    let is : Some Sets ≡ request_of c.args.words.now = sym (c.in-Some-Sets.is ∙ ap Some c.in-Some-Sets.field-0-is) ∙ c.read_request.ensures.request in
-    part_asked c.args.words.now (Some Sets) told _ _ is (c.list_sets.ensures.ends.torn told files calm w)
-
-pub returns-in-Some-Sets-clause-torn_fault : goal.returns-in-Some-Sets-clause-torn_fault
-returns-in-Some-Sets-clause-torn_fault g c told files small w =
-    let is : Some Sets ≡ request_of c.args.words.now = sym (c.in-Some-Sets.is ∙ ap Some c.in-Some-Sets.field-0-is) ∙ c.read_request.ensures.request in
-    either_asked c.args.words.now (Some Sets) told _ _ _ is (c.list_sets.ensures.ends.torn_fault told files small w)
-
-pub returns-in-Some-Run-clause-output : goal.returns-in-Some-Run-clause-output
-returns-in-Some-Run-clause-output g c told files m r w =
-    let is : Some (Run c.in-Some-Run.budget) ≡ request_of c.args.words.now = sym (c.in-Some-Run.is ∙ ap Some c.in-Some-Run.field-0-is) ∙ c.read_request.ensures.request in
-    writes_asked c.args.words.now (Some (Run c.in-Some-Run.budget)) told _ _ _ is (c.run_files.ensures.ends.written told files m r w)
-
-pub returns-in-Some-Run-clause-torn : goal.returns-in-Some-Run-clause-torn
-returns-in-Some-Run-clause-torn g c told files calm w =
-    let is : Some (Run c.in-Some-Run.budget) ≡ request_of c.args.words.now = sym (c.in-Some-Run.is ∙ ap Some c.in-Some-Run.field-0-is) ∙ c.read_request.ensures.request in
-    part_asked c.args.words.now (Some (Run c.in-Some-Run.budget)) told _ _ is (c.run_files.ensures.ends.torn told files calm w)
-
-pub returns-in-Some-Run-clause-torn_fault : goal.returns-in-Some-Run-clause-torn_fault
-returns-in-Some-Run-clause-torn_fault g c told files small w =
-    let is : Some (Run c.in-Some-Run.budget) ≡ request_of c.args.words.now = sym (c.in-Some-Run.is ∙ ap Some c.in-Some-Run.field-0-is) ∙ c.read_request.ensures.request in
-    either_asked c.args.words.now (Some (Run c.in-Some-Run.budget)) told _ _ _ is (c.run_files.ensures.ends.torn_fault told files small w)
+pub returns-in-Some-OverFiles-clause-torn_fault : goal.returns-in-Some-OverFiles-clause-torn_fault
+returns-in-Some-OverFiles-clause-torn_fault g c told files small w =
+    let is : Some (OverFiles c.in-Some-OverFiles.command) ≡ request_of c.args.words.now = sym (c.in-Some-OverFiles.is ∙ ap Some c.in-Some-OverFiles.field-0-is) ∙ c.read_request.ensures.request in
+    either_asked c.args.words.now (Some (OverFiles c.in-Some-OverFiles.command)) told _ _ _ is (c.answer_files.ensures.ends.torn_fault told files small w)

@@ -1,6 +1,6 @@
 use Rattle.std.proofs.Common.{◌≡◌, drop}
 use Rattle.widl_idl.specs.DefinitionTerms.{DefsTerm}
-use Rattle.widl_idl.specs.Least.{LeastWhere}
+use Rattle.widl_idl.specs.First.{FirstWhere}
 use Rattle.widl_idl.specs.PlainTrees.{arguments_of, plain_definitions}
 use Rattle.widl_overload.specs.DefaultRules.{LacksEmptyDefault}
 use Rattle.widl_inheritance.specs.Fitting.{KnowsRequired}
@@ -10,5 +10,5 @@ use Rattle.widl_inheritance.proofs.empty_defaults.lacking_in.Given as goal
 abbrev pub invariant-loop-index : goal.invariant-loop-index
 invariant-loop-index l = record {
   absent : l.absent ≡ all_absent (arguments_of (drop l.index l.arguments));
-  least : (list : DefsTerm) → KnowsRequired list l.tables → LeastWhere (LacksEmptyDefault list (plain_definitions l.resolver) (arguments_of (drop l.index l.arguments))) l.best;
+  earliest : (list : DefsTerm) → KnowsRequired list l.tables → FirstWhere (LacksEmptyDefault list (plain_definitions l.resolver) (arguments_of (drop l.index l.arguments))) l.best;
 }

@@ -1,5 +1,5 @@
 use Rattle.std.proofs.Common.{◌≡◌, ◌||◌, false, slice_index_or, sym, ap, subst, ◌∙◌}
-use Rattle.widl_idl.specs.Least.{AtOne, LeastWhere}
+use Rattle.widl_idl.specs.First.{AtOne, FirstWhere}
 use Rattle.widl_idl.specs.PlainTrees.{plain_definitions}
 use Rattle.widl_inheritance.specs.InterfaceMembers.{listed_members, members_at}
 use Rattle.widl_inheritance.specs.Iterations.{FollowsIterable, IsHiding}
@@ -23,8 +23,8 @@ pub returns-clause-second : goal.returns-clause-second
 returns-clause-second c =
     let members : listed_members c.deref.result.now ≡ members_at (plain_definitions c.args.meanings.now) c.args.number = ap listed_members c.deref.ensures.value ∙ c.in_ok-members.ensures in
     let flag : c.flag_at-inherits.result ≡ slice_index_or c.args.inherited.now.iterable.items c.args.number false = c.flag_at-inherits.ensures ∙ ap (λ flags. slice_index_or flags c.args.number false) c.as_slice-2.ensures.value in
-    subst (λ ms. LeastWhere (AtOne (FollowsIterable (slice_index_or c.args.inherited.now.iterable.items c.args.number false)) ms) c.first_second_iterable.result) members
-    (subst (λ b. LeastWhere (AtOne (FollowsIterable b) (listed_members c.deref.result.now)) c.first_second_iterable.result) flag c.first_second_iterable.ensures)
+    subst (λ ms. FirstWhere (AtOne (FollowsIterable (slice_index_or c.args.inherited.now.iterable.items c.args.number false)) ms) c.first_second_iterable.result) members
+    (subst (λ b. FirstWhere (AtOne (FollowsIterable b) (listed_members c.deref.result.now)) c.first_second_iterable.result) flag c.first_second_iterable.ensures)
 
 pub returns-clause-hidden : goal.returns-clause-hidden
 returns-clause-hidden c =
@@ -34,5 +34,5 @@ returns-clause-hidden c =
     let flag : c.either_flag-named.result ≡ (slice_index_or own c.args.number false || slice_index_or inherited c.args.number false)
     = c.either_flag-named.ensures ∙ ap (λ flags. slice_index_or flags c.args.number false || slice_index_or c.as_slice-4.result.now c.args.number false) c.as_slice-3.ensures.value
     ∙ ap (λ flags. slice_index_or own c.args.number false || slice_index_or flags c.args.number false) c.as_slice-4.ensures.value in
-    subst (λ ms. LeastWhere (IsHiding (slice_index_or own c.args.number false || slice_index_or inherited c.args.number false) ms) c.first_hiding_iterable.result) members
-    (subst (λ b. LeastWhere (IsHiding b (listed_members c.deref-2.result.now)) c.first_hiding_iterable.result) flag c.first_hiding_iterable.ensures)
+    subst (λ ms. FirstWhere (IsHiding (slice_index_or own c.args.number false || slice_index_or inherited c.args.number false) ms) c.first_hiding_iterable.result) members
+    (subst (λ b. FirstWhere (IsHiding b (listed_members c.deref-2.result.now)) c.first_hiding_iterable.result) flag c.first_hiding_iterable.ensures)

@@ -18,10 +18,10 @@ loop-node-preserved c =
     let order = c.as_slice-order.result.now in
     let x = get_or order c.loop-node.node-index 0 in
     let here : slice_get c.args.holdings.now.walk.order.items c.loop-node.node-index ≡ Some x = ap (λ l. slice_get l c.loop-node.node-index) (sym c.as_slice-order.ensures.value) ∙ slice_get-get_or order c.loop-node.node-index 0 c.loop-node-test.true in
-    let next = lengths_next (map dict_term c.args.dicts.now) c.args.holdings.now c.requires.holdings c.requires.finite c.loop-node.node-index x c.loop-node.lengths.items _ c.successors-successors.result.now c.node_length.result c.greatest_length-behind.result
+    let next = lengths_next (map dict_term c.args.dicts.now) c.args.holdings.now c.requires.holdings c.requires.finite c.loop-node.node-index x c.loop-node.lengths.items _ c.successors-successors.result.now c.node_length.result c.greatest_length-after.result
     here c.loop-node.invariant.known c.loop-node.invariant.size c.successors-successors.ensures
-    (c.greatest_length-behind.ensures ∙ ap (λ l. greatest_length l c.successors-successors.result.now) c.as_slice.ensures.value)
-    (c.node_length.ensures ∙ ap (λ k. node_length k x c.greatest_length-behind.result) (sym (length-map c.args.dicts.now dict_term)))
+    (c.greatest_length-after.ensures ∙ ap (λ l. greatest_length l c.successors-successors.result.now) c.as_slice.ensures.value)
+    (c.node_length.ensures ∙ ap (λ k. node_length k x c.greatest_length-after.result) (sym (length-map c.args.dicts.now dict_term)))
     refl in
     record { size = next.0; known = next.1 }
 

@@ -8,7 +8,7 @@ pub loop-number-init : goal.loop-number-init
 loop-number-init c = no_owners (plain_definitions c.args.meanings.now)
 
 pub loop-number-preserved : goal.loop-number-preserved
-loop-number-preserved c = owners_step (plain_definitions c.args.meanings.now) c.all-definitions.result.now c.loop-number.number c.index-definitions-number.result c.loop-number.best c.in_ok-found.found c.lesser_spot-best.result (omega arith) c.index-definitions-number.is c.lesser_spot-best.ensures c.in_ok-found.ensures c.loop-number.invariant
+loop-number-preserved c = owners_step (plain_definitions c.args.meanings.now) c.all-definitions.result.now c.loop-number.number c.index-definitions-number.result c.loop-number.best c.in_ok-found.found c.earlier_violation-best.result (omega arith) c.index-definitions-number.is c.earlier_violation-best.ensures c.in_ok-found.ensures c.loop-number.invariant
 
 pub returns : goal.returns
 returns c = owners_all (plain_definitions c.args.meanings.now) c.all-definitions.result.now c.loop-number.number c.loop-number.best (omega arith) (listed_same c.all-definitions.result.now c.args.meanings.now c.all-definitions.ensures) c.loop-number.invariant

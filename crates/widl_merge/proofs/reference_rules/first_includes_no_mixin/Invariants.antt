@@ -1,8 +1,8 @@
 use Rattle.std.proofs.Common.{take}
-use Rattle.widl_idl.specs.Least.{LeastWhere, Somewhere}
+use Rattle.widl_idl.specs.First.{FirstWhere, Somewhere}
 use Rattle.widl_idl.specs.MergingRules.{IncludesOther}
 use Rattle.widl_idl.specs.PlainTrees.{plain_definitions}
 use Rattle.widl_merge.proofs.reference_rules.first_includes_no_mixin.Given as goal
 
 abbrev pub invariant-loop-definition : goal.invariant-loop-definition
-invariant-loop-definition l = LeastWhere (Somewhere (IncludesOther (plain_definitions l.meanings)) (take l.definition-index (plain_definitions l.meanings))) l.best
+invariant-loop-definition l = FirstWhere (Somewhere (IncludesOther (plain_definitions l.meanings)) (take l.definition-index (plain_definitions l.meanings))) l.best

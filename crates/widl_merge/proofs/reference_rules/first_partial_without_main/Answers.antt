@@ -9,7 +9,7 @@ use Rattle.widl_merge.proofs.reference_rules.first_partial_without_main.Goals as
 pub loop-definition-preserved : goal.loop-definition-preserved
 loop-definition-preserved c =
     let here = asked_of (plain_definitions c.args.meanings.now) _ _ _ _ c.other_meaning-found.result c.kind_of-kind.ensures c.partial_name.ensures c.other_meaning-found.ensures in
-    next_somewhere (λ d. definition_of d.now) c.all-definitions.result.now (plain_definitions c.args.meanings.now) (all_plain _ _ c.all-definitions.ensures) (IsWithoutMain (plain_definitions c.args.meanings.now)) c.loop-definition.definition-index c.definition-item.result c.loop-definition.best c.other_meaning-found.result _ (omega arith) c.definition-item.is c.loop-definition.invariant here c.lesser_spot-best.ensures
+    next_somewhere (λ d. definition_of d.now) c.all-definitions.result.now (plain_definitions c.args.meanings.now) (all_plain _ _ c.all-definitions.ensures) (IsWithoutMain (plain_definitions c.args.meanings.now)) c.loop-definition.definition-index c.definition-item.result c.loop-definition.best c.other_meaning-found.result _ (omega arith) c.definition-item.is c.loop-definition.invariant here c.earlier_violation-best.ensures
 
 pub returns : goal.returns
 returns c = all_somewhere (λ d. definition_of d.now) c.all-definitions.result.now (plain_definitions c.args.meanings.now) (all_plain _ _ c.all-definitions.ensures) (IsWithoutMain (plain_definitions c.args.meanings.now)) c.loop-definition.definition-index c.loop-definition.best (omega arith) c.loop-definition.invariant

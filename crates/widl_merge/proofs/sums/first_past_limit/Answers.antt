@@ -9,7 +9,7 @@ pub loop-number-init : goal.loop-number-init
 loop-number-init c = nothing_summed
 
 pub loop-number-preserved : goal.loop-number-preserved
-loop-number-preserved c = sum_step (plain_definitions c.args.meanings.now) c.all-definitions.result.now c.loop-number.number c.index-definitions-number.result c.portion_of-portion.result c.loop-number.sum c.summed-sum.result c.loop-number.best c.passed-found.result c.lesser_spot-best.result (omega arith) c.index-definitions-number.is c.portion_of-portion.ensures c.passed-found.ensures c.lesser_spot-best.ensures c.summed-sum.ensures c.loop-number.invariant
+loop-number-preserved c = sum_step (plain_definitions c.args.meanings.now) c.all-definitions.result.now c.loop-number.number c.index-definitions-number.result c.portion_of-portion.result c.loop-number.sum c.summed-sum.result c.loop-number.best c.passed-found.result c.earlier_violation-best.result (omega arith) c.index-definitions-number.is c.portion_of-portion.ensures c.passed-found.ensures c.earlier_violation-best.ensures c.summed-sum.ensures c.loop-number.invariant
 
 pub returns : goal.returns
 returns c = sum_all (plain_definitions c.args.meanings.now) c.all-definitions.result.now c.loop-number.number c.loop-number.sum c.loop-number.best (omega arith) (listed_same c.all-definitions.result.now c.args.meanings.now c.all-definitions.ensures) c.loop-number.invariant

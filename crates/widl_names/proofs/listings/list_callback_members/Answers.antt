@@ -1,9 +1,9 @@
 use Rattle.std.proofs.Common.{arith, sym}
 use Rattle.std.proofs.lemmas.List.Folds.{flat_map-map}
 use Rattle.widl_idl.specs.PlainTrees.{member_of}
-use Rattle.widl_idl.specs.Things.{things_of_callback_member}
+use Rattle.widl_idl.specs.Nodes.{nodes_of_callback_member}
 use Rattle.widl_names.proofs.Listed.{listed_all}
 use Rattle.widl_names.proofs.listings.list_callback_members.Goals as goal
 
 pub returns : goal.returns
-returns c = listed_all (λ x. things_of_callback_member (member_of x)) c.args.members.now c.loop-member.member-index _ _ _ (omega arith) (sym (flat_map-map things_of_callback_member member_of c.args.members.now)) c.loop-member.invariant
+returns c = listed_all (λ x. nodes_of_callback_member (member_of x)) c.args.members.now c.loop-member.member-index _ _ _ (omega arith) (sym (flat_map-map nodes_of_callback_member member_of c.args.members.now)) c.loop-member.invariant

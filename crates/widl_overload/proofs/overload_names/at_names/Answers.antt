@@ -1,7 +1,7 @@
 use Rattle.std.proofs.Common.{subst, sym}
 use Rattle.widl_overload.specs.Index.{terms_of_length}
 use Rattle.widl_overload.specs.OverloadRules.{AtOverloads}
-use Rattle.widl_overload.specs.OverloadSpots.{IsAtNames, IsOnly}
+use Rattle.widl_overload.specs.OverloadViolations.{IsAtNames, IsOnly}
 use Rattle.widl_overload.specs.Sets.{tuples_in}
 use Rattle.widl_overload.proofs.overload_names.at_names.Goals as goal
 

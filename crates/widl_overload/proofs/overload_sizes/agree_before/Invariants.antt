@@ -1,4 +1,4 @@
-use Rattle.widl_overload.specs.OverloadSpots.{AgreeBefore}
+use Rattle.widl_overload.specs.OverloadViolations.{AgreeBefore}
 use Rattle.widl_overload.specs.Sets.{tuple_term}
 use Rattle.widl_overload.proofs.overload_sizes.agree_before.Given as goal
 

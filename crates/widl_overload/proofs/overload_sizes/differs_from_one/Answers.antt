@@ -2,7 +2,7 @@ use Rattle.std.proofs.Common.{◌≡◌, true, false, arith, sym, subst, ◌∙�
 use Rattle.std.specs.List.{All}
 use Rattle.std.proofs.lemmas.List.{take_all}
 use Rattle.widl_overload.specs.Index.{terms_of_length}
-use Rattle.widl_overload.specs.OverloadSpots.{AgreeBefore}
+use Rattle.widl_overload.specs.OverloadViolations.{AgreeBefore}
 use Rattle.widl_overload.specs.Sets.{tuple_term}
 use Rattle.widl_overload.proofs.DifferingTuples.{agree_more, differs_here, when_false, when_true}
 use Rattle.widl_overload.proofs.overload_sizes.differs_from_one.Goals as goal

@@ -1,7 +1,7 @@
 use Rattle.std.proofs.Common.{take}
 use Rattle.std.specs.List.{All}
 use Rattle.widl_overload.specs.Index.{terms_of_length}
-use Rattle.widl_overload.specs.OverloadSpots.{AgreeBefore}
+use Rattle.widl_overload.specs.OverloadViolations.{AgreeBefore}
 use Rattle.widl_overload.specs.Sets.{tuple_term}
 use Rattle.widl_overload.proofs.overload_sizes.differs_from_one.Given as goal
 

@@ -2,7 +2,7 @@ use Rattle.std.proofs.Common.{◌≡◌, ◌++◌, codes, take}
 use Rattle.widl_idl.specs.DefinitionTerms.{defs_term}
 use Rattle.widl_overload.specs.Sets.{tuple_term}
 use Rattle.widl_sets.specs.Lines.{argument_texts}
-use Rattle.widl_sets.specs.Names.{separated}
+use Rattle.widl_spell.specs.Names.{separated}
 use Rattle.widl_sets.proofs.lines.push_arguments.Given as goal
 
 abbrev pub invariant-loop-place : goal.invariant-loop-place

@@ -6,7 +6,7 @@ use Rattle.widl_valid.specs.Misplaced.{IsMisplacedOn}
 use Rattle.widl_valid.proofs.annotation_rules.first_misplaced.Goals as goal
 
 pub loop-attribute-preserved : goal.loop-attribute-preserved
-loop-attribute-preserved c = next_somewhere attribute_of c.args.attributes.now (map attribute_of c.args.attributes.now) refl (IsMisplacedOn (type_term c.args.inner.now)) c.loop-attribute.attribute-index c.attribute-item.result c.loop-attribute.best c.misplaced-found.result _ (omega arith) c.attribute-item.is c.loop-attribute.invariant c.misplaced-found.ensures c.lesser_spot-best.ensures
+loop-attribute-preserved c = next_somewhere attribute_of c.args.attributes.now (map attribute_of c.args.attributes.now) refl (IsMisplacedOn (type_term c.args.inner.now)) c.loop-attribute.attribute-index c.attribute-item.result c.loop-attribute.best c.misplaced-found.result _ (omega arith) c.attribute-item.is c.loop-attribute.invariant c.misplaced-found.ensures c.earlier_violation-best.ensures
 
 pub returns : goal.returns
 returns c = all_somewhere attribute_of c.args.attributes.now (map attribute_of c.args.attributes.now) refl (IsMisplacedOn (type_term c.args.inner.now)) c.loop-attribute.attribute-index c.loop-attribute.best (omega arith) c.loop-attribute.invariant

@@ -10,8 +10,8 @@ loop-argument-init c = (none_at_one FollowsEllipsis, somewhere_none (λ (b : Pla
 
 pub loop-argument-preserved : goal.loop-argument-preserved
 loop-argument-preserved c = (
-  at_one_step argument_of c.args.arguments.now FollowsEllipsis c.loop-argument.argument-index c.argument-item.result c.loop-argument.best c.loop-argument.before c.lesser_spot-best.result (omega arith) c.argument-item.is c.lesser_spot-best.ensures c.loop-argument.invariant.1 c.loop-argument.invariant.0,
-  somewhere_step argument_of c.args.arguments.now (λ (b : PlainArgument). AtEllipsis b.kind) c.loop-argument.argument-index c.argument-item.result c.loop-argument.before c.ellipsis_of.result c.lesser_spot-before.result (omega arith) c.argument-item.is c.lesser_spot-before.ensures c.ellipsis_of.ensures c.loop-argument.invariant.1,
+  at_one_step argument_of c.args.arguments.now FollowsEllipsis c.loop-argument.argument-index c.argument-item.result c.loop-argument.best c.loop-argument.before c.earlier_violation-best.result (omega arith) c.argument-item.is c.earlier_violation-best.ensures c.loop-argument.invariant.1 c.loop-argument.invariant.0,
+  somewhere_step argument_of c.args.arguments.now (λ (b : PlainArgument). AtEllipsis b.kind) c.loop-argument.argument-index c.argument-item.result c.loop-argument.before c.ellipsis_of.result c.earlier_violation-before.result (omega arith) c.argument-item.is c.earlier_violation-before.ensures c.ellipsis_of.ensures c.loop-argument.invariant.1,
 )
 
 pub returns : goal.returns

@@ -10,7 +10,7 @@ loop-argument-init c = nothing_repeated (λ (x : PlainArgument). x.name.text) (�
 pub loop-argument-preserved : goal.loop-argument-preserved
 loop-argument-preserved c =
     repeated_step (λ (x : PlainArgument). x.name.text) (λ (x : PlainArgument). x.name.at) (has_text c.loop-argument.known) argument_of c.args.arguments.now c.loop-argument.argument-index c.argument-item.result c.as_str.result.now (has_text c.note_text.new.known)
-    c.loop-argument.best c.in_ok-found.found c.lesser_spot-best.result (omega arith) c.argument-item.is (search rules) c.in_ok-found.ensures.adds c.in_ok-found.ensures.found c.lesser_spot-best.ensures c.loop-argument.invariant
+    c.loop-argument.best c.in_ok-found.found c.earlier_violation-best.result (omega arith) c.argument-item.is (search rules) c.in_ok-found.ensures.adds c.in_ok-found.ensures.found c.earlier_violation-best.ensures c.loop-argument.invariant
 
 pub returns : goal.returns
 returns c = repeated_end (λ (x : PlainArgument). x.name.text) (λ (x : PlainArgument). x.name.at) (has_text c.loop-argument.known) argument_of c.args.arguments.now c.loop-argument.argument-index c.loop-argument.best (omega arith) c.loop-argument.invariant

@@ -10,8 +10,8 @@ loop-argument-init c = (none_at_one FollowsOptional, refl)
 
 pub loop-argument-preserved : goal.loop-argument-preserved
 loop-argument-preserved c = (
-  at_one_step argument_of c.args.arguments.now FollowsOptional c.loop-argument.argument-index c.argument-item.result c.loop-argument.best c.required_behind-found.result c.lesser_spot-best.result (omega arith) c.argument-item.is c.lesser_spot-best.ensures
-      (required_here (map argument_of (take c.loop-argument.argument-index c.args.arguments.now)) (argument_of c.argument-item.result) c.loop-argument.optional c.required_behind-found.result c.loop-argument.invariant.1 c.required_behind-found.ensures)
+  at_one_step argument_of c.args.arguments.now FollowsOptional c.loop-argument.argument-index c.argument-item.result c.loop-argument.best c.required_after-found.result c.earlier_violation-best.result (omega arith) c.argument-item.is c.earlier_violation-best.ensures
+      (required_here (map argument_of (take c.loop-argument.argument-index c.args.arguments.now)) (argument_of c.argument-item.result) c.loop-argument.optional c.required_after-found.result c.loop-argument.invariant.1 c.required_after-found.ensures)
       c.loop-argument.invariant.0,
   any_step argument_of c.args.arguments.now (λ (b : PlainArgument). is_optional b.kind) c.loop-argument.argument-index c.argument-item.result c.loop-argument.optional _ (omega arith) c.argument-item.is (ap (λ b. c.loop-argument.optional || b) c.is_optional-optional.ensures) c.loop-argument.invariant.1,
 )

@@ -5,7 +5,7 @@ use Rattle.widl_valid.proofs.MappedLoops.{somewhere_end, somewhere_step}
 use Rattle.widl_valid.proofs.definition_rules.misformed_in.Goals as goal
 
 pub loop-member-preserved : goal.loop-member-preserved
-loop-member-preserved c = somewhere_step member_of c.args.members.now (λ (m : PlainMember). IsMisformed m.kind) c.loop-member.member-index c.member-item.result c.loop-member.best c.misformed_operation-found.result c.lesser_spot-best.result (omega arith) c.member-item.is c.lesser_spot-best.ensures c.misformed_operation-found.ensures c.loop-member.invariant
+loop-member-preserved c = somewhere_step member_of c.args.members.now (λ (m : PlainMember). IsMisformed m.kind) c.loop-member.member-index c.member-item.result c.loop-member.best c.misformed_operation-found.result c.earlier_violation-best.result (omega arith) c.member-item.is c.earlier_violation-best.ensures c.misformed_operation-found.ensures c.loop-member.invariant
 
 pub returns : goal.returns
 returns c = somewhere_end member_of c.args.members.now (λ (m : PlainMember). IsMisformed m.kind) c.loop-member.member-index c.loop-member.best (omega arith) c.loop-member.invariant

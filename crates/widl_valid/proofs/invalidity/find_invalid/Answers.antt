@@ -15,7 +15,7 @@ returns c =
     let meant : definitions_of set.fragments ≡ plain_definitions c.in_ok-meanings.meanings = there ∙ all_plain c.as_slice-all.result.now c.in_ok-meanings.meanings (sym c.in_ok-meanings.ensures) in
     let defs = sym c.defs-defs.ensures.defs in
     let all = listed_definitions c.as_slice-all.result.now in
-    c.join_definitions.ensures all c.in_ok-spots.ensures set there _
-    (c.join_arguments-best.ensures all c.in_ok-spots.ensures set there _ (c.in_ok-best-6.ensures set defs meant _ (c.in_ok-best-5.ensures set meant _
+    c.join_definitions.ensures all c.in_ok-violations.ensures set there _
+    (c.join_arguments-best.ensures all c.in_ok-violations.ensures set there _ (c.in_ok-best-6.ensures set defs meant _ (c.in_ok-best-5.ensures set meant _
     (c.in_ok-best-4.ensures set defs meant _ (c.in_ok-best-3.ensures (definitions_of set.fragments) set defs refl _ (c.in_ok-best-2.ensures set meant _
     (c.in_ok-best.ensures (definitions_of set.fragments) set defs refl _ (no_rules validity_number (BreaksValidity set)))))))))

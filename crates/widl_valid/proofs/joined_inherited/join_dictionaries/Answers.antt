@@ -1,20 +1,20 @@
 use Rattle.std.proofs.Common.{List, Option, map, subst, sym}
 use Rattle.widl_idl.specs.declared.defs.Defs.{Defs}
-use Rattle.widl_idl.specs.declared.spot.Spot.{Spot}
+use Rattle.widl_idl.specs.declared.violation.Violation.{Violation}
 use Rattle.widl_idl.specs.DefinitionTerms.{DictTerm, dict_term}
-use Rattle.widl_idl.specs.Least.{LeastWhere}
+use Rattle.widl_idl.specs.First.{FirstWhere}
 use Rattle.widl_overload.specs.Dictionaries.{dictionary_terms}
 use Rattle.widl_overload.specs.DictionaryRules.{BeginsLongChain, HasNameTwice, HoldsItself}
 use Rattle.widl_overload.specs.Validity.{BreaksValidity, validity_number}
 use Rattle.widl_overload.specs.declared.validity_rule.ValidityRule.TheVariants as rule
-use Rattle.widl_idl.proofs.Steps.{least_rule_by}
+use Rattle.widl_idl.proofs.Steps.{first_rule_by}
 use Rattle.widl_valid.proofs.joined_inherited.join_dictionaries.Goals as goal
 
 pub returns : goal.returns
-returns c = λ definitions set list same others least.
+returns c = λ definitions set list same others earliest.
     let b = BreaksValidity set in
-    let there : (P : List DictTerm → Spot → Type 0) (found : Option Spot) → LeastWhere (P (map dict_term c.as_slice-dicts.result.now)) found → LeastWhere (P (dictionary_terms set.defs)) found
-    = λ P found l. subst (λ (d : Defs). LeastWhere (P (dictionary_terms d)) found) (sym list) (subst (λ ds. LeastWhere (P (map dict_term ds)) found) c.as_slice-dicts.ensures l) in
-    least_rule_by validity_number b rule.RepeatedDictionaryMember _ _ _ _ _ c.number-3.ensures (there HasNameTwice _ c.in_ok-found-2.ensures) c.joined.ensures
-    (least_rule_by validity_number b rule.DictionaryHoldsItself _ _ _ _ _ c.number-2.ensures (there HoldsItself _ c.first_holding_itself-found.ensures) c.joined-best-2.ensures
-    (least_rule_by validity_number b rule.LongDictionaryChain _ _ _ _ _ c.number.ensures (there BeginsLongChain _ c.in_ok-found.ensures) c.joined-best.ensures least))
+    let there : (P : List DictTerm → Violation → Type 0) (found : Option Violation) → FirstWhere (P (map dict_term c.as_slice-dicts.result.now)) found → FirstWhere (P (dictionary_terms set.defs)) found
+    = λ P found l. subst (λ (d : Defs). FirstWhere (P (dictionary_terms d)) found) (sym list) (subst (λ ds. FirstWhere (P (map dict_term ds)) found) c.as_slice-dicts.ensures l) in
+    first_rule_by validity_number b rule.RepeatedDictionaryMember _ _ _ _ _ c.number-3.ensures (there HasNameTwice _ c.in_ok-found-2.ensures) c.joined.ensures
+    (first_rule_by validity_number b rule.DictionaryHoldsItself _ _ _ _ _ c.number-2.ensures (there HoldsItself _ c.first_holding_itself-found.ensures) c.joined-best-2.ensures
+    (first_rule_by validity_number b rule.LongDictionaryChain _ _ _ _ _ c.number.ensures (there BeginsLongChain _ c.in_ok-found.ensures) c.joined-best.ensures earliest))

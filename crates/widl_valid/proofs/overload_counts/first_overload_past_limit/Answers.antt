@@ -9,7 +9,7 @@ loop-member-init c = nothing_counted (overload_count c.new-counts.result.operati
 pub loop-member-preserved : goal.loop-member-preserved
 loop-member-preserved c =
     counted_step (overload_count c.loop-member.counts.operations.regular c.loop-member.counts.operations.fixed) (overload_count c.add.new.self.operations.regular c.add.new.self.operations.fixed) c.loop-member.counts.constructors c.add.new.self.constructors
-    c.args.members.now c.loop-member.member-index c.member-item.result c.loop-member.best c.past_limit-found.result c.lesser_spot-best.result (omega arith) c.member-item.is c.past_limit-found.ensures c.lesser_spot-best.ensures
+    c.args.members.now c.loop-member.member-index c.member-item.result c.loop-member.best c.past_limit-found.result c.earlier_violation-best.result (omega arith) c.member-item.is c.past_limit-found.ensures c.earlier_violation-best.ensures
     c.in_ok-add.ensures.operations c.in_ok-add.ensures.constructors c.loop-member.invariant
 
 pub returns : goal.returns

@@ -1,16 +1,16 @@
 use Rattle.widl_idl.specs.PlainTrees.{plain_definitions}
-use Rattle.widl_overload.specs.MemberRules.{HasOverload65, MixesPromises, RepeatsMember, has_members_of_its_own}
+use Rattle.widl_overload.specs.MemberRules.{HasOverloadPastLimit, MixesPromises, RepeatsMember, has_members_of_its_own}
 use Rattle.widl_valid.specs.MemberTables.{listed_members}
-use Rattle.widl_valid.proofs.OwnerSpots.{asked_least}
+use Rattle.widl_valid.proofs.OwnerViolations.{asked_first}
 use Rattle.widl_valid.proofs.owners.find_in_members.Goals as goal
 
 pub returns : goal.returns
 returns c =
     let members = listed_members c.args.members.now in
     record {
-      repeated = asked_least c.args.kind members has_members_of_its_own RepeatsMember c.in_ok-repeated.repeated c.requires c.in_ok-repeated.ensures;
+      repeated = asked_first c.args.kind members has_members_of_its_own RepeatsMember c.in_ok-repeated.repeated c.requires c.in_ok-repeated.ensures;
       kept_name = c.find_kept_name.ensures;
-      overload = asked_least c.args.kind members has_members_of_its_own HasOverload65 c.in_ok-overload.overload c.requires c.in_ok-overload.ensures;
-      promise = asked_least c.args.kind members has_members_of_its_own (MixesPromises (plain_definitions c.args.resolver.now)) c.in_ok-promise.promise c.requires c.in_ok-promise.ensures;
+      overload = asked_first c.args.kind members has_members_of_its_own HasOverloadPastLimit c.in_ok-overload.overload c.requires c.in_ok-overload.ensures;
+      promise = asked_first c.args.kind members has_members_of_its_own (MixesPromises (plain_definitions c.args.resolver.now)) c.in_ok-promise.promise c.requires c.in_ok-promise.ensures;
       stringifier = c.find_stringifier.ensures;
     }

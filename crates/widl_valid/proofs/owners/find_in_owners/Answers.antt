@@ -1,14 +1,14 @@
 use Rattle.std.proofs.Common.{arith}
 use Rattle.widl_idl.specs.PlainTrees.{plain_definitions}
 use Rattle.widl_names.proofs.PlainLists.{kind_there, listed_same}
-use Rattle.widl_valid.proofs.OwnerSpots.{no_owners, owners_all, owners_step}
+use Rattle.widl_valid.proofs.OwnerViolations.{no_owners, owners_all, owners_step}
 use Rattle.widl_valid.proofs.owners.find_in_owners.Goals as goal
 
 pub loop-number-init : goal.loop-number-init
 loop-number-init c = no_owners (plain_definitions c.args.meanings.now) c.none-best.result c.none-best.ensures
 
 pub loop-number-preserved : goal.loop-number-preserved
-loop-number-preserved c = owners_step (plain_definitions c.args.meanings.now) c.all-definitions.result.now c.loop-number.number c.index-definitions-number.result c.loop-number.best c.in_ok-found.found c.lesser_spots-best.result (omega arith) c.index-definitions-number.is c.lesser_spots-best.ensures c.in_ok-found.ensures c.loop-number.invariant
+loop-number-preserved c = owners_step (plain_definitions c.args.meanings.now) c.all-definitions.result.now c.loop-number.number c.index-definitions-number.result c.loop-number.best c.in_ok-found.found c.earlier_violations-best.result (omega arith) c.index-definitions-number.is c.earlier_violations-best.ensures c.in_ok-found.ensures c.loop-number.invariant
 
 pub returns : goal.returns
 returns c = owners_all (plain_definitions c.args.meanings.now) c.all-definitions.result.now c.loop-number.number c.loop-number.best (omega arith) (listed_same c.all-definitions.result.now c.args.meanings.now c.all-definitions.ensures) c.loop-number.invariant

@@ -12,8 +12,8 @@ loop-member-preserved c =
     let old = c.loop-member.names in
     let new = c.add.new.self in
     returned_step (has_returned old.promises.regular old.promises.fixed old.others.regular old.others.fixed) (has_returned new.promises.regular new.promises.fixed new.others.regular new.others.fixed) (plain_definitions c.args.resolver.now)
-    c.args.members.now c.loop-member.member-index c.member-item.result c.in_ok-promise.promise c.loop-member.best c.differing-found.result c.lesser_spot-best.result (omega arith) c.member-item.is
-    c.in_ok-promise.ensures c.differing-found.ensures c.lesser_spot-best.ensures c.in_ok-add.ensures c.loop-member.invariant
+    c.args.members.now c.loop-member.member-index c.member-item.result c.in_ok-promise.promise c.loop-member.best c.differing-found.result c.earlier_violation-best.result (omega arith) c.member-item.is
+    c.in_ok-promise.ensures c.differing-found.ensures c.earlier_violation-best.ensures c.in_ok-add.ensures c.loop-member.invariant
 
 pub returns : goal.returns
 returns c =

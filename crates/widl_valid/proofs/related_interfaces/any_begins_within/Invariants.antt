@@ -1,5 +1,5 @@
 use Rattle.std.proofs.Common.{◌≡◌, take, false}
-use Rattle.widl_valid.specs.AlikePairs.{any_pair}
+use Rattle.widl_valid.specs.IndistinguishablePairs.{any_pair}
 use Rattle.widl_valid.specs.Lineages.{begins_within}
 use Rattle.widl_valid.proofs.TouchingSpans.{Reaches}
 use Rattle.widl_valid.proofs.related_interfaces.any_begins_within.Given as goal

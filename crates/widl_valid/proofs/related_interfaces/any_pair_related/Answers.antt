@@ -1,6 +1,6 @@
 use Rattle.std.proofs.Common.{arith, get_or, sym, ◌∙◌}
 use Rattle.std.proofs.lemmas.List.{get_or_default}
-use Rattle.widl_valid.specs.AlikePairs.{are_related}
+use Rattle.widl_valid.specs.IndistinguishablePairs.{are_related}
 use Rattle.widl_valid.proofs.AnyPair.{pair_found, pair_none}
 use Rattle.widl_valid.proofs.related_interfaces.any_pair_related.Goals as goal
 

@@ -1,5 +1,5 @@
 use Rattle.std.proofs.Common.{◌≡◌, take, false}
-use Rattle.widl_valid.specs.AlikePairs.{any_pair, are_related}
+use Rattle.widl_valid.specs.IndistinguishablePairs.{any_pair, are_related}
 use Rattle.widl_valid.proofs.related_interfaces.any_pair_related.Given as goal
 
 abbrev pub invariant-loop-place : goal.invariant-loop-place

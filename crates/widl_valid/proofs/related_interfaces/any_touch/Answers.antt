@@ -1,5 +1,5 @@
 use Rattle.std.proofs.Common.{ap, ◌∙◌}
-use Rattle.widl_valid.specs.AlikePairs.{any_pair}
+use Rattle.widl_valid.specs.IndistinguishablePairs.{any_pair}
 use Rattle.widl_valid.specs.Lineages.{begins_within}
 use Rattle.widl_valid.proofs.TouchingSpans.{sorted_touch}
 use Rattle.widl_valid.proofs.related_interfaces.any_touch.Goals as goal

@@ -1,6 +1,6 @@
 use Rattle.std.proofs.Common.{◌≡◌, take, false}
 use Rattle.std.specs.List.{list_any}
-use Rattle.widl_valid.specs.AlikePairs.{are_related}
+use Rattle.widl_valid.specs.IndistinguishablePairs.{are_related}
 use Rattle.widl_valid.proofs.related_interfaces.relates_before.Given as goal
 
 abbrev pub invariant-loop-other : goal.invariant-loop-other

@@ -9,7 +9,7 @@ loop-member-init c = nothing_repeated (clashes c.new-names.result.operations c.n
 pub loop-member-preserved : goal.loop-member-preserved
 loop-member-preserved c =
     repeated_step (clashes c.loop-member.names.operations c.loop-member.names.others) (clashes c.add.new.self.operations c.add.new.self.others) c.args.members.now c.loop-member.member-index c.member-item.result
-    c.loop-member.best c.repeated-found.result c.lesser_spot-best.result (omega arith) c.member-item.is c.repeated-found.ensures c.lesser_spot-best.ensures c.in_ok-add.ensures c.loop-member.invariant
+    c.loop-member.best c.repeated-found.result c.earlier_violation-best.result (omega arith) c.member-item.is c.repeated-found.ensures c.earlier_violation-best.ensures c.in_ok-add.ensures c.loop-member.invariant
 
 pub returns : goal.returns
 returns c = repeated_end (clashes c.loop-member.names.operations c.loop-member.names.others) c.args.members.now c.loop-member.member-index c.loop-member.best (omega arith) c.loop-member.invariant

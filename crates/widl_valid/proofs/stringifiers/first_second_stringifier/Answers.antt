@@ -7,8 +7,8 @@ loop-member-init c = nothing_seen
 
 pub loop-member-preserved : goal.loop-member-preserved
 loop-member-preserved c =
-    seen_step c.loop-member.seen c.either-seen.result c.args.members.now c.loop-member.member-index c.member-item.result c.stringifier_place-place.result c.loop-member.best c.spot_behind-found.result c.lesser_spot-best.result
-    (omega arith) c.member-item.is c.stringifier_place-place.ensures c.spot_behind-found.ensures c.lesser_spot-best.ensures c.either-seen.ensures c.loop-member.invariant
+    seen_step c.loop-member.seen c.either-seen.result c.args.members.now c.loop-member.member-index c.member-item.result c.stringifier_place-place.result c.loop-member.best c.violation_after-found.result c.earlier_violation-best.result
+    (omega arith) c.member-item.is c.stringifier_place-place.ensures c.violation_after-found.ensures c.earlier_violation-best.ensures c.either-seen.ensures c.loop-member.invariant
 
 pub returns : goal.returns
 returns c = seen_end c.loop-member.seen c.args.members.now c.loop-member.member-index c.loop-member.best (omega arith) c.loop-member.invariant

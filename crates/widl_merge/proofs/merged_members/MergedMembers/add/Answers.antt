@@ -5,7 +5,7 @@ use Rattle.widl_idl.specs.declared.tree.members.MemberKind.TheVariants as kind
 use Rattle.widl_idl.specs.PlainTrees.{ConstantMember, ConstructorMember, IterableMember, constant_of, constructor_of, iterable_of, member_of, plain_definitions}
 use Rattle.widl_idl.specs.PlainTypes.{PlainAttribute, attribute_of}
 use Rattle.widl_merge.specs.PutTogether.{GetsStringifier, Grows, GrowsByMember, number_named}
-use Rattle.widl_merge.proofs.Gathering.{left_out_more, of_kind, stringifier_more}
+use Rattle.widl_merge.proofs.Gathering.{unsupported_more, of_kind, stringifier_more}
 use Rattle.widl_merge.proofs.merged_members.MergedMembers.add.Goals as goal
 
 pub returns-in-Constant : goal.returns-in-Constant
@@ -38,10 +38,10 @@ returns-in-Stringifier c =
     c.add_stringifier.ensures
 
 pub returns-in-AsyncIterable : goal.returns-in-AsyncIterable
-returns-in-AsyncIterable c = λ members g. left_out_more (plain_definitions c.args.resolver.now) members c.args.member.now c.args.self.now (number_named c.args.numbers.now.regular c.args.numbers.now.fixed) c.in-AsyncIterable.is g
+returns-in-AsyncIterable c = λ members g. unsupported_more (plain_definitions c.args.resolver.now) members c.args.member.now c.args.self.now (number_named c.args.numbers.now.regular c.args.numbers.now.fixed) c.in-AsyncIterable.is g
 
 pub returns-in-AsyncIterable-2 : goal.returns-in-AsyncIterable-2
-returns-in-AsyncIterable-2 c = λ members g. left_out_more (plain_definitions c.args.resolver.now) members c.args.member.now c.args.self.now (number_named c.args.numbers.now.regular c.args.numbers.now.fixed) c.in-AsyncIterable.is g
+returns-in-AsyncIterable-2 c = λ members g. unsupported_more (plain_definitions c.args.resolver.now) members c.args.member.now c.args.self.now (number_named c.args.numbers.now.regular c.args.numbers.now.fixed) c.in-AsyncIterable.is g
 
 pub returns-in-AsyncIterable-3 : goal.returns-in-AsyncIterable-3
-returns-in-AsyncIterable-3 c = λ members g. left_out_more (plain_definitions c.args.resolver.now) members c.args.member.now c.args.self.now (number_named c.args.numbers.now.regular c.args.numbers.now.fixed) c.in-AsyncIterable.is g
+returns-in-AsyncIterable-3 c = λ members g. unsupported_more (plain_definitions c.args.resolver.now) members c.args.member.now c.args.self.now (number_named c.args.numbers.now.regular c.args.numbers.now.fixed) c.in-AsyncIterable.is g

@@ -1,6 +1,6 @@
 use Rattle.std.proofs.Common.{arith, sym, ap, subst}
 use Rattle.widl_idl.specs.PlainTrees.{plain_definitions}
-use Rattle.widl_names.specs.TypeUses.{Behind, Leads}
+use Rattle.widl_names.specs.TypeUses.{After, Leads}
 use Rattle.widl_names.proofs.TypeUses.{leads_here, leads_on}
 use Rattle.widl_names.proofs.resolver.Resolver.follow.Goals as goal
 
@@ -13,12 +13,12 @@ pub loop-next-preserved : goal.loop-next-preserved
 loop-next-preserved c =
     let definitions = plain_definitions c.args.self.now in
     let last = c.loop-next.reached.usage in
-    let found = subst (Behind definitions last) c.in-Some.is c.in_ok-next.ensures in
+    let found = subst (After definitions last) c.in-Some.is c.in_ok-next.ensures in
     (subst (Leads definitions c.args.start.now) (sym c.in_ok-reached-2.ensures.same) (leads_on definitions c.args.start.now last c.in-Some.next c.loop-next.invariant.0 found.0), c.in_ok-reached-2.ensures.known)
 
 pub loop-next-smaller : goal.loop-next-smaller
 loop-next-smaller c =
-    let found = subst (Behind (plain_definitions c.args.self.now) c.loop-next.reached.usage) c.in-Some.is c.in_ok-next.ensures in
+    let found = subst (After (plain_definitions c.args.self.now) c.loop-next.reached.usage) c.in-Some.is c.in_ok-next.ensures in
     let fewer = found.1 in
     let same = ap (λ u. u.typedefs) c.in_ok-reached-2.ensures.same in
     omega (arith, fewer, same)

@@ -11,9 +11,9 @@ use Rattle.widl_grammar.specs.declared.rule.Rule.TheVariants as rule
 use Rattle.widl_grammar.specs.declared.terminal.Terminal.{Terminal}
 use Rattle.widl_grammar.specs.declared.terminal.Terminal.TheVariants as terminal
 use Rattle.widl_syntax.specs.Reading.{Appends}
-use Rattle.widl_syntax.specs.Signs.{Sign, at, behind, word, ◌⧺◌}
-use Rattle.widl_syntax.specs.SpelledNames.{extended_attributes}
-use Rattle.widl_syntax.specs.SpelledTypes.{written_type, annotated_type, form_signs, member_signs, question_mark, container_terminal, string_terminal}
+use Rattle.widl_syntax.specs.Signs.{Sign, at, after, word, ◌⧺◌}
+use Rattle.widl_syntax.specs.UnparsedNames.{extended_attributes}
+use Rattle.widl_syntax.specs.UnparsedTypes.{written_type, annotated_type, form_signs, member_signs, question_mark, container_terminal, string_terminal}
 use Rattle.widl_syntax.specs.TypeWords.{is_primitive_word}
 use Rattle.widl_syntax.proofs.Lists.{adds_further, adds_over, adds_used_up, repeats_at}
 use Rattle.widl_syntax.proofs.Separated.{separated_items}
@@ -113,7 +113,7 @@ union_members-loop-preserved t c =
 
 pub union_members-returns-clause-reads : goal.union_members-returns-clause-reads
 union_members-returns-clause-reads t c =
-    let P : List Lexeme → Type 0 = λ to. Appends rule.MoreUnionMembers (behind terminal.Or annotated_type) (members_in c.push.new.self) (members_in c.loop.members) c.union_member.new.self to in
+    let P : List Lexeme → Type 0 = λ to. Appends rule.MoreUnionMembers (after terminal.Or annotated_type) (members_in c.push.new.self) (members_in c.loop.members) c.union_member.new.self to in
     separated_items terminal.Or (c.in_ok-push.ensures.ok ∙ ap (λ members. members ++ c.in_ok-union_member.field-0 ∷ []) c.new-members.ensures) c.in_ok-union_member.ensures.reads
     (elim c.loop-test.branch [
       | union_members-else-loop-test w ↦ subst P (sym w.self-is) (adds_used_up refl (omega arith) c.loop.invariant.so_far)

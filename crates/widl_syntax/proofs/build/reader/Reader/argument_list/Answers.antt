@@ -3,7 +3,7 @@ use Rattle.widl_grammar.specs.declared.rule.Rule.TheVariants as rule
 use Rattle.widl_grammar.specs.declared.terminal.Terminal.TheVariants as terminal
 use Rattle.widl_syntax.specs.Reading.{Reads, part}
 use Rattle.widl_syntax.specs.Signs.{separated}
-use Rattle.widl_syntax.specs.SpelledMembers.{argument}
+use Rattle.widl_syntax.specs.UnparsedMembers.{argument}
 use Rattle.widl_syntax.proofs.Reading.{by_rest, by_row, nothing, other_than}
 use Rattle.widl_syntax.proofs.Separated.{separated_items}
 use Rattle.widl_syntax.proofs.build.reader.Reader.argument_list.Goals as goal

@@ -1,6 +1,6 @@
 use Rattle.std.proofs.Common.{refl, sym, ◌∙◌, ap}
 use Rattle.widl_grammar.specs.declared.rule.Rule.TheVariants as rule
-use Rattle.widl_syntax.specs.SpelledTypes.{form_signs}
+use Rattle.widl_syntax.specs.UnparsedTypes.{form_signs}
 use Rattle.widl_syntax.specs.TypeWords.{is_primitive_word}
 use Rattle.widl_syntax.proofs.Reading.{took_identifier}
 use Rattle.widl_syntax.proofs.TypeForms.{form-Named}

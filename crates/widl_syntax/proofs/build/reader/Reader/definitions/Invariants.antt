@@ -1,5 +1,5 @@
 use Rattle.widl_grammar.specs.declared.rule.Rule.TheVariants as rule
-use Rattle.widl_syntax.specs.SpelledDefinitions.{definition}
+use Rattle.widl_syntax.specs.UnparsedDefinitions.{definition}
 use Rattle.widl_syntax.proofs.Lists.{Goes}
 use Rattle.widl_syntax.proofs.build.reader.Reader.definitions.Given as goal
 

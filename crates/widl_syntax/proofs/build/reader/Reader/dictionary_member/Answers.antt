@@ -4,8 +4,8 @@ use Rattle.widl_grammar.specs.declared.rule.Rule.TheVariants as rule
 use Rattle.widl_idl.specs.declared.tree.dictionaries.DictionaryMember.{DictionaryMember}
 use Rattle.widl_idl.specs.declared.tree.extended_attributes.ExtendedAttribute.{ExtendedAttribute}
 use Rattle.widl_syntax.specs.Reading.{Reads, part}
-use Rattle.widl_syntax.specs.SpelledNames.{extended_attributes}
-use Rattle.widl_syntax.specs.SpelledDefinitions.{dictionary_member, dictionary_member_rest}
+use Rattle.widl_syntax.specs.UnparsedNames.{extended_attributes}
+use Rattle.widl_syntax.specs.UnparsedDefinitions.{dictionary_member, dictionary_member_rest}
 use Rattle.widl_syntax.proofs.Reading.{by_only, and_then}
 use Rattle.widl_syntax.proofs.build.reader.Reader.dictionary_member.Goals as goal
 

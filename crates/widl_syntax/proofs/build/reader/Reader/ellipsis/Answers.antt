@@ -5,11 +5,11 @@ use Rattle.widl_syntax.proofs.Reading.{and_then, by_rest, by_row, nothing_if, ot
 use Rattle.widl_syntax.proofs.build.reader.Reader.ellipsis.Goals as goal
 
 pub returns-in-Some : goal.returns-in-Some
-returns-in-Some c = λ start end before behind ty name first last.
+returns-in-Some c = λ start end before after ty name first last.
     let read = by_row rule.Ellipsis terminal.Ellipsis c.in-Some.ensures.ahead refl refl (took_at terminal.Ellipsis c.in-Some.ensures.taken) in
     and_then first (and_then read last)
 
 pub returns-in-None : goal.returns-in-None
-returns-in-None c = λ start end before behind ty name first last.
+returns-in-None c = λ start end before after ty name first last.
     let read = by_rest rule.Ellipsis (terminal.Ellipsis ∷ []) 1 refl refl (other_than terminal.Ellipsis _ c.in-None.ensures.other) (nothing_if c.in-None.ensures.same) in
     and_then first (and_then read last)

@@ -1,8 +1,8 @@
 use Rattle.std.proofs.Common.{◌++◌, [], ◌∷◌, refl, ap, ◌∙◌}
 use Rattle.widl_grammar.specs.declared.rule.Rule.TheVariants as rule
 use Rattle.widl_grammar.specs.declared.terminal.Terminal.TheVariants as terminal
-use Rattle.widl_syntax.specs.SpelledNames.{word_if}
-use Rattle.widl_syntax.specs.SpelledDefinitions.{enumeration_value}
+use Rattle.widl_syntax.specs.UnparsedNames.{word_if}
+use Rattle.widl_syntax.specs.UnparsedDefinitions.{enumeration_value}
 use Rattle.widl_syntax.proofs.Reading.{by_only, and_then, took, took_identifier}
 use Rattle.widl_syntax.proofs.Lists.{separated_and}
 use Rattle.widl_syntax.proofs.build.reader.Reader.enumeration.Goals as goal

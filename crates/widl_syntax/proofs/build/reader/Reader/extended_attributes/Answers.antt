@@ -2,7 +2,7 @@ use Rattle.std.proofs.Common.{◌≡◌, ◌++◌, [], ◌∷◌, refl, sym, ◌
 use Rattle.widl_grammar.specs.declared.rule.Rule.TheVariants as rule
 use Rattle.widl_grammar.specs.declared.terminal.Terminal.TheVariants as terminal
 use Rattle.widl_syntax.specs.Reading.{Reads, part}
-use Rattle.widl_syntax.specs.SpelledNames.{extended_attributes}
+use Rattle.widl_syntax.specs.UnparsedNames.{extended_attributes}
 use Rattle.widl_syntax.proofs.Reading.{and_then, by_rest, by_row, nothing_if, other_than, passed_by, taken_as, took}
 use Rattle.widl_syntax.proofs.Separated.{first_item, in_brackets, separated_items}
 use Rattle.widl_syntax.proofs.build.reader.Reader.extended_attributes.Goals as goal

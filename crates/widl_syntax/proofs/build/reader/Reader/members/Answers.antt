@@ -10,18 +10,18 @@ use Rattle.widl_syntax.specs.declared.build.members.MemberList.TheVariants.{Inte
 use Rattle.widl_syntax.specs.MemberLists.{members_rule, member_rule}
 use Rattle.widl_syntax.specs.Reading.{Reads, part, terminal_ahead}
 use Rattle.widl_syntax.proofs.Reading.{by_row, nothing, other_than, is_among}
-use Rattle.widl_syntax.proofs.Lists.{Repeats, goes_on, goes_over, goes_used_up, repeats_behind}
+use Rattle.widl_syntax.proofs.Lists.{Repeats, goes_on, goes_over, goes_used_up, repeats_after}
 use Rattle.widl_syntax.proofs.Tokens.{member_has_token}
 use Rattle.widl_syntax.proofs.build.reader.Reader.members.Goals as goal
 use Rattle.widl_syntax.proofs.build.reader.Reader.members.Goals.{else-loop-test, then-loop-test+then-is_ahead}
 
 -- the rows of each list
 one_more : (list : MemberList) {now : List Lexeme} → is_among (terminal.CloseBrace ∷ []) (terminal_ahead now) ≡ false → Repeats (members_rule list) (part rule.ExtendedAttributeList ++ part (member_rule list)) now
-one_more Interface other = repeats_behind rule.InterfaceMembers (terminal.CloseBrace ∷ []) 0 refl refl refl other
-one_more PartialInterface other = repeats_behind rule.PartialMembers (terminal.CloseBrace ∷ []) 0 refl refl refl other
-one_more Mixin other = repeats_behind rule.MixinMembers (terminal.CloseBrace ∷ []) 0 refl refl refl other
-one_more Namespace other = repeats_behind rule.NamespaceMembers (terminal.CloseBrace ∷ []) 0 refl refl refl other
-one_more CallbackInterface other = repeats_behind rule.CallbackMembers (terminal.CloseBrace ∷ []) 0 refl refl refl other
+one_more Interface other = repeats_after rule.InterfaceMembers (terminal.CloseBrace ∷ []) 0 refl refl refl other
+one_more PartialInterface other = repeats_after rule.PartialMembers (terminal.CloseBrace ∷ []) 0 refl refl refl other
+one_more Mixin other = repeats_after rule.MixinMembers (terminal.CloseBrace ∷ []) 0 refl refl refl other
+one_more Namespace other = repeats_after rule.NamespaceMembers (terminal.CloseBrace ∷ []) 0 refl refl refl other
+one_more CallbackInterface other = repeats_after rule.CallbackMembers (terminal.CloseBrace ∷ []) 0 refl refl refl other
 
 no_more : (list : MemberList) {now : List Lexeme} → terminal_ahead now ≡ terminal.CloseBrace → Reads (part (members_rule list)) [] now now
 no_more Interface brace = by_row rule.InterfaceMembers terminal.CloseBrace brace refl refl nothing

@@ -1,5 +1,5 @@
 use Rattle.widl_syntax.specs.MemberLists.{members_rule}
-use Rattle.widl_syntax.specs.SpelledMembers.{member}
+use Rattle.widl_syntax.specs.UnparsedMembers.{member}
 use Rattle.widl_syntax.proofs.Lists.{Goes}
 use Rattle.widl_syntax.proofs.build.reader.Reader.members.Given as goal
 

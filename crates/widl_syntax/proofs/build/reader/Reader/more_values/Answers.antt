@@ -19,10 +19,10 @@ another : {now mid : List Lexeme} {place : Place} → IsTakenAs terminal.Comma p
 another {now} {mid} comma string = record {
   repeats = λ others r.
       let f = first_of_token terminal.Comma (Nonterminal rule.EnumNext ∷ others) now (runs_at rule.EnumMore terminal.Comma others now comma.ahead refl refl r) in
-      let behind : f.rest ≡ mid = sym (comma.taken.rest ∙ ap (drop 1) f.is) in
-      let next : Runs (Token terminal.String ∷ Nonterminal rule.EnumMore ∷ others) mid = runs_at rule.EnumNext terminal.String others mid string refl refl (subst (Runs (Nonterminal rule.EnumNext ∷ others)) behind f.runs) in
+      let after : f.rest ≡ mid = sym (comma.taken.rest ∙ ap (drop 1) f.is) in
+      let next : Runs (Token terminal.String ∷ Nonterminal rule.EnumMore ∷ others) mid = runs_at rule.EnumNext terminal.String others mid string refl refl (subst (Runs (Nonterminal rule.EnumNext ∷ others)) after f.runs) in
       let rest : Symbols = Token terminal.String ∷ Nonterminal rule.EnumMore ∷ others in
-      subst (Runs (Token terminal.Comma ∷ rest)) (sym (f.is ∙ ap (λ u. f.lexeme ∷ u) behind))
+      subst (Runs (Token terminal.Comma ∷ rest)) (sym (f.is ∙ ap (λ u. f.lexeme ∷ u) after))
       (subst (λ a. runs.Runs grammar sets (Token terminal.Comma ∷ rest) (a ∷ map terminal_of mid)) (sym f.terminal) (runs.taken next));
 }
 

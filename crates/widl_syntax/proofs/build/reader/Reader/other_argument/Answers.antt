@@ -2,7 +2,7 @@ use Rattle.std.proofs.Common.{[], ◌∷◌, refl}
 use Rattle.widl_grammar.specs.declared.rule.Rule.TheVariants as rule
 use Rattle.widl_grammar.specs.declared.terminal.Terminal.TheVariants as terminal
 use Rattle.widl_syntax.specs.Reading.{part}
-use Rattle.widl_syntax.specs.SpelledNames.{any_name}
+use Rattle.widl_syntax.specs.UnparsedNames.{any_name}
 use Rattle.widl_syntax.proofs.Reading.{and_then, by_only, by_rest, other_than}
 use Rattle.widl_syntax.proofs.Words.{by_word}
 use Rattle.widl_syntax.proofs.build.reader.Reader.other_argument.Goals as goal

@@ -4,7 +4,7 @@ use Rattle.widl_idl.specs.TypeTrees.{form_of}
 use Rattle.widl_grammar.specs.declared.rule.Rule.TheVariants as rule
 use Rattle.widl_grammar.specs.declared.terminal.Terminal.{Terminal}
 use Rattle.widl_grammar.specs.declared.terminal.Terminal.TheVariants as terminal
-use Rattle.widl_syntax.specs.SpelledTypes.{form_signs}
+use Rattle.widl_syntax.specs.UnparsedTypes.{form_signs}
 use Rattle.widl_syntax.proofs.Reading.{by_row, by_rest, took}
 use Rattle.widl_syntax.proofs.TypeForms.{form-Boolean, form-BigInt, form-Integer, form-Float}
 use Rattle.widl_syntax.proofs.Types.{of_signs, taken_le}

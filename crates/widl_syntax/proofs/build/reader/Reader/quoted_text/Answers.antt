@@ -2,7 +2,7 @@ use Rattle.std.proofs.Common.{◌≡◌, Ok, Err, IfOk, string_bytes}
 use Rattle.widl_grammar.specs.declared.terminal.Terminal.TheVariants as terminal
 use Rattle.widl_grammar.specs.Source.{terminal_of}
 use Rattle.widl_syntax.specs.Reading.{IfAhead}
-use Rattle.widl_syntax.specs.SpelledNames.{quoted_bytes}
+use Rattle.widl_syntax.specs.UnparsedNames.{quoted_bytes}
 use Rattle.widl_syntax.proofs.Texts.{quoted_ahead}
 use Rattle.widl_syntax.proofs.build.reader.Reader.quoted_text.Goals as goal
 

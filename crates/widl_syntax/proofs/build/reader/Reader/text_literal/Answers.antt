@@ -1,6 +1,6 @@
 use Rattle.std.proofs.Common.{string_bytes}
 use Rattle.widl_grammar.specs.declared.terminal.Terminal.TheVariants as terminal
-use Rattle.widl_syntax.specs.SpelledNames.{quoted_bytes}
+use Rattle.widl_syntax.specs.UnparsedNames.{quoted_bytes}
 use Rattle.widl_syntax.proofs.Reading.{took_bytes}
 use Rattle.widl_syntax.proofs.build.reader.Reader.text_literal.Goals as goal
 

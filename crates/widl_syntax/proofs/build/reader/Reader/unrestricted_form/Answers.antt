@@ -2,7 +2,7 @@ use Rattle.std.proofs.Common.{refl, ap, ◌∙◌}
 use Rattle.widl_grammar.specs.declared.rule.Rule.TheVariants as rule
 use Rattle.widl_grammar.specs.declared.terminal.Terminal.TheVariants as terminal
 use Rattle.widl_syntax.proofs.Reading.{by_row, and_then, took}
-use Rattle.widl_syntax.specs.SpelledTypes.{form_signs}
+use Rattle.widl_syntax.specs.UnparsedTypes.{form_signs}
 use Rattle.widl_syntax.proofs.TypeForms.{form-Float}
 use Rattle.widl_syntax.proofs.Types.{of_signs}
 use Rattle.widl_syntax.proofs.build.reader.Reader.unrestricted_form.Goals as goal

@@ -1,0 +1,75 @@
+//! Over which accepted sets a script can be run today.
+
+ghost use Rattle.std.specs.Prelude.{◌≡◌, ◌∷◌, [], ◌≤◌, IfOk, length};
+ghost use Rattle.widl_text.specs.Limits.{most_file_bytes};
+
+use std::alloc::{AllocError, Global};
+use std::process::Abort;
+use std::test::Fail;
+use widl_front::{Texts, Verdict, judge};
+use widl_overload::is_served;
+use widl_text::limits::MOST_FILE_BYTES;
+
+/// One text alone.
+fn alone(alloc: Global, bytes: &[u8]) -> Result<Texts, AllocError>
+    ensures { IfOk result (λ texts. texts ≡ bytes.now ∷ []) }
+{
+    let mut texts = Texts::new(alloc);
+    texts.push(Vec::from_slice(alloc, bytes)?)?;
+    Ok(texts)
+}
+
+/// Whether a run is supported over the set of one file, if that is accepted.
+fn is_supported(alloc: Global, file: &[u8]) -> Result<Option<bool>, AllocError>
+    requires { length file.now ≤ most_file_bytes }
+{
+    let texts = alone(alloc, file)?;
+    match judge(alloc, &texts)? {
+        Verdict::Accepted(accepted) => Ok(Some(is_served(&accepted))),
+        Verdict::Fault(_) | Verdict::Broken(_) => Ok(None),
+    }
+}
+
+fn expect_each(
+    rt: &impl Abort,
+    alloc: Global,
+    files: &[&str],
+    supported: bool,
+) -> Result<(), Fail> {
+    for file in files {
+        let bytes = file.as_bytes();
+        assert!(rt; bytes.len() <= MOST_FILE_BYTES);
+        assert_eq!(rt; is_supported(alloc, bytes)?, Some(supported), "{file}");
+    }
+    Ok(())
+}
+
+#[test]
+fn runs_are_supported_over_namespaces_of_plain_operations(rt: HostRuntime) -> Result<(), Fail> {
+    let files = [
+        "",
+        "namespace N { };",
+        "namespace N { any f(any a); undefined g(); };",
+        "typedef any T; namespace N { T f(T a); };",
+    ];
+    expect_each(&rt, rt.alloc(), &files, true)
+}
+
+#[test]
+fn runs_are_not_supported_over_other_sets(rt: HostRuntime) -> Result<(), Fail> {
+    let files = [
+        "namespace N { undefined f(optional any a); };",
+        "namespace N { undefined f(any... a); };",
+        "namespace N { undefined f(); undefined f(any a); };",
+        "namespace N { undefined f(octet a); };",
+        "namespace N { boolean f(); };",
+        "namespace N { readonly attribute any a; };",
+        "namespace N { const long c = 1; };",
+        "namespace N { }; namespace O { undefined f(octet a); };",
+        "dictionary D { };",
+        "interface I { };",
+        "enum E { \"a\" };",
+        "callback C = undefined ();",
+    ];
+    expect_each(&rt, rt.alloc(), &files, false)
+}

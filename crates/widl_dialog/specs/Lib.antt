@@ -1,0 +1,14 @@
+pub mod Dialog
+pub mod Conversation
+pub mod Position
+pub mod Rename
+pub mod Runs
+pub mod Lift
+pub mod Calm
+pub mod Kept
+pub mod Credit
+pub mod Stack
+pub mod Laws
+pub mod Count
+pub mod Follows
+pub mod Settle

@@ -1,0 +1,5 @@
+mod Found
+mod OneFinding
+mod OneVerdict
+mod TokenCounts
+mod Trees

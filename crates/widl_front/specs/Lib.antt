@@ -1,0 +1,4 @@
+pub mod Findings
+pub mod Steps
+pub mod Texts
+pub mod Verdicts

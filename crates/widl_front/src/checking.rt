@@ -1,0 +1,137 @@
+//! The phases in their order: the encoding of all files, then their grammar, then the rules over their trees.
+
+ghost use Rattle.std.specs.Prelude.{◌≡◌, ◌≤◌, ◌<◌, ◌^◌, [], true, false, IfOk, length};
+ghost use Rattle.widl_front.specs.Findings.{IsFileFinding, IsFoundIn};
+ghost use Rattle.widl_front.specs.Steps.{AddsTree, BreaksEncoding, IsTreeVerdict, KeepsEncoding, TreesUnless};
+ghost use Rattle.widl_front.specs.Texts.{AreShort};
+ghost use Rattle.widl_front.specs.Verdicts.{IsVerdict};
+ghost use Rattle.widl_idl.specs.MergedSets.{AreFiles, IsMerged};
+ghost use Rattle.widl_text.specs.Limits.{most_files};
+
+use crate::finding::Finding;
+use crate::texts::Texts;
+use crate::verdict::Verdict;
+use std::alloc::{AllocError, Global};
+use widl_idl::{Fragments, Merged};
+use widl_lex::{LexFault, Tokens};
+use widl_merge::{MergeFault, merge};
+use widl_syntax::{SyntaxFault, parse};
+use widl_valid::{ValidFault, validate};
+
+/// The verdict on a set of files, of which each has its place among the texts as its number: a fault of the
+/// encoding of any of them, or else of the grammar of one, or else a broken rule over their trees, or else
+/// their set with its merged list.
+///
+/// # Errors
+///
+/// `AllocError` where there is no memory, also where the work on types takes more steps, or the merged list
+/// more numbers, than `merge` and `validate` allow.
+pub fn judge(alloc: Global, texts: &Texts) -> Result<Verdict, AllocError>
+    requires few { length texts.now ≤ most_files }
+    requires short { AreShort texts.now }
+    ensures { IfOk result (λ verdict. IsVerdict texts.now verdict) }
+{
+    let mut trees = Fragments::new(alloc);
+    match read_trees(alloc, texts, &mut trees)? {
+        Some(finding) => Ok(Verdict::Fault(finding)),
+        None => judge_trees(alloc, trees),
+    }
+}
+
+/// The verdict on files that have trees: whether a rule over these is broken.
+///
+/// # Errors
+///
+/// `AllocError` as for [`judge`].
+fn judge_trees(alloc: Global, trees: Fragments) -> Result<Verdict, AllocError>
+    requires { AreFiles trees }
+    ensures { IfOk result (λ verdict. IsTreeVerdict trees verdict) }
+{
+    match merge(alloc, trees) {
+        Err(MergeFault::Refused(refusal)) => Ok(Verdict::Broken(refusal)),
+        Err(MergeFault::Memory) => Err(AllocError),
+        Ok(merged) => judge_merged(alloc, merged),
+    }
+}
+
+/// The verdict on files that have a merged list: whether a rule of validity is broken.
+///
+/// # Errors
+///
+/// `AllocError` as for [`judge`].
+fn judge_merged(alloc: Global, merged: Merged) -> Result<Verdict, AllocError>
+    requires { IsMerged merged.defs merged.fragments }
+    ensures { IfOk result (λ verdict. IsTreeVerdict merged.fragments verdict) }
+{
+    match validate(alloc, merged) {
+        Err(ValidFault::Refused(refusal)) => Ok(Verdict::Broken(refusal)),
+        Err(ValidFault::Memory) => Err(AllocError),
+        Ok(accepted) => Ok(Verdict::Accepted(accepted)),
+    }
+}
+
+/// The first fault of the texts: of the encoding of any of them, or else of the grammar of one. Where there
+/// is none, their trees are added.
+///
+/// # Errors
+///
+/// `AllocError` where there is no memory.
+fn read_trees(
+    alloc: Global,
+    texts: &Texts,
+    trees: &mut Fragments,
+) -> Result<Option<Finding>, AllocError>
+    requires few { length texts.now ≤ most_files }
+    requires short { AreShort texts.now }
+    requires empty { trees.old ≡ [] }
+    ensures found { IfOk result (λ found. IsFoundIn texts.now found) }
+    ensures trees { IfOk result (λ found. TreesUnless texts.now trees.new found) }
+{
+    let mut found = None;
+    for file in 0..texts.len() {
+        let finding = read_tree(alloc, file as u16, texts.named(file), trees)?;
+        if breaks_encoding(finding) {
+            return Ok(finding);
+        }
+        found = found.or(finding);
+    }
+    Ok(found)
+}
+
+/// Whether the finding is a fault of the encoding.
+fn breaks_encoding(finding: Option<Finding>) -> bool
+    ensures yes { result ≡ true → BreaksEncoding finding }
+    ensures no { result ≡ false → KeepsEncoding finding }
+{
+    matches!(finding, Some(Finding::Encoding(_)))
+}
+
+/// What is found in one file; its tree is added where nothing is.
+///
+/// # Errors
+///
+/// `AllocError` where there is no memory.
+fn read_tree(
+    alloc: Global,
+    file: u16,
+    bytes: &[u8],
+    trees: &mut Fragments,
+) -> Result<Option<Finding>, AllocError>
+    requires { length bytes.now < 2 ^ 32 }
+    ensures finding { IfOk result (λ finding. IsFileFinding file bytes.now finding) }
+    ensures tree { IfOk result (λ finding. AddsTree file bytes.now finding trees.old trees.new) }
+{
+    match Tokens::read(alloc, file, bytes) {
+        Err(LexFault::NotUtf8(place)) => Ok(Some(Finding::Encoding(place))),
+        Err(LexFault::Memory) => Err(AllocError),
+        Ok(tokens) => match parse(alloc, &tokens) {
+            Ok(tree) => {
+                trees.push(tree)?;
+                Ok(None)
+            }
+            Err(SyntaxFault::Syntax(place)) => Ok(Some(Finding::Syntax(place))),
+            Err(SyntaxFault::TooDeep(place)) => Ok(Some(Finding::Deep(place))),
+            Err(SyntaxFault::Memory) => Err(AllocError),
+        },
+    }
+}

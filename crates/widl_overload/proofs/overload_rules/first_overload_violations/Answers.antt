@@ -1,0 +1,13 @@
+use Rattle.std.proofs.Common.{subst}
+use Rattle.widl_overload.specs.OverloadLists.{lists_of_interfaces, lists_of_namespaces}
+use Rattle.widl_overload.specs.OverloadViolations.{AreViolationsIn}
+use Rattle.widl_overload.proofs.ViolationSteps.{violations_both}
+use Rattle.widl_overload.proofs.overload_rules.first_overload_violations.Goals as goal
+
+pub returns : goal.returns
+returns c =
+    let ifaces = c.args.defs.now.ifaces in
+    let spaces = c.args.defs.now.spaces in
+    let first = subst (λ all. AreViolationsIn ifaces (lists_of_interfaces all) c.in_ok-in_interfaces.in_interfaces) c.as_slice.ensures c.in_ok-in_interfaces.ensures in
+    let later = subst (λ all. AreViolationsIn ifaces (lists_of_namespaces all) c.in_ok-in_namespaces.in_namespaces) c.as_slice-2.ensures c.in_ok-in_namespaces.ensures in
+    violations_both ifaces (lists_of_interfaces ifaces) (lists_of_namespaces spaces) c.in_ok-in_interfaces.in_interfaces c.in_ok-in_namespaces.in_namespaces c.earlier.result first later c.earlier.ensures

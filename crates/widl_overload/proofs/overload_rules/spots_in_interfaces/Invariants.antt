@@ -1,7 +1,0 @@
-use Rattle.std.proofs.Common.{take}
-use Rattle.widl_overload.specs.OverloadLists.{lists_of_interfaces}
-use Rattle.widl_overload.specs.OverloadSpots.{AreSpotsIn}
-use Rattle.widl_overload.proofs.overload_rules.spots_in_interfaces.Given as goal
-
-abbrev pub invariant-loop-iface : goal.invariant-loop-iface
-invariant-loop-iface l = AreSpotsIn l.defs.ifaces (lists_of_interfaces (take l.iface-index l.ifaces)) l.best

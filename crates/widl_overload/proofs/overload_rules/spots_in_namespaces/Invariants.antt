@@ -1,7 +1,0 @@
-use Rattle.std.proofs.Common.{take}
-use Rattle.widl_overload.specs.OverloadLists.{lists_of_namespaces}
-use Rattle.widl_overload.specs.OverloadSpots.{AreSpotsIn}
-use Rattle.widl_overload.proofs.overload_rules.spots_in_namespaces.Given as goal
-
-abbrev pub invariant-loop-space : goal.invariant-loop-space
-invariant-loop-space l = AreSpotsIn l.defs.ifaces (lists_of_namespaces (take l.space-index l.spaces)) l.best

@@ -1,0 +1,7 @@
+use Rattle.std.proofs.Common.{take}
+use Rattle.widl_overload.specs.OverloadLists.{lists_of_interfaces}
+use Rattle.widl_overload.specs.OverloadViolations.{AreViolationsIn}
+use Rattle.widl_overload.proofs.overload_rules.violations_in_interfaces.Given as goal
+
+abbrev pub invariant-loop-iface : goal.invariant-loop-iface
+invariant-loop-iface l = AreViolationsIn l.defs.ifaces (lists_of_interfaces (take l.iface-index l.ifaces)) l.best

@@ -1,0 +1,7 @@
+use Rattle.std.proofs.Common.{take}
+use Rattle.widl_overload.specs.OverloadRules.{operation_lists}
+use Rattle.widl_overload.specs.OverloadViolations.{AreViolationsIn}
+use Rattle.widl_overload.proofs.overload_rules.violations_in_operations.Given as goal
+
+abbrev pub invariant-loop-op : goal.invariant-loop-op
+invariant-loop-op l = AreViolationsIn l.defs.ifaces (operation_lists (take l.op-index l.ops)) l.best

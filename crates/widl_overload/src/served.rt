@@ -1,0 +1,113 @@
+//! Which lists of definitions a run supports today. This file goes when it supports all.
+
+ghost use Rattle.std.specs.Prelude.{◌≡◌, ◌↔◌, IsTrue, map};
+ghost use Rattle.std.specs.List.{list_all};
+ghost use Rattle.widl_idl.specs.DefinitionTerms.{arg_term, defs_term, op_name_term, sig_term, space_term};
+ghost use Rattle.widl_idl.specs.Terms.{type_term};
+ghost use Rattle.widl_overload.specs.Served.{IsServed, has_namespaces_alone, has_operations_alone, is_any, is_any_or_undefined, is_required, is_served_alone, is_served_argument, is_served_list, is_served_name, is_served_namespace, is_served_signature};
+
+use crate::accepted::Accepted;
+use widl_idl::{Arg, Defs, IdlType, OpName, Optionality, Sig, Space};
+
+/// Whether a script can be run over an accepted set today: it has namespaces alone, with operations alone,
+/// one overload a name, whose arguments are required and of type `any` and whose result is `any` or
+/// `undefined`.
+pub fn is_served(accepted: &Accepted) -> bool
+    ensures { IsTrue result ↔ IsServed (defs_term accepted.now.defs) }
+{
+    is_served_list(accepted.defs())
+}
+
+fn is_served_list(defs: &Defs) -> bool
+    ensures { result ≡ is_served_list (defs_term defs.now) }
+{
+    has_namespaces_alone(defs) && are_served_namespaces(defs.spaces.as_slice())
+}
+
+fn has_namespaces_alone(defs: &Defs) -> bool
+    ensures { result ≡ has_namespaces_alone (defs_term defs.now) }
+{
+    defs.ifaces.len() == 0
+        && defs.dicts.len() == 0
+        && defs.choices.len() == 0
+        && defs.callback_fns.len() == 0
+        && defs.callback_ifaces.len() == 0
+}
+
+fn are_served_namespaces(spaces: &[Space]) -> bool
+    ensures { result ≡ list_all (λ n. is_served_namespace (space_term n)) spaces.now }
+{
+    spaces.iter().all(is_served_namespace)
+}
+
+/// Whether a namespace has operations alone, each of them supported.
+fn is_served_namespace(space: &Space) -> bool
+    ensures { result ≡ is_served_namespace (space_term space.now) }
+{
+    has_operations_alone(space) && are_served_operations(space.ops.as_slice())
+}
+
+fn has_operations_alone(space: &Space) -> bool
+    ensures { result ≡ has_operations_alone (space_term space.now) }
+{
+    space.attrs.len() == 0 && space.consts.len() == 0
+}
+
+fn are_served_operations(ops: &[OpName]) -> bool
+    ensures { result ≡ list_all (λ o. is_served_name (op_name_term o)) ops.now }
+{
+    ops.iter().all(is_served_name)
+}
+
+/// Whether a name has one overload, and it is supported.
+fn is_served_name(op: &OpName) -> bool
+    ensures { result ≡ is_served_name (op_name_term op.now) }
+{
+    is_served_alone(op.sigs.as_slice())
+}
+
+fn is_served_alone(sigs: &[Sig]) -> bool
+    ensures { result ≡ is_served_alone (map sig_term sigs.now) }
+{
+    match sigs {
+        [sig] => is_served_signature(sig),
+        _ => false,
+    }
+}
+
+fn is_served_signature(sig: &Sig) -> bool
+    ensures { result ≡ is_served_signature (sig_term sig.now) }
+{
+    are_served_arguments(sig.args.as_slice()) && is_any_or_undefined(&sig.result)
+}
+
+fn are_served_arguments(args: &[Arg]) -> bool
+    ensures { result ≡ list_all (λ a. is_served_argument (arg_term a)) args.now }
+{
+    args.iter().all(is_served_argument)
+}
+
+/// Whether an argument is required and of type `any`.
+fn is_served_argument(arg: &Arg) -> bool
+    ensures { result ≡ is_served_argument (arg_term arg.now) }
+{
+    is_required(arg.opt) && is_any(&arg.ty)
+}
+
+fn is_required(opt: Optionality) -> bool
+    ensures { result ≡ is_required opt }
+{
+    matches!(opt, Optionality::Required)
+}
+
+fn is_any(ty: &IdlType) -> bool
+    ensures { result ≡ is_any (type_term ty.now) }
+{
+    matches!(ty, IdlType::Any)
+}
+
+fn is_any_or_undefined(ty: &IdlType) -> bool
+    ensures { result ≡ is_any_or_undefined (type_term ty.now) }
+{
+    matches!(ty, IdlType::Any | IdlType::Undefined)
+}

@@ -1,6 +1,0 @@
-use Rattle.std.proofs.Common.{take}
-use Rattle.widl_sets.specs.Ready.{Adds, is_ready}
-use Rattle.widl_sets.proofs.ready.Ready.add_each.Given as goal
-
-abbrev pub invariant-loop-number : goal.invariant-loop-number
-invariant-loop-number l = Adds (take l.number-index l.numbers) (is_ready l.initial.self) (is_ready l.self)

@@ -1,0 +1,4 @@
+pub mod JoinedTexts
+pub mod FirstFrom
+pub mod Heirs
+pub mod Giving

@@ -1,0 +1,7 @@
+use Rattle.std.proofs.Common.{length, take}
+use Rattle.widl_spell.specs.Ids.{parents_of}
+use Rattle.widl_spell.specs.Ready.{AreHeirs}
+use Rattle.widl_spell.proofs.ids.heirs_of.Given as goal
+
+abbrev pub invariant-loop-number : goal.invariant-loop-number
+invariant-loop-number l = AreHeirs (take l.number (parents_of l.ifaces)) l.heirs.items (length l.ifaces)

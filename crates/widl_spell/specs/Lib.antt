@@ -1,0 +1,4 @@
+pub mod Names
+pub mod TypeTexts
+pub mod Ids
+pub mod Ready

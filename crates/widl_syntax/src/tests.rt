@@ -1,4 +1,0 @@
-//! Files and their trees.
-
-mod places;
-mod spelled;

@@ -1,8 +1,0 @@
-use Rattle.std.proofs.Common.{map, take}
-use Rattle.widl_idl.specs.Least.{AtOne, LeastWhere, Somewhere}
-use Rattle.widl_idl.specs.PlainTrees.{arguments_of}
-use Rattle.widl_overload.specs.ArgumentRules.{IsArgument65}
-use Rattle.widl_valid.proofs.argument_rules.first_argument_65.Given as goal
-
-abbrev pub invariant-loop-list : goal.invariant-loop-list
-invariant-loop-list l = LeastWhere (Somewhere (AtOne IsArgument65) (map (λ l. arguments_of l.now) (take l.list-index l.lists))) l.best

@@ -1,0 +1,123 @@
+#!/usr/bin/env python3
+"""Builds the program from crates.txt, as many crates at a time as there are processors.
+
+    python3 tools/build.py
+
+`rt run` would prove the libraries below the program one after the other. Here each one is begun as soon as all that it
+stands on are built, of these the one with the longest way to the program first; the program comes last. A library is
+checked, and then built over what its check kept: to build it from nothing takes many times as long. On standard error
+stands how far this is. Where a crate fails, what its command wrote follows, and the status is 1.
+"""
+import contextlib
+import os
+import signal
+import subprocess
+import sys
+import tempfile
+import threading
+
+TOP = os.path.dirname(os.path.dirname(os.path.abspath(__file__)))
+PROGRAM = "widl_cli"
+
+
+def libraries():
+    """Each crate of crates.txt with the crates of the repository that it stands on."""
+    found = {}
+    with open(os.path.join(TOP, "crates.txt"), encoding="utf-8") as file:
+        for line in file:
+            name, colon, below = line.split("#")[0].partition(":")
+            if colon:
+                found[name.split()[0]] = below.split()
+    return {name: [it for it in below if it in found] for name, below in found.items()}
+
+
+def reached(below, name):
+    """The crate and all that it stands on."""
+    return {name}.union(*(reached(below, it) for it in below[name]))
+
+
+def size(name):
+    """The bytes of a crate's sources: a measure of its time."""
+    folders = (os.walk(os.path.join(TOP, "crates", name, part)) for part in ("src", "specs", "proofs"))
+    return sum(os.path.getsize(os.path.join(at, it)) for walk in folders for at, _, files in walk for it in files)
+
+
+def ways_up(below):
+    """For each crate the size of the longest way from it to the program."""
+    ways = {}
+    for name in sorted(below, key=lambda it: -len(reached(below, it))):
+        above = [ways[it] for it in below if name in below[it]]
+        ways[name] = size(name) + max(above, default=0)
+    return ways
+
+
+class Build:
+    """The crates that wait, those that run with their process, and those that are built."""
+
+    def __init__(self, below):
+        self.below, self.total = below, len(below)
+        ways = ways_up(below)
+        self.waiting = sorted(below, key=lambda it: -ways[it])
+        self.running, self.built, self.failed = {}, set(), None
+        self.changed = threading.Condition()
+
+    def start(self, name):
+        """Begins one crate, and says so."""
+        command = "rt check && rt run -- --version" if name == PROGRAM else "rt check --jobs 1 && rt lib --jobs 1"
+        log = tempfile.TemporaryFile("w+", errors="replace")
+        folder = os.path.join(TOP, "crates", name)
+        ends = {"stdin": subprocess.DEVNULL, "stdout": log, "stderr": subprocess.STDOUT}
+        process = subprocess.Popen(["sh", "-c", command], cwd=folder, start_new_session=True, **ends)
+        self.waiting.remove(name)
+        self.running[name] = process
+        begun = self.total - len(self.waiting)
+        print(f"widl: proving {name}, {begun} of {self.total}", file=sys.stderr, flush=True)
+        threading.Thread(target=self.await_end, args=(name, process, log)).start()
+
+    def await_end(self, name, process, log):
+        """Waits for one crate; where it is the first that fails, the others are ended."""
+        status = process.wait()
+        with self.changed:
+            del self.running[name]
+            if status == 0:
+                self.built.add(name)
+            elif self.failed is None:
+                log.seek(0)
+                self.failed = f"{log.read()}widl: {name} isn't built"
+                self.stop()
+            log.close()
+            self.changed.notify_all()
+
+    def stop(self):
+        """Ends what is running: each command has a group of processes of its own."""
+        for process in self.running.values():
+            with contextlib.suppress(ProcessLookupError):
+                os.killpg(process.pid, signal.SIGTERM)
+
+    def run(self, most):
+        """Builds all; what failed, or None."""
+        with self.changed:
+            while self.running or (self.waiting and self.failed is None):
+                ready = [it for it in self.waiting if self.built.issuperset(self.below[it])]
+                if self.failed is None:
+                    for name in ready[: most - len(self.running)]:
+                        self.start(name)
+                self.changed.wait()
+        return self.failed
+
+
+def main():
+    all_crates = libraries()
+    needed = reached(all_crates, PROGRAM)
+    build = Build({name: below for name, below in all_crates.items() if name in needed})
+    try:
+        failed = build.run(len(os.sched_getaffinity(0)))
+    except KeyboardInterrupt:
+        build.stop()
+        sys.exit("widl: the build was interrupted; the next one goes on from here")
+    if failed is not None:
+        sys.exit(failed)
+
+
+if __name__ == "__main__":
+    main()
