@@ -19,6 +19,7 @@ pub use law::each_text_has_one_cut;
 pub use quoted::is_quoted;
 pub use token::{Token, TokenKind};
 pub use tokens::Tokens;
+pub use utf8::utf8_fault;
 
 #[cfg(test)]
 mod tests;

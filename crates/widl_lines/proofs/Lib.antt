@@ -2,3 +2,12 @@ pub mod Listing
 pub mod Splitting
 pub mod Digits
 pub mod Counting
+pub mod BreakOrder
+pub mod LineBreaks
+pub mod FromMachine
+pub mod Stacking
+pub mod Cutting
+pub mod LineCuts
+pub mod Passing
+pub mod Leaving
+pub mod OneBreak

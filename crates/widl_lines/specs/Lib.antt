@@ -10,3 +10,12 @@ pub mod Texts
 pub mod Terminals
 pub mod Characters
 pub mod Spelled
+pub mod Lines
+pub mod Words
+pub mod WordTerms
+pub mod Blocks
+pub mod Stacks
+pub mod Breaks
+pub mod TextBreaks
+pub mod LineTerms
+pub mod Refusals
