@@ -1,5 +1,5 @@
 -- The listed words are found by their slots: by tests that the checker computes.
-use Rattle.std.proofs.Common.{◌≡◌, ℕ, ◌+◌, ◌<◌, zero, suc, Bool, true, false, List, [], ◌∷◌, Some, None, Option, length, get_or, refl, sym, ◌∙◌, ap, arith, nat_eq, nat_lt, ltb-true, Bor}
+use Rattle.std.proofs.Common.{◌≡◌, ℕ, ◌<◌, zero, suc, Bool, true, false, List, [], ◌∷◌, Some, None, length, get_or, refl, sym, ◌∙◌, ap, arith, nat_lt, ltb-true, Bor}
 use Rattle.std.proofs.lemmas.Slice.Eq.{bytes_eq-Decides}
 use Rattle.std.proofs.lemmas.List.Folds.{list_all_at}
 use Rattle.std.specs.Prelude.{◌&&◌, cond, map, find, option_map, slice_index}

@@ -1,5 +1,5 @@
 -- What is split off a text at its front; it serves the proofs of texts alone.
-use Rattle.std.specs.Prelude.{◌≡◌, ℕ, ◌<◌, Bool, true, false, List, [], ◌∷◌, ◌++◌, length, chars, ⊤, Option, None}
+use Rattle.std.specs.Prelude.{◌≡◌, ℕ, ◌<◌, Bool, true, false, List, [], ◌∷◌, length, chars, ⊤, Option, None}
 use Rattle.std.specs.Char.{is_ascii_hexdigit, digit_value}
 use Rattle.std.specs.Char.Escape.{encode_utf16}
 use Rattle.widl_lines.specs.Texts.{then_units, units_of_characters}

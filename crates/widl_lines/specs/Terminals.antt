@@ -1,5 +1,5 @@
 -- The terminal of a word, and whether its literal is too large.
-use Rattle.std.specs.Prelude.{ℕ, ◌&&◌, ◌||◌, nat_eq, nat_lt, bytes_eq, if◌then◌else◌, Bool, true, false, List, [], ◌∷◌, length, Option, Some, None, option_map, unwrap_or, is_some, find}
+use Rattle.std.specs.Prelude.{ℕ, ◌&&◌, ◌||◌, nat_eq, nat_lt, bytes_eq, if◌then◌else◌, Bool, false, List, [], ◌∷◌, length, Option, Some, None, option_map, unwrap_or, is_some, find}
 use Rattle.std.specs.List.{list_all}
 use Rattle.std.specs.Char.{is_ascii_alphabetic, is_ascii_alphanumeric}
 use Rattle.widl_lines.specs.declared.grammar.Terminal.{Terminal}

@@ -1,7 +1,6 @@
-use Rattle.std.proofs.Common.{ap, sym, ◌∙◌, Some, None, List, ℕ}
+use Rattle.std.proofs.Common.{ap, sym, ◌∙◌, Some}
 use Rattle.std.specs.Str.{bytes_eq}
 use Rattle.widl_lines.specs.Slots.{listed_at}
-use Rattle.widl_lines.specs.Terminals.{listed}
 use Rattle.std.specs.Prelude.{slice_index}
 use Rattle.widl_lines.specs.declared.spelling.TheConstants.{SPELLED_AT}
 use Rattle.widl_lines.proofs.Listing.{found, not_found}

@@ -1,4 +1,3 @@
-use Rattle.widl_lines.specs.declared.grammar.Terminal.TheVariants.{Unknown}
 use Rattle.widl_lines.proofs.Listing.{spelled_at}
 use Rattle.widl_lines.proofs.listed.spelled.Goals as goal
 

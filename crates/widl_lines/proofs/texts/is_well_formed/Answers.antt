@@ -1,4 +1,4 @@
-use Rattle.std.proofs.Common.{sym, ◌∙◌, ap, length, true}
+use Rattle.std.proofs.Common.{◌∙◌, ap, length, true}
 use Rattle.std.specs.Prelude.{option_map}
 use Rattle.std.specs.Str.{chars}
 use Rattle.std.specs.Prelude.{is_some}
