@@ -31,7 +31,7 @@ pub record Counted (all rest : List ℕ) (number : ℕ) : Type 0 where
   pub cut : number ≡ min so_far (2 ^ 100)
   pub same : digits_value_after 10 so_far rest ≡ digits_value 10 all
 
--- the stripped number so far and the digits that are left give the number of all digits behind n
+-- the stripped number so far and the digits that are left give the number of all digits after n
 pub record Reached (n : ℕ) (all rest : List ℕ) (kept zeros : ℕ) : Type 0 where
   pub so_far : ℕ
   pub stands : Stands so_far kept zeros

@@ -73,7 +73,7 @@ module _ (text rest : List ℕ) (base : ℕ) (p : IsPrefixCut text base rest) wh
   head : get_or text 0 0 ≡ 48
   head = ap (λ l. get_or l 0 0) p.is
 
-  -- behind a sign stands no zero that is the front
+  -- after a sign stands no zero that is the front
   signed_front : (negative : Bool) (sign unsigned : List ℕ) → IsSign negative sign → text ≡ sign ++ unsigned → text ≡ unsigned
   signed_front true sign unsigned is_sign is = let front : get_or text 0 0 ≡ 45 = ap (λ l. get_or l 0 0) (is ∙ ap (λ s. s ++ unsigned) is_sign) in absurd (omega (arith, head, front))
   signed_front false sign unsigned (inl none) is = is ∙ ap (λ s. s ++ unsigned) none

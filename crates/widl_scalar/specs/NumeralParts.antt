@@ -13,7 +13,7 @@ pub record IsDigitCut (text front back : List ℕ) : Type 0 where
   pub digits : AllDigits 10 front
   pub ends : NoDigitFirst back
 
--- the digits behind a point, if one stands first, and what follows
+-- the digits after a point, if one stands first, and what follows
 pub record IsFractionCut (text fraction tail : List ℕ) : Type 0 where
   pub point : List ℕ
   pub is_point : (point ≡ 46 ∷ []) ⊎ ((point ≡ []) × (fraction ≡ []) × (slice_index text 0 ≢ 46))

@@ -83,7 +83,7 @@ prefix_of [] = None
 prefix_of (first ∷ []) = None
 prefix_of (first ∷ (letter ∷ rest)) = if first == 48 then option_map (λ base. (base, rest)) (base_of letter) else None
 
--- what is read behind a sign
+-- what is read after a sign
 abbrev pub read_signed : Bool → List ℕ → Read
 read_signed negative text =
     if bytes_eq text (codes "Infinity")

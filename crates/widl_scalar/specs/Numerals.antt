@@ -32,7 +32,7 @@ pub record IsExponent (text : List ℕ) (up over : ℕ) : Type 0 where
 abbrev pub IsTail : List ℕ → ℕ → ℕ → Type 0
 IsTail text up over = IsExponent text up over ⊎ ((text ≡ []) × (up ≡ 0) × (over ≡ 0))
 
--- a decimal numeral without a sign: digits, of which some may stand behind a point, and an exponent
+-- a decimal numeral without a sign: digits, of which some may stand after a point, and an exponent
 pub record IsUnsigned (text digits : List ℕ) (up down : ℕ) : Type 0 where
   pub whole : List ℕ
   pub fraction : List ℕ
@@ -65,7 +65,7 @@ pub record IsInfinity (text : List ℕ) (negative : Bool) : Type 0 where
 abbrev pub base_of : ℕ → Option ℕ
 base_of letter = if letter == 120 || letter == 88 then Some 16 else if letter == 111 || letter == 79 then Some 8 else if letter == 98 || letter == 66 then Some 2 else None
 
--- digits of a base behind `0` and its letter
+-- digits of a base after `0` and its letter
 pub record IsRadix (text : List ℕ) (base : ℕ) (digits : List ℕ) : Type 0 where
   pub letter : ℕ
   pub is_letter : base_of letter ≡ Some base

@@ -45,7 +45,7 @@ pub(crate) fn exact_value(whole: &[u16], fraction: &[u16], exponent: Exponent) -
     )
 }
 
-/// The number with these digits behind it.
+/// The number with these digits after it.
 fn with_digits(start: Stripped, digits: &[u16]) -> Stripped
     requires digits { AllDigits 10 digits.now }
     requires kept { start.kept ≤ 2 ^ 64 + 1 }
@@ -61,7 +61,7 @@ fn with_digits(start: Stripped, digits: &[u16]) -> Stripped
     number
 }
 
-/// The number with this digit behind it.
+/// The number with this digit after it.
 fn with_digit(number: Stripped, digit: u128) -> Stripped
     requires digit { digit < 10 }
     requires kept { number.kept ≤ 2 ^ 64 + 1 }

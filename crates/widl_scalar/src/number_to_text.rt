@@ -74,7 +74,7 @@ fn shortest_signed(v: i128) -> i128
     if v < 0 { -digits } else { digits }
 }
 
-/// The digits of v, behind a minus sign where it is below 0.
+/// The digits of v, after a minus sign where it is below 0.
 fn decimal_text(alloc: Global, v: i128) -> Result<Units, AllocError>
     ensures { IfOk result (λ text. text ≡ signed_decimal v) }
 {

@@ -15,7 +15,7 @@ const MINUS: u16 = 45;
 
 const POINT: u16 = 46;
 
-/// Whether a minus stands first, and the text behind the sign.
+/// Whether a minus stands first, and the text after the sign.
 pub(crate) fn split_sign(text: &[u16]) -> (bool, &[u16])
     ensures { IsSignCut text.now result.0 result.1.now }
 {
@@ -59,7 +59,7 @@ pub(crate) fn digit_of(unit: u16) -> u16
     }
 }
 
-/// The digits behind a point at the front, if one stands there, and what follows.
+/// The digits after a point at the front, if one stands there, and what follows.
 pub(crate) fn split_fraction(text: &[u16]) -> (&[u16], &[u16])
     requires { NoDigitFirst text.now }
     ensures { IsFractionCut text.now result.0.now result.1.now }
