@@ -1,0 +1,6 @@
+pub mod Folding
+pub mod Opening
+pub mod Growing
+pub mod NewNames
+pub mod Wholes
+pub mod Rest
