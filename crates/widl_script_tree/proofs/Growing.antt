@@ -14,7 +14,7 @@ use Rattle.widl_script_tree.specs.declared.function.Function.{Function}
 use Rattle.widl_script_tree.specs.Rows.{most_nodes}
 use Rattle.widl_script_tree.specs.Trees.{Text, ExpressionTree, UndefinedT, MemberTree, StatementTree, StatementTrees, LetT, DoT, SetT, DefineT, DefineAccessorT, DeleteT, ReturnT, ThrowT, ShowT, TryT, IfT, FunctionTree, function_statement}
 use Rattle.widl_script_tree.specs.Tables.{Tables, name_or, name_at, key_at, expression_at, statement_at, function_at, no_statement, no_function, expressions_in, statements_in, member_tree, member_at, opened, expression_tree, expressions_tree, function_over, function_tree, steps_statement, opened_statement, statement_tree, statements_tree}
-use Rattle.widl_script_tree.specs.Parts.{IsName, IsExpression, IsMember, IsLowerRow, IsLowerOption, IsLowerKey, IsLowerMember, IsLower, IsLowerStatement, IsBodyLower, IsFunction, IsWhole}
+use Rattle.widl_script_tree.specs.Parts.{IsName, IsExpression, IsMember, IsLowerRow, IsLowerOption, IsLowerKey, IsLowerMember, IsLower, IsLowerStatement, IsLowerItem, IsBodyLower, IsFunction, IsWhole}
 use Rattle.widl_script_tree.specs.Growth.{Extends, Grown}
 use Rattle.widl_script_tree.proofs.Folding.{tree_past, tree_opens, keeps}
 use Rattle.widl_script_tree.proofs.Opening.{Stands, rows_same, statement_rows_same, members_same, opened_agrees, opened_same, statement_same}
@@ -61,7 +61,7 @@ extends_length {X} {old} {new} e = omega (arith, ap length e.whole, length-appen
 pub extends_get : {X : Type 0} (d : X) {old new : List X} → Extends old new → (k : ℕ) → k < length old → get_or new k d ≡ get_or old k d
 extends_get {X} d {old} {new} e k lt = ap (λ xs. get_or xs k d) e.whole ∙ get_or_append_left old e.added d k lt
 
-slice_append : {X : Type 0} (xs ys : List X) (k : ℕ) → k < length xs → slice_get (xs ++ ys) k ≡ slice_get xs k
+pub slice_append : {X : Type 0} (xs ys : List X) (k : ℕ) → k < length xs → slice_get (xs ++ ys) k ≡ slice_get xs k
 slice_append [] ys k lt = absurd (omega arith)
 slice_append (x ∷ xs) ys zero lt = refl
 slice_append (x ∷ xs) ys (suc k) lt = slice_append xs ys k (omega arith)
@@ -150,3 +150,22 @@ module _ (t u : Tables) (whole : IsWhole t) (grown : Grown t u) where
   pub statement_kept : (place : ℕ) → place < length t.statements → statement_tree u place ≡ statement_tree t place
   unfolding statement_tree
   statement_kept place lt = keeps (opened_statement t) (opened_statement u) (DoT UndefinedT) no_statement (Stands t) (statement_same t) statement_agrees t.statements u.statements (extends_length grown.statements) (extends_get no_statement grown.statements) (stands_at t whole) place lt
+
+-- 3. What a read of a place gives
+
+-- the parts of an expression that was read are lower, past the end too
+pub lower_read : (t : Tables) → IsWhole t → (place : ℕ) → IsLower t place (expression_at t place)
+lower_read t whole place = elim (cases_lt place (length t.expressions)) [
+  | inl lt ↦ whole.lower place lt
+  | inr le ↦ subst (IsLower t place) (sym (get_or_past t.expressions place node.Undefined le)) tt
+]
+
+item_of_lower : (t : Tables) (place : ℕ) (s : Statement) → IsLowerStatement t place s → IsLowerItem place s
+item_of_lower t place (line.Item part) lower = lower
+item_of_lower t place _ lower = tt
+
+pub item_read : (t : Tables) → IsWhole t → (place : ℕ) → IsLowerItem place (statement_at t place)
+item_read t whole place = elim (cases_lt place (length t.statements)) [
+  | inl lt ↦ item_of_lower t place (statement_at t place) (whole.lower_statements place lt)
+  | inr le ↦ subst (IsLowerItem place) (sym (get_or_past t.statements place no_statement le)) tt
+]

@@ -4,3 +4,5 @@ pub mod Growing
 pub mod NewNames
 pub mod Wholes
 pub mod Rest
+mod RealNodes
+mod SameOverload

@@ -65,6 +65,11 @@ IsLowerStatement t place (line.Function number) = number < length t.functions
 IsLowerStatement t place (line.Steps number) = number < length t.blocks
 IsLowerStatement t place (line.Item part) = part < place
 
+-- an item names a place below this one
+abbrev pub IsLowerItem : ℕ → Statement → Type 0
+IsLowerItem place (line.Item part) = part < place
+IsLowerItem place _ = Unit {0}
+
 -- the body of a function that stands at this place is below it
 abbrev pub IsBodyLower : Tables → ℕ → Statement → Type 0
 IsBodyLower t place (line.Function number) = IsLowerRow place (function_at t number).body

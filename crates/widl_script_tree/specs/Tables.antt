@@ -2,6 +2,7 @@
 use Rattle.std.specs.Prelude.{ℕ, zero, suc, ◌+◌, Bool, true, false, ◌&&◌, nat_eq, List, [], ◌∷◌, ◌++◌, Option, Some, None, slice_get, slice_index_or, map, option_map}
 use Rattle.std.specs.List.{list_any}
 use Rattle.std.specs.Map.{lookup}
+use Rattle.std.specs.Option.{option_eq}
 use Rattle.widl_idl.specs.declared.callee.Callee.{Callee}
 use Rattle.widl_idl.specs.declared.callee.Owner.{Owner}
 use Rattle.widl_idl.specs.declared.callee.Owner.TheVariants as owner
@@ -184,14 +185,11 @@ same_part (part.Set a) (part.Set b) = nat_eq a b
 same_part part.Text part.Text = true
 same_part _ _ = false
 
-abbrev pub same_number : Option ℕ → Option ℕ → Bool
-same_number None None = true
-same_number None (Some b) = false
-same_number (Some a) None = false
-same_number (Some a) (Some b) = nat_eq a b
+abbrev pub same_callee : Callee → Callee → Bool
+same_callee a b = same_owner a.owner b.owner && same_part a.part b.part
 
 abbrev pub same_overload : CalleeOverload → CalleeOverload → Bool
-same_overload a b = (same_owner a.0.owner b.0.owner && same_part a.0.part b.0.part) && same_number a.1 b.1
+same_overload a b = same_callee a.0 b.0 && option_eq nat_eq a.1 b.1
 
 abbrev pub lines_of : Tables → Option ℕ → Option (List StepLine)
 lines_of t None = None

@@ -2,7 +2,7 @@
 
 ghost use Rattle.std.specs.Prelude.{◌≡◌, ◌<◌, ◌≤◌, ◌+◌, All, ℕ, length, slice_get, IfOk, OnErr, OnOk, Some};
 ghost use Rattle.std.specs.Option.{option_copied};
-ghost use Rattle.widl_script_tree.specs.Parts.{IsFunction, IsLower, IsLowerRow, IsLowerStatement, IsWhole};
+ghost use Rattle.widl_script_tree.specs.Parts.{IsFunction, IsLower, IsLowerItem, IsLowerRow, IsLowerStatement, IsWhole};
 ghost use Rattle.widl_script_tree.specs.Tables.{expression_at, expression_tree, function_at, is_local_in, key_at, opened, opened_statement, owner_at, statement_at, statement_tree, steps_at};
 ghost use Rattle.widl_script_tree.specs.Puts.{no_tables, with_block, with_expression, with_function, with_items, with_name, with_owner, with_statement, with_statement_items, with_target, with_top};
 
@@ -296,6 +296,13 @@ impl ScriptTables {
         ensures lower { IsLower self.now place result.now }
         ensures tree { expression_tree self.now place ≡ opened self.now (expression_tree self.now) result.now }
     {
+        self.is_whole();
+        self.expression_here(place)
+    }
+
+    fn expression_here(&self, place: u32) -> &Expression
+        ensures { result.now ≡ expression_at self.now place }
+    {
         match self.expressions.get(place as usize) {
             Some(node) => node,
             None => &self.default_expression,
@@ -306,7 +313,15 @@ impl ScriptTables {
     pub fn statement(&self, place: u32) -> &Statement
         ensures node { result.now ≡ statement_at self.now place }
         ensures lower { place < length self.now.statements → IsLowerStatement self.now place result.now }
+        ensures item { IsLowerItem place result.now }
         ensures tree { statement_tree self.now place ≡ opened_statement self.now (statement_tree self.now) result.now }
+    {
+        self.is_whole();
+        self.statement_here(place)
+    }
+
+    fn statement_here(&self, place: u32) -> &Statement
+        ensures { result.now ≡ statement_at self.now place }
     {
         match self.statements.get(place as usize) {
             Some(node) => node,
