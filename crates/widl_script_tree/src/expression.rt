@@ -23,7 +23,7 @@ pub struct MemberOf {
 }
 
 /// An expression, whose parts stand at lower places of the same table.
-#[derive(Drop)]
+#[derive(Debug, PartialEq, Eq, Drop)]
 pub enum Expression {
     /// `undefined`.
     Undefined,
