@@ -23,7 +23,7 @@ pub struct MemberOf {
 }
 
 /// An expression, whose parts stand at lower places of the same table.
-#[derive(Debug, PartialEq, Eq, Drop)]
+#[derive(Debug, Drop)]
 pub enum Expression {
     /// `undefined`.
     Undefined,

@@ -1,5 +1,7 @@
 //! Scripts put together by hand.
 
+ghost use Rattle.std.specs.Prelude.{◌≡◌, [], ◌∷◌, IfOk};
+
 use crate::expression::{Expression, MemberKey, MemberOf};
 use crate::function::Function;
 use crate::local_names::LocalNames;
@@ -88,108 +90,113 @@ fn finished(rt: &impl Abort, tables: ScriptTables, top: Row) -> Script {
     tables.finish(top)
 }
 
+/// The names `N`, `f`, `o` and `a`, of which the first is of a namespace.
+fn put_names(rt: &impl Abort, alloc: Global, tables: &mut ScriptTables) -> Result<(), AllocError> {
+    let rows = [("N", 0), ("f", 1), ("o", 2), ("a", 3), ("f", 1)];
+    for (text, number) in rows {
+        assert_eq!(rt; name(rt, tables, Units::of_str(alloc, text)?)?, number);
+    }
+    tables.put_owner(0, Owner::Space(7))
+}
+
+/// `o.a[1]`
+fn put_first(rt: &impl Abort, tables: &mut ScriptTables) -> Result<u32, AllocError> {
+    let object = named(rt, tables, 2)?;
+    let of = member(rt, tables, object, 3)?;
+    assert!(rt; tables.expression_count() < u32::MAX);
+    let key = tables.put_expression(Expression::Number(Number::Whole(1)))?;
+    indexed(rt, tables, of, key)
+}
+
+/// `N.f(o.a[1], "x")`
+fn put_call(rt: &impl Abort, alloc: Global, tables: &mut ScriptTables) -> Result<u32, AllocError> {
+    let space = named(rt, tables, 0)?;
+    let callee = member(rt, tables, space, 1)?;
+    let first = put_first(rt, tables)?;
+    assert!(rt; tables.expression_count() < u32::MAX);
+    let second = tables.put_expression(Expression::Text(Units::of_str(alloc, "x")?))?;
+    call(rt, tables, callee, [first, second])
+}
+
 /// `do N.f(o.a[1], "x")`
 fn sample(rt: &impl Abort, alloc: Global) -> Result<Script, AllocError> {
     let mut tables = ScriptTables::new(alloc);
-    let space = name(rt, &mut tables, Units::of_str(alloc, "N")?)?;
-    let operation = name(rt, &mut tables, Units::of_str(alloc, "f")?)?;
-    let object = name(rt, &mut tables, Units::of_str(alloc, "o")?)?;
-    let field = name(rt, &mut tables, Units::of_str(alloc, "a")?)?;
-    let again = name(rt, &mut tables, Units::of_str(alloc, "f")?)?;
-    assert_eq!(rt; (space, operation, object, field), (0, 1, 2, 3));
-    assert_eq!(rt; again, operation);
-    tables.put_owner(space, Owner::Space(7))?;
-    let of = named(rt, &mut tables, space)?;
-    let callee = member(rt, &mut tables, of, operation)?;
-    let of = named(rt, &mut tables, object)?;
-    let of = member(rt, &mut tables, of, field)?;
-    assert!(rt; tables.expression_count() < u32::MAX);
-    let key = tables.put_expression(Expression::Number(Number::Whole(1)))?;
-    let first = indexed(rt, &mut tables, of, key)?;
-    assert!(rt; tables.expression_count() < u32::MAX);
-    let second = tables.put_expression(Expression::Text(Units::of_str(alloc, "x")?))?;
-    let value = call(rt, &mut tables, callee, [first, second])?;
+    put_names(rt, alloc, &mut tables)?;
+    let value = put_call(rt, alloc, &mut tables)?;
     let top = do_alone(rt, &mut tables, value)?;
     Ok(finished(rt, tables, top))
 }
 
 #[test]
-fn reads_a_script(rt: HostRuntime) -> Result<(), AllocError> {
+fn reads_expressions(rt: HostRuntime) -> Result<(), AllocError> {
     let script = sample(&rt, rt.alloc())?;
-    let key = |of, key| Expression::Member(MemberOf { of, key });
     let nodes = [
-        (0, Expression::Name(0)),
-        (1, key(0, MemberKey::Named(1))),
-        (2, Expression::Name(2)),
-        (3, key(2, MemberKey::Named(3))),
-        (4, Expression::Number(Number::Whole(1))),
-        (5, key(3, MemberKey::Computed(4))),
-        (6, Expression::Text(Units::of_str(rt.alloc(), "x")?)),
-        (7, key(3, MemberKey::Computed(4))),
-        (8, Expression::Text(Units::of_str(rt.alloc(), "x")?)),
-        (
-            9,
-            Expression::Call {
-                callee: 1,
-                args: Row { first: 7, count: 2 },
-            },
-        ),
-        (10, Expression::Undefined),
-        (u32::MAX, Expression::Undefined),
+        (0, "Name(0)"),
+        (1, "Member(MemberOf { of: 0, key: Named(1) })"),
+        (2, "Name(2)"),
+        (3, "Member(MemberOf { of: 2, key: Named(3) })"),
+        (4, "Number(Whole(1))"),
+        (5, "Member(MemberOf { of: 3, key: Computed(4) })"),
+        (6, "Text(Units { items: [120] })"),
+        (7, "Member(MemberOf { of: 3, key: Computed(4) })"),
+        (8, "Text(Units { items: [120] })"),
+        (9, "Call { callee: 1, args: Row { first: 7, count: 2 } }"),
+        (10, "Undefined"),
+        (u32::MAX, "Undefined"),
     ];
-    for (place, node) in &nodes {
-        assert_eq!(rt;
-            *script.expression(*place),
-            *node,
-            "the expression at {place}"
-        );
+    for (place, node) in nodes {
+        let text = format!(in rt.alloc(); "{:?}", script.expression(place))?;
+        assert_eq!(rt; text.as_str(), node, "the expression at {place}");
     }
-    assert_eq!(rt; script.top(), Row { first: 1, count: 1 });
-    assert_eq!(rt; *script.statement(0), Statement::Do(9));
-    assert_eq!(rt; *script.statement(1), Statement::Do(9));
-    assert_eq!(rt; *script.statement(2), Statement::Do(u32::MAX));
-    assert_eq!(rt;
-        (script.owner(0), script.owner(1)),
-        (Some(Owner::Space(7)), None)
-    );
-    assert_eq!(rt; *script.name(1), Units::of_str(rt.alloc(), "f")?);
-    assert_eq!(rt; script.name(4).len(), 0);
-    assert_eq!(rt; script.function(0).body, Row { first: 0, count: 0 });
     Ok(())
 }
 
 #[test]
-fn puts_functions_and_steps(rt: HostRuntime) -> Result<(), AllocError> {
-    let alloc = rt.alloc();
-    let mut tables = ScriptTables::new(alloc);
-    let f = name(&rt, &mut tables, Units::of_str(alloc, "f")?)?;
-    let p = name(&rt, &mut tables, Units::of_str(alloc, "p")?)?;
-    let mut params = Items::new(alloc);
-    params.push(p)?;
-    let mut names = LocalNames::new(alloc);
-    names.put(p)?;
-    names.put(p)?;
-    let function = Function {
-        name: f,
-        params,
-        names,
-        body: Row { first: 0, count: 0 },
-    };
-    assert!(rt; f < tables.name_count() && p < tables.name_count());
-    let number = tables.put_function(function)?;
-    assert_eq!(rt; number, 0);
-    assert_eq!(rt; tables.function_count(), 1);
-    assert!(rt;
-        (
-            tables.is_local(0, p),
-            tables.is_local(0, f),
-            tables.is_local(1, p)
-        ) == (true, false, false)
-    );
+fn reads_the_rest(rt: HostRuntime) -> Result<(), AllocError> {
+    let script = sample(&rt, rt.alloc())?;
+    assert_eq!(rt; script.top(), Row { first: 1, count: 1 });
+    assert_eq!(rt; *script.statement(1), Statement::Do(9));
+    assert_eq!(rt; *script.statement(2), Statement::Do(u32::MAX));
+    assert_eq!(rt; script.owner(0), Some(Owner::Space(7)));
+    assert_eq!(rt; script.owner(1), None);
+    assert_eq!(rt; (script.name(1).len(), script.name(4).len()), (1, 0));
+    assert_eq!(rt; script.function(0).body, Row { first: 0, count: 0 });
     Ok(())
 }
 
-/// `steps N.f#K`, with no lines.
+/// A function with the parameter `p`.
+fn function(alloc: Global, name: u32, param: u32) -> Result<Function, AllocError>
+    ensures name { IfOk result (λ f. f.name ≡ name) }
+    ensures params { IfOk result (λ f. f.params ≡ param ∷ []) }
+    ensures names { IfOk result (λ f. f.names ≡ param ∷ []) }
+    ensures body { IfOk result (λ f. (f.body.first ≡ 0) × (f.body.count ≡ 0)) }
+{
+    let mut params = Items::new(alloc);
+    params.push(param)?;
+    let mut names = LocalNames::new(alloc);
+    names.put(param)?;
+    Ok(Function {
+        name,
+        params,
+        names,
+        body: Row { first: 0, count: 0 },
+    })
+}
+
+#[test]
+fn knows_what_is_local(rt: HostRuntime) -> Result<(), AllocError> {
+    let mut tables = ScriptTables::new(rt.alloc());
+    put_names(&rt, rt.alloc(), &mut tables)?;
+    assert!(rt; tables.name_count() == 4);
+    assert!(rt; tables.function_count() == 0);
+    assert_eq!(rt; tables.put_function(function(rt.alloc(), 1, 2)?)?, 0);
+    assert!(rt; tables.is_local(0, 2));
+    assert!(rt; !tables.is_local(0, 1));
+    assert!(rt; !tables.is_local(1, 2));
+    Ok(())
+}
+
+/// `steps N.f#K`, of one line.
 fn block(alloc: Global, overload: u32) -> Result<StepsBlock, AllocError> {
     let mut lines = Items::new(alloc);
     lines.push(StepLine::Return(Source::Arg(overload)))?;
