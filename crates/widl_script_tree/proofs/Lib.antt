@@ -6,3 +6,4 @@ pub mod Wholes
 pub mod Rest
 mod RealNodes
 mod SameOverload
+mod Examples

@@ -183,16 +183,24 @@ fn function(alloc: Global, name: u32, param: u32) -> Result<Function, AllocError
     })
 }
 
+/// Puts a function `f` with the parameter `o`.
+fn put_function(
+    rt: &impl Abort,
+    alloc: Global,
+    tables: &mut ScriptTables,
+) -> Result<u32, AllocError> {
+    put_names(rt, alloc, tables)?;
+    assert!(rt; tables.name_count() == 4);
+    assert!(rt; tables.function_count() == 0);
+    tables.put_function(function(alloc, 1, 2)?)
+}
+
 #[test]
 fn knows_what_is_local(rt: HostRuntime) -> Result<(), AllocError> {
     let mut tables = ScriptTables::new(rt.alloc());
-    put_names(&rt, rt.alloc(), &mut tables)?;
-    assert!(rt; tables.name_count() == 4);
-    assert!(rt; tables.function_count() == 0);
-    assert_eq!(rt; tables.put_function(function(rt.alloc(), 1, 2)?)?, 0);
-    assert!(rt; tables.is_local(0, 2));
-    assert!(rt; !tables.is_local(0, 1));
-    assert!(rt; !tables.is_local(1, 2));
+    let number = put_function(&rt, rt.alloc(), &mut tables)?;
+    assert!(rt; number == 0);
+    assert!(rt; tables.is_local(0, 2) && !tables.is_local(0, 1) && !tables.is_local(1, 2));
     Ok(())
 }
 
@@ -211,6 +219,32 @@ fn block(alloc: Global, overload: u32) -> Result<StepsBlock, AllocError> {
     })
 }
 
+/// Puts a block for each overload of an operation.
+fn put_blocks(
+    rt: &impl Abort,
+    alloc: Global,
+    tables: &mut ScriptTables,
+    callee: Callee,
+) -> Result<(), AllocError> {
+    for overload in 0..100_000 {
+        assert!(rt; tables.steps_count() < u32::MAX);
+        let number = tables.put_steps(block(alloc, overload)?)?;
+        tables.put_target(callee, Some(overload), number)?;
+    }
+    Ok(())
+}
+
+/// Whether the block of this overload returns the argument of its number.
+fn returns_its_number(tables: &ScriptTables, callee: &Callee, overload: u32) -> bool {
+    match tables.steps_of(callee, Some(overload)) {
+        Some(lines) => match lines.as_slice() {
+            [StepLine::Return(Source::Arg(number))] => *number == overload,
+            _ => false,
+        },
+        None => false,
+    }
+}
+
 #[test]
 fn finds_the_block_of_an_overload(rt: HostRuntime) -> Result<(), AllocError> {
     let mut tables = ScriptTables::new(rt.alloc());
@@ -218,30 +252,28 @@ fn finds_the_block_of_an_overload(rt: HostRuntime) -> Result<(), AllocError> {
         owner: Owner::Space(0),
         part: Part::Op(3),
     };
-    for overload in 0..100_000 {
-        assert!(rt; tables.steps_count() < u32::MAX);
-        let number = tables.put_steps(block(rt.alloc(), overload)?)?;
-        tables.put_target(callee, Some(overload), number)?;
-    }
-    let last = tables.steps_of(&callee, Some(99_999)).ok_or(AllocError)?;
-    assert_eq!(rt; last.len(), 1);
-    assert!(rt; matches!(last.at(0), StepLine::Return(Source::Arg(99_999))));
+    put_blocks(&rt, rt.alloc(), &mut tables, callee)?;
+    assert!(rt; returns_its_number(&tables, &callee, 99_999));
     assert!(rt; tables.steps_of(&callee, None).is_none());
     assert!(rt; tables.steps_of(&callee, Some(100_000)).is_none());
     Ok(())
 }
 
+/// `do o.o.o..`, with 500,000 members.
+fn put_chain(rt: &impl Abort, alloc: Global, tables: &mut ScriptTables) -> Result<Row, AllocError> {
+    let object = name(rt, tables, Units::of_str(alloc, "o")?)?;
+    let mut place = named(rt, tables, object)?;
+    for _ in 0..500_000 {
+        place = member(rt, tables, place, object)?;
+    }
+    do_alone(rt, tables, place)
+}
+
 #[test]
 fn puts_a_long_chain(rt: HostRuntime) -> Result<(), AllocError> {
     let mut tables = ScriptTables::new(rt.alloc());
-    let object = name(&rt, &mut tables, Units::of_str(rt.alloc(), "o")?)?;
-    let mut place = named(&rt, &mut tables, object)?;
-    for _ in 0..500_000 {
-        place = member(&rt, &mut tables, place, object)?;
-    }
-    assert_eq!(rt; place, 500_000);
-    let top = do_alone(&rt, &mut tables, place)?;
+    let top = put_chain(&rt, rt.alloc(), &mut tables)?;
     let script = finished(&rt, tables, top);
-    assert_eq!(rt; *script.statement(top.first), Statement::Do(500_000));
+    assert!(rt; *script.statement(top.first) == Statement::Do(500_000));
     Ok(())
 }
