@@ -1,7 +1,7 @@
 //! What a call can reach.
 
 /// An interface or a namespace, by its number.
-#[derive(Clone, Copy, Debug, PartialEq, Eq)]
+#[derive(Clone, Copy, Debug, PartialEq, Eq, Hash)]
 pub enum Owner {
     /// An interface.
     Iface(u32),
@@ -10,7 +10,7 @@ pub enum Owner {
 }
 
 /// A part of an interface or a namespace that can be called.
-#[derive(Clone, Copy, Debug, PartialEq, Eq)]
+#[derive(Clone, Copy, Debug, PartialEq, Eq, Hash)]
 pub enum Part {
     /// The operations of a name, by its number.
     Op(u32),
@@ -25,7 +25,7 @@ pub enum Part {
 }
 
 /// What a call can reach: a part of an interface or a namespace.
-#[derive(Clone, Copy, Debug, PartialEq, Eq)]
+#[derive(Clone, Copy, Debug, PartialEq, Eq, Hash)]
 pub struct Callee {
     /// The interface or the namespace.
     pub owner: Owner,

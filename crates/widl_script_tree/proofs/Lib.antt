@@ -1,0 +1,9 @@
+pub mod Folding
+pub mod Opening
+pub mod Growing
+pub mod NewNames
+pub mod Wholes
+pub mod Rest
+mod RealNodes
+mod SameOverload
+mod Examples

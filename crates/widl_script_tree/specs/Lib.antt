@@ -1,0 +1,10 @@
+pub mod Trees
+pub mod Rows
+pub mod Folded
+pub mod Tables
+pub mod Parts
+pub mod Growth
+pub mod Puts
+pub mod Real
+pub mod Made
+pub mod Laws

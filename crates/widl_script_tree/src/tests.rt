@@ -1,0 +1,279 @@
+//! Scripts put together by hand.
+
+ghost use Rattle.std.specs.Prelude.{◌≡◌, [], ◌∷◌, IfOk};
+
+use crate::expression::{Expression, MemberKey, MemberOf};
+use crate::function::Function;
+use crate::local_names::LocalNames;
+use crate::row::Row;
+use crate::script::Script;
+use crate::statement::Statement;
+use crate::steps::{Source, StepLine, StepsBlock, Target};
+use crate::tables::ScriptTables;
+use std::alloc::{AllocError, Global};
+use std::process::Abort;
+use widl_idl::{Callee, Owner, Part};
+use widl_text::{Items, Units};
+use widl_value::Number;
+
+/// A name's number.
+fn name(rt: &impl Abort, tables: &mut ScriptTables, text: Units) -> Result<u32, AllocError> {
+    assert!(rt; tables.name_count() < u32::MAX);
+    tables.put_name(text)
+}
+
+/// `NAME`.
+fn named(rt: &impl Abort, tables: &mut ScriptTables, name: u32) -> Result<u32, AllocError> {
+    assert!(rt; name < tables.name_count());
+    assert!(rt; tables.expression_count() < u32::MAX);
+    tables.put_expression(Expression::Name(name))
+}
+
+/// `E.NAME`.
+fn member(
+    rt: &impl Abort,
+    tables: &mut ScriptTables,
+    of: u32,
+    name: u32,
+) -> Result<u32, AllocError> {
+    assert!(rt; of < tables.expression_count());
+    assert!(rt; name < tables.name_count());
+    assert!(rt; tables.expression_count() < u32::MAX);
+    tables.put_expression(Expression::Member(MemberOf {
+        of,
+        key: MemberKey::Named(name),
+    }))
+}
+
+/// `E[E]`.
+fn indexed(
+    rt: &impl Abort,
+    tables: &mut ScriptTables,
+    of: u32,
+    key: u32,
+) -> Result<u32, AllocError> {
+    assert!(rt; of < tables.expression_count());
+    assert!(rt; key < tables.expression_count());
+    assert!(rt; tables.expression_count() < u32::MAX);
+    tables.put_expression(Expression::Member(MemberOf {
+        of,
+        key: MemberKey::Computed(key),
+    }))
+}
+
+/// `E(E, E)`.
+fn call(
+    rt: &impl Abort,
+    tables: &mut ScriptTables,
+    callee: u32,
+    args: [u32; 2],
+) -> Result<u32, AllocError> {
+    assert!(rt; callee < tables.expression_count());
+    assert!(rt; args[0] < tables.expression_count());
+    assert!(rt; args[1] < tables.expression_count());
+    assert!(rt; tables.expression_count() < u32::MAX - 2);
+    let row = tables.put_row(&args)?;
+    tables.put_expression(Expression::Call { callee, args: row })
+}
+
+/// A statement `do E`, and the row of it alone.
+fn do_alone(rt: &impl Abort, tables: &mut ScriptTables, value: u32) -> Result<Row, AllocError> {
+    assert!(rt; value < tables.expression_count());
+    assert!(rt; tables.statement_count() < u32::MAX - 1);
+    let place = tables.put_statement(Statement::Do(value))?;
+    tables.put_statement_row(&[place])
+}
+
+/// The script with these statements outside functions.
+fn finished(rt: &impl Abort, tables: ScriptTables, top: Row) -> Script {
+    assert!(rt; u64::from(top.first) + u64::from(top.count) <= u64::from(tables.statement_count()));
+    tables.finish(top)
+}
+
+/// The names `N`, `f`, `o` and `a`, of which the first is of a namespace.
+fn put_names(rt: &impl Abort, alloc: Global, tables: &mut ScriptTables) -> Result<(), AllocError> {
+    let rows = [("N", 0), ("f", 1), ("o", 2), ("a", 3), ("f", 1)];
+    for (text, number) in rows {
+        assert_eq!(rt; name(rt, tables, Units::of_str(alloc, text)?)?, number);
+    }
+    tables.put_owner(0, Owner::Space(7))
+}
+
+/// `o.a[1]`
+fn put_first(rt: &impl Abort, tables: &mut ScriptTables) -> Result<u32, AllocError> {
+    let object = named(rt, tables, 2)?;
+    let of = member(rt, tables, object, 3)?;
+    assert!(rt; tables.expression_count() < u32::MAX);
+    let key = tables.put_expression(Expression::Number(Number::Whole(1)))?;
+    indexed(rt, tables, of, key)
+}
+
+/// `N.f(o.a[1], "x")`
+fn put_call(rt: &impl Abort, alloc: Global, tables: &mut ScriptTables) -> Result<u32, AllocError> {
+    let space = named(rt, tables, 0)?;
+    let callee = member(rt, tables, space, 1)?;
+    let first = put_first(rt, tables)?;
+    assert!(rt; tables.expression_count() < u32::MAX);
+    let second = tables.put_expression(Expression::Text(Units::of_str(alloc, "x")?))?;
+    call(rt, tables, callee, [first, second])
+}
+
+/// `do N.f(o.a[1], "x")`
+fn sample(rt: &impl Abort, alloc: Global) -> Result<Script, AllocError> {
+    let mut tables = ScriptTables::new(alloc);
+    put_names(rt, alloc, &mut tables)?;
+    let value = put_call(rt, alloc, &mut tables)?;
+    let top = do_alone(rt, &mut tables, value)?;
+    Ok(finished(rt, tables, top))
+}
+
+#[test]
+fn reads_expressions(rt: HostRuntime) -> Result<(), AllocError> {
+    let script = sample(&rt, rt.alloc())?;
+    let nodes = [
+        (0, "Name(0)"),
+        (1, "Member(MemberOf { of: 0, key: Named(1) })"),
+        (2, "Name(2)"),
+        (3, "Member(MemberOf { of: 2, key: Named(3) })"),
+        (4, "Number(Whole(1))"),
+        (5, "Member(MemberOf { of: 3, key: Computed(4) })"),
+        (6, "Text(Units { items: [120] })"),
+        (7, "Member(MemberOf { of: 3, key: Computed(4) })"),
+        (8, "Text(Units { items: [120] })"),
+        (9, "Call { callee: 1, args: Row { first: 7, count: 2 } }"),
+        (10, "Undefined"),
+        (u32::MAX, "Undefined"),
+    ];
+    for (place, node) in nodes {
+        let text = format!(in rt.alloc(); "{:?}", script.expression(place))?;
+        assert_eq!(rt; text.as_str(), node, "the expression at {place}");
+    }
+    Ok(())
+}
+
+#[test]
+fn reads_the_rest(rt: HostRuntime) -> Result<(), AllocError> {
+    let script = sample(&rt, rt.alloc())?;
+    assert_eq!(rt; script.top(), Row { first: 1, count: 1 });
+    assert_eq!(rt; *script.statement(1), Statement::Do(9));
+    assert_eq!(rt; *script.statement(2), Statement::Do(u32::MAX));
+    assert_eq!(rt; script.owner(0), Some(Owner::Space(7)));
+    assert_eq!(rt; script.owner(1), None);
+    assert_eq!(rt; (script.name(1).len(), script.name(4).len()), (1, 0));
+    assert_eq!(rt; script.function(0).body, Row { first: 0, count: 0 });
+    Ok(())
+}
+
+/// A function with the parameter `p`.
+fn function(alloc: Global, name: u32, param: u32) -> Result<Function, AllocError>
+    ensures name { IfOk result (λ f. f.name ≡ name) }
+    ensures params { IfOk result (λ f. f.params ≡ param ∷ []) }
+    ensures names { IfOk result (λ f. f.names ≡ param ∷ []) }
+    ensures body { IfOk result (λ f. (f.body.first ≡ 0) × (f.body.count ≡ 0)) }
+{
+    let mut params = Items::new(alloc);
+    params.push(param)?;
+    let mut names = LocalNames::new(alloc);
+    names.put(param)?;
+    Ok(Function {
+        name,
+        params,
+        names,
+        body: Row { first: 0, count: 0 },
+    })
+}
+
+/// Puts a function `f` with the parameter `o`.
+fn put_function(
+    rt: &impl Abort,
+    alloc: Global,
+    tables: &mut ScriptTables,
+) -> Result<u32, AllocError> {
+    put_names(rt, alloc, tables)?;
+    assert!(rt; tables.name_count() == 4);
+    assert!(rt; tables.function_count() == 0);
+    tables.put_function(function(alloc, 1, 2)?)
+}
+
+#[test]
+fn knows_what_is_local(rt: HostRuntime) -> Result<(), AllocError> {
+    let mut tables = ScriptTables::new(rt.alloc());
+    let number = put_function(&rt, rt.alloc(), &mut tables)?;
+    assert!(rt; number == 0);
+    assert!(rt; tables.is_local(0, 2) && !tables.is_local(0, 1) && !tables.is_local(1, 2));
+    Ok(())
+}
+
+/// `steps N.f#K`, of one line.
+fn block(alloc: Global, overload: u32) -> Result<StepsBlock, AllocError> {
+    let mut lines = Items::new(alloc);
+    lines.push(StepLine::Return(Source::Arg(overload)))?;
+    Ok(StepsBlock {
+        target: Target::Operation {
+            owner: Units::of_str(alloc, "N")?,
+            name: Units::of_str(alloc, "f")?,
+            fixed: false,
+            overload,
+        },
+        lines,
+    })
+}
+
+/// Puts a block for each overload of an operation.
+fn put_blocks(
+    rt: &impl Abort,
+    alloc: Global,
+    tables: &mut ScriptTables,
+    callee: Callee,
+) -> Result<(), AllocError> {
+    for overload in 0..100_000 {
+        assert!(rt; tables.steps_count() < u32::MAX);
+        let number = tables.put_steps(block(alloc, overload)?)?;
+        tables.put_target(callee, Some(overload), number)?;
+    }
+    Ok(())
+}
+
+/// Whether the block of this overload returns the argument of its number.
+fn returns_its_number(tables: &ScriptTables, callee: &Callee, overload: u32) -> bool {
+    match tables.steps_of(callee, Some(overload)) {
+        Some(lines) => match lines.as_slice() {
+            [StepLine::Return(Source::Arg(number))] => *number == overload,
+            _ => false,
+        },
+        None => false,
+    }
+}
+
+#[test]
+fn finds_the_block_of_an_overload(rt: HostRuntime) -> Result<(), AllocError> {
+    let mut tables = ScriptTables::new(rt.alloc());
+    let callee = Callee {
+        owner: Owner::Space(0),
+        part: Part::Op(3),
+    };
+    put_blocks(&rt, rt.alloc(), &mut tables, callee)?;
+    assert!(rt; returns_its_number(&tables, &callee, 99_999));
+    assert!(rt; tables.steps_of(&callee, None).is_none());
+    assert!(rt; tables.steps_of(&callee, Some(100_000)).is_none());
+    Ok(())
+}
+
+/// `do o.o.o..`, with 500,000 members.
+fn put_chain(rt: &impl Abort, alloc: Global, tables: &mut ScriptTables) -> Result<Row, AllocError> {
+    let object = name(rt, tables, Units::of_str(alloc, "o")?)?;
+    let mut place = named(rt, tables, object)?;
+    for _ in 0..500_000 {
+        place = member(rt, tables, place, object)?;
+    }
+    do_alone(rt, tables, place)
+}
+
+#[test]
+fn puts_a_long_chain(rt: HostRuntime) -> Result<(), AllocError> {
+    let mut tables = ScriptTables::new(rt.alloc());
+    let top = put_chain(&rt, rt.alloc(), &mut tables)?;
+    let script = finished(&rt, tables, top);
+    assert!(rt; *script.statement(top.first) == Statement::Do(500_000));
+    Ok(())
+}
