@@ -1,4 +1,4 @@
--- What private functions say of the answers that they write; it serves their contracts and the proofs only.
+-- For proofs alone. What private functions say of the answers that they write.
 use Rattle.std.specs.Prelude.{◌≡◌, ◌≢◌, ◌⊎◌, ℕ, ◌≤◌, List, [], Option}
 use Rattle.std.specs.Io.KnownBytes.{append_known}
 use Rattle.widl_sink.specs.Causes.{Rose}

@@ -1,4 +1,4 @@
--- What private functions say of one file more and of the trees alone; it serves their contracts and the proofs only.
+-- For proofs alone. What private functions say of one file more and of the trees alone.
 use Rattle.std.specs.Prelude.{◌≡◌, ℕ, List, [], ◌∷◌, ◌++◌, Option, Some, None}
 use Rattle.widl_idl.specs.declared.tree.fragments.Fragment.{Fragment}
 use Rattle.widl_idl.specs.DefinitionTerms.{defs_term}

@@ -1,4 +1,4 @@
--- How a first character is split off; it serves the proofs of texts alone.
+-- For proofs alone. How a first character is split off.
 use Rattle.std.specs.Prelude.{◌≡◌, ℕ, ◌<◌, List, ◌∷◌, length, chars}
 
 -- the first of the characters, and what of the bytes follows it

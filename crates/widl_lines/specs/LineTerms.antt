@@ -1,4 +1,4 @@
--- Only for contracts of code: the lines of the program as those of the definitions, and what reading a line does.
+-- For proofs alone. The lines of the program as those of the definitions, and what reading a line does.
 use Rattle.std.specs.Prelude.{◌≡◌, ℕ, List, [], ◌++◌, map, Option, Some}
 use Rattle.widl_lines.specs.declared.blocks.Block.{Block}
 use Rattle.widl_lines.specs.declared.script_place.ScriptPlace.{ScriptPlace}

@@ -1,4 +1,4 @@
--- How the code finds a listed word; it serves the proof of `listed` alone.
+-- For proofs alone. How the code finds a listed word.
 use Rattle.std.specs.Prelude.{ℕ, ◌+◌, ◌*◌, ◌/◌, ◌%◌, ◌-◌, List, [], length, get_or, slice_index}
 use Rattle.widl_lines.specs.declared.grammar.Terminal.{Terminal}
 use Rattle.widl_lines.specs.declared.grammar.Terminal.TheVariants.{Unknown}

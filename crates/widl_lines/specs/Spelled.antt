@@ -1,4 +1,4 @@
--- What is split off a text at its front; it serves the proofs of texts alone.
+-- For proofs alone. What is split off a text at its front.
 use Rattle.std.specs.Prelude.{◌≡◌, ℕ, ◌<◌, Bool, true, false, List, [], ◌∷◌, length, chars, ⊤, Option, None}
 use Rattle.std.specs.Char.{is_ascii_hexdigit, digit_value}
 use Rattle.std.specs.Char.Escape.{encode_utf16}

@@ -1,4 +1,4 @@
--- Only for contracts of code: the open blocks as they lie on a stack, the innermost last.
+-- For proofs alone. The open blocks as they lie on a stack, the innermost last.
 use Rattle.std.specs.Prelude.{List, [], ◌∷◌}
 use Rattle.widl_lines.specs.declared.blocks.Block.{Block}
 

@@ -1,4 +1,4 @@
--- Only for contracts of code: the words of the program as those of the definitions.
+-- For proofs alone. The words of the program as those of the definitions.
 use Rattle.widl_lines.specs.declared.words.Word.{Word}
 use Rattle.widl_lines.specs.Words.{Lexeme}
 
