@@ -12,4 +12,3 @@ pub mod laws;
 
 pub use fragment::parse;
 pub use widl_grammar::SyntaxFault;
-
