@@ -20,6 +20,7 @@ fn alone(alloc: Global, bytes: &[u8]) -> Result<Texts, AllocError>
 }
 
 /// Whether a run is supported over the set of one file, if that is accepted.
+#[tactic(auto, using(crate::proofs::OneText::alone_short))]
 fn is_supported(alloc: Global, file: &[u8]) -> Result<Option<bool>, AllocError>
     requires { length file.now ≤ most_file_bytes }
 {
