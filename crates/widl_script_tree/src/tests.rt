@@ -14,7 +14,6 @@ use std::alloc::{AllocError, Global};
 use std::process::Abort;
 use widl_idl::{Callee, Owner, Part};
 use widl_text::{Items, Units};
-use widl_value::Number;
 
 /// A name's number.
 fn name(rt: &impl Abort, tables: &mut ScriptTables, text: Units) -> Result<u32, AllocError> {
@@ -45,37 +44,6 @@ fn member(
     }))
 }
 
-/// `E[E]`.
-fn indexed(
-    rt: &impl Abort,
-    tables: &mut ScriptTables,
-    of: u32,
-    key: u32,
-) -> Result<u32, AllocError> {
-    assert!(rt; of < tables.expression_count());
-    assert!(rt; key < tables.expression_count());
-    assert!(rt; tables.expression_count() < u32::MAX);
-    tables.put_expression(Expression::Member(MemberOf {
-        of,
-        key: MemberKey::Computed(key),
-    }))
-}
-
-/// `E(E, E)`.
-fn call(
-    rt: &impl Abort,
-    tables: &mut ScriptTables,
-    callee: u32,
-    args: [u32; 2],
-) -> Result<u32, AllocError> {
-    assert!(rt; callee < tables.expression_count());
-    assert!(rt; args[0] < tables.expression_count());
-    assert!(rt; args[1] < tables.expression_count());
-    assert!(rt; tables.expression_count() < u32::MAX - 2);
-    let row = tables.put_row(&args)?;
-    tables.put_expression(Expression::Call { callee, args: row })
-}
-
 /// A statement `do E`, and the row of it alone.
 fn do_alone(rt: &impl Abort, tables: &mut ScriptTables, value: u32) -> Result<Row, AllocError> {
     assert!(rt; value < tables.expression_count());
@@ -97,82 +65,6 @@ fn put_names(rt: &impl Abort, alloc: Global, tables: &mut ScriptTables) -> Resul
         assert_eq!(rt; name(rt, tables, Units::of_str(alloc, text)?)?, number);
     }
     tables.put_owner(0, Owner::Space(7))
-}
-
-/// `o.a[1]`
-fn put_first(rt: &impl Abort, tables: &mut ScriptTables) -> Result<u32, AllocError> {
-    let object = named(rt, tables, 2)?;
-    let of = member(rt, tables, object, 3)?;
-    assert!(rt; tables.expression_count() < u32::MAX);
-    let key = tables.put_expression(Expression::Number(Number::Whole(1)))?;
-    indexed(rt, tables, of, key)
-}
-
-/// `N.f(o.a[1], "x")`
-fn put_call(rt: &impl Abort, alloc: Global, tables: &mut ScriptTables) -> Result<u32, AllocError> {
-    let space = named(rt, tables, 0)?;
-    let callee = member(rt, tables, space, 1)?;
-    let first = put_first(rt, tables)?;
-    assert!(rt; tables.expression_count() < u32::MAX);
-    let second = tables.put_expression(Expression::Text(Units::of_str(alloc, "x")?))?;
-    call(rt, tables, callee, [first, second])
-}
-
-/// `do N.f(o.a[1], "x")`
-fn sample(rt: &impl Abort, alloc: Global) -> Result<Script, AllocError> {
-    let mut tables = ScriptTables::new(alloc);
-    put_names(rt, alloc, &mut tables)?;
-    let value = put_call(rt, alloc, &mut tables)?;
-    let top = do_alone(rt, &mut tables, value)?;
-    Ok(finished(rt, tables, top))
-}
-
-/// Whether each expression is shown as wanted.
-fn has_expressions(alloc: Global, script: &Script) -> Result<bool, AllocError> {
-    let nodes = [
-        (0, "Name(0)"),
-        (1, "Member(MemberOf { of: 0, key: Named(1) })"),
-        (2, "Name(2)"),
-        (3, "Member(MemberOf { of: 2, key: Named(3) })"),
-        (4, "Number(Whole(1))"),
-        (5, "Member(MemberOf { of: 3, key: Computed(4) })"),
-        (6, "Text(Units { items: [120] })"),
-        (7, "Member(MemberOf { of: 3, key: Computed(4) })"),
-        (8, "Text(Units { items: [120] })"),
-        (9, "Call { callee: 1, args: Row { first: 7, count: 2 } }"),
-        (10, "Undefined"),
-        (u32::MAX, "Undefined"),
-    ];
-    for (place, node) in nodes {
-        let text = format!(in alloc; "{:?}", script.expression(place))?;
-        if text.as_str() != node {
-            return Ok(false);
-        }
-    }
-    Ok(true)
-}
-
-fn has_statements(script: &Script) -> bool {
-    script.top() == Row { first: 1, count: 1 }
-        && *script.statement(1) == Statement::Do(9)
-        && *script.statement(2) == Statement::Do(u32::MAX)
-        && script.function(0).body == Row { first: 0, count: 0 }
-}
-
-fn has_names(script: &Script) -> bool {
-    script.owner(0) == Some(Owner::Space(7))
-        && script.owner(1).is_none()
-        && script.name(1).len() == 1
-        && script.name(4).len() == 0
-}
-
-#[test]
-fn reads_a_script(rt: HostRuntime) -> Result<(), AllocError> {
-    let script = sample(&rt, rt.alloc())?;
-    assert!(rt; has_expressions(rt.alloc(), &script)?);
-    assert!(rt; has_statements(&script));
-    assert!(rt; has_names(&script));
-    Ok(())
 }
 
 /// A function with the parameter `p`.
