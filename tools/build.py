@@ -3,13 +3,16 @@
 
     python3 tools/build.py
 
-`rt run` would prove the libraries below the program one after the other. Here each one is begun as soon as all that it
-stands on are built, of these the one with the longest way to the program first; the program comes last. A library is
-checked, and then built over what its check kept: to build it from nothing takes many times as long. On standard error
-stands how far this is. Where a crate fails, what its command wrote follows, and the status is 1.
+`rt run` would prove the libraries below the program one after the other, and two runs of rt in one checkout wait for each
+other where their crates stand on a common one. So each library is proved in a room of its own: a copy of the sources with
+the libraries that it stands on, from which the built library is taken back. One is begun as soon as all below it are
+built, of these the one with the longest way to the program first; the program comes last, in place. A library is checked,
+and then built over what its check kept: to build it from nothing takes many times as long. On standard error stands how
+far this is. Where a crate fails, what its command wrote follows, and the status is 1.
 """
 import contextlib
 import os
+import shutil
 import signal
 import subprocess
 import sys
@@ -51,6 +54,27 @@ def ways_up(below):
     return ways
 
 
+def library_of(top, name):
+    return os.path.join(top, "crates", name, "out", "rlib")
+
+
+def make_room(room, name, below):
+    """A copy of the sources, with the libraries that the crate stands on."""
+    for part in ("crates.txt", "HANDLES"):
+        shutil.copy(os.path.join(TOP, part), room)
+    for it in below:
+        shutil.copytree(os.path.join(TOP, "crates", it), os.path.join(room, "crates", it), ignore=shutil.ignore_patterns("out"))
+        if it != name:
+            shutil.copytree(library_of(TOP, it), library_of(room, it), symlinks=True)
+
+
+def take_back(room, name):
+    """The built library goes where the crates above look for it."""
+    to = library_of(TOP, name)
+    shutil.rmtree(to, ignore_errors=True)
+    shutil.copytree(library_of(room, name), to, symlinks=True)
+
+
 class Build:
     """The crates that wait, those that run with their process, and those that are built."""
 
@@ -63,20 +87,29 @@ class Build:
 
     def start(self, name):
         """Begins one crate, and says so."""
-        command = "rt check && rt run -- --version" if name == PROGRAM else "rt check --jobs 1 && rt lib --jobs 1"
         log = tempfile.TemporaryFile("w+", errors="replace")
-        folder = os.path.join(TOP, "crates", name)
+        if name == PROGRAM:
+            command, room, top = "rt run -- --version", None, TOP
+        else:
+            command, room = "rt check --jobs 1 && rt lib --jobs 1", tempfile.mkdtemp(prefix="widl-build-")
+            make_room(room, name, reached(self.below, name))
+            top = room
+        folder = os.path.join(top, "crates", name)
         ends = {"stdin": subprocess.DEVNULL, "stdout": log, "stderr": subprocess.STDOUT}
         process = subprocess.Popen(["sh", "-c", command], cwd=folder, start_new_session=True, **ends)
         self.waiting.remove(name)
         self.running[name] = process
         begun = self.total - len(self.waiting)
         print(f"widl: proving {name}, {begun} of {self.total}", file=sys.stderr, flush=True)
-        threading.Thread(target=self.await_end, args=(name, process, log)).start()
+        threading.Thread(target=self.await_end, args=(name, process, log, room)).start()
 
-    def await_end(self, name, process, log):
+    def await_end(self, name, process, log, room):
         """Waits for one crate; where it is the first that fails, the others are ended."""
         status = process.wait()
+        if room is not None:
+            if status == 0:
+                take_back(room, name)
+            shutil.rmtree(room, ignore_errors=True)
         with self.changed:
             del self.running[name]
             if status == 0:
