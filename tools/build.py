@@ -62,10 +62,9 @@ def make_room(room, name, below):
     """A copy of the sources, with the libraries that the crate stands on."""
     for part in ("crates.txt", "HANDLES"):
         shutil.copy(os.path.join(TOP, part), room)
-    for it in below:
-        shutil.copytree(os.path.join(TOP, "crates", it), os.path.join(room, "crates", it), ignore=shutil.ignore_patterns("out"))
-        if it != name:
-            shutil.copytree(library_of(TOP, it), library_of(room, it), symlinks=True)
+    shutil.copytree(os.path.join(TOP, "crates"), os.path.join(room, "crates"), ignore=shutil.ignore_patterns("out"))
+    for it in below - {name}:
+        shutil.copytree(library_of(TOP, it), library_of(room, it), symlinks=True)
 
 
 def take_back(room, name):
