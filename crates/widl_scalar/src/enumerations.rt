@@ -48,8 +48,8 @@ pub fn place_of_text_is_first()
 mod tests {
     use super::*;
     use std::alloc::{AllocError, Global};
-    use widl_idl::{Choice, Choices, Items};
-    use widl_text::Place;
+    use widl_idl::{Choice, Choices};
+    use widl_text::{Items, Place};
 
     /// A list whose one enumeration has these values.
     fn list_of(alloc: Global, values: Texts) -> Result<Defs, AllocError> {
