@@ -5,14 +5,13 @@ ghost use Rattle.widl_idl.specs.Flattened.{IsUnion};
 ghost use Rattle.widl_idl.specs.Terms.{type_term};
 
 use crate::{
-    Defs, Fragments, IdlType, IdlTypes, IntKind, Items, Merged, Mode, Optionality, Refusal,
-    TextKind, Violation, earlier_violation, flattened, includes_nullable, joined, nullable_count,
-    same_type,
+    Defs, Fragments, IdlType, IdlTypes, IntKind, Merged, Mode, Optionality, Refusal, TextKind,
+    Violation, earlier_violation, flattened, includes_nullable, joined, nullable_count, same_type,
 };
 use std::alloc::{AllocError, Global};
 use std::process::Abort;
 use std::test::Fail;
-use widl_text::Place;
+use widl_text::{Items, Place};
 
 fn long() -> IdlType {
     IdlType::Int(IntKind::Long, Mode::Wrap)
