@@ -7,7 +7,7 @@ use Rattle.widl_dialog.specs.Credit.{MovesLevel, Owes, Balanced}
 use Rattle.widl_dialog.specs.Laws.{NoneRises}
 
 module _ {J Q A R W S : Type 0} (rule : J → Dialog J Q A R) (act : Q → W → Did W A S) (level : W → ℕ) (gives takes : Q → ℕ) where
-  more_credit : (d : Dialog J Q A R) (n m : ℕ) → n ≤ m → Owes gives takes n d → Owes gives takes m d
+  pub more_credit : (d : Dialog J Q A R) (n m : ℕ) → n ≤ m → Owes gives takes n d → Owes gives takes m d
   more_credit (End r) n m h x = tt
   more_credit (Say q k) n m h x = (omega (arith, h, x.0), λ a. more_credit (k a) (n - takes q + gives q) (m - takes q + gives q) (omega (arith, h)) (x.1 a))
   more_credit (Steps j k) n m h x = λ r. more_credit (k r) n m h (x r)

@@ -26,13 +26,41 @@ first_argument = IndexT (MemberT (NameT (codes "o")) (codes "a")) (NumberT (Whol
 abbrev call : ExpressionTree
 call = CallT (MemberT (NameT (codes "N")) (codes "f")) (more first_argument (more (TextT (codes "x")) none))
 
+space_tree : expression_tree sample 0 ≡ NameT (codes "N")
+unfolding expression_tree
+space_tree = refl
+
 callee_tree : expression_tree sample 1 ≡ MemberT (NameT (codes "N")) (codes "f")
 unfolding expression_tree
 callee_tree = refl
 
+object_tree : expression_tree sample 2 ≡ NameT (codes "o")
+unfolding expression_tree
+object_tree = refl
+
+member_tree : expression_tree sample 3 ≡ MemberT (NameT (codes "o")) (codes "a")
+unfolding expression_tree
+member_tree = refl
+
+key_tree : expression_tree sample 4 ≡ NumberT (Whole (pos 1))
+unfolding expression_tree
+key_tree = refl
+
+first_tree : expression_tree sample 5 ≡ first_argument
+unfolding expression_tree
+first_tree = refl
+
+second_tree : expression_tree sample 6 ≡ TextT (codes "x")
+unfolding expression_tree
+second_tree = refl
+
 item_tree : expression_tree sample 7 ≡ first_argument
 unfolding expression_tree
 item_tree = refl
+
+second_item_tree : expression_tree sample 8 ≡ TextT (codes "x")
+unfolding expression_tree
+second_item_tree = refl
 
 call_tree : expression_tree sample 9 ≡ call
 unfolding expression_tree
@@ -41,6 +69,14 @@ call_tree = refl
 past_tree : expression_tree sample 10 ≡ UndefinedT
 unfolding expression_tree
 past_tree = refl
+
+statement_tree_0 : statement_tree sample 0 ≡ DoT call
+unfolding expression_tree statement_tree
+statement_tree_0 = refl
+
+statement_tree_2 : statement_tree sample 2 ≡ DoT UndefinedT
+unfolding expression_tree statement_tree
+statement_tree_2 = refl
 
 top_tree : statements_tree sample (record { first = 1; count = 1 }) ≡ then_more (DoT call) no_statements
 unfolding expression_tree statement_tree

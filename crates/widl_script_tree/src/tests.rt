@@ -14,6 +14,7 @@ use std::alloc::{AllocError, Global};
 use std::process::Abort;
 use widl_idl::{Callee, Owner, Part};
 use widl_text::{Items, Units};
+use widl_value::Number;
 
 /// A name's number.
 fn name(rt: &impl Abort, tables: &mut ScriptTables, text: Units) -> Result<u32, AllocError> {
@@ -178,5 +179,182 @@ fn puts_a_long_chain(rt: HostRuntime) -> Result<(), AllocError> {
     let top = put_chain(&rt, rt.alloc(), &mut tables)?;
     let script = finished(&rt, tables, top);
     assert!(rt; *script.statement(top.first) == Statement::Do(500_000));
+    Ok(())
+}
+
+/// `E[E]`.
+fn indexed(
+    rt: &impl Abort,
+    tables: &mut ScriptTables,
+    of: u32,
+    key: u32,
+) -> Result<u32, AllocError> {
+    assert!(rt; of < tables.expression_count());
+    assert!(rt; key < tables.expression_count());
+    assert!(rt; tables.expression_count() < u32::MAX);
+    tables.put_expression(Expression::Member(MemberOf {
+        of,
+        key: MemberKey::Computed(key),
+    }))
+}
+
+/// `1`.
+fn one(rt: &impl Abort, tables: &mut ScriptTables) -> Result<u32, AllocError> {
+    assert!(rt; tables.expression_count() < u32::MAX);
+    tables.put_expression(Expression::Number(Number::Whole(1)))
+}
+
+/// A text.
+fn quoted(rt: &impl Abort, tables: &mut ScriptTables, text: Units) -> Result<u32, AllocError> {
+    assert!(rt; tables.expression_count() < u32::MAX);
+    tables.put_expression(Expression::Text(text))
+}
+
+/// A row of two.
+fn two(rt: &impl Abort, tables: &mut ScriptTables, a: u32, b: u32) -> Result<Row, AllocError> {
+    assert!(rt; a < tables.expression_count());
+    assert!(rt; b < tables.expression_count());
+    assert!(rt; tables.expression_count() < u32::MAX - 2);
+    tables.put_row(&[a, b])
+}
+
+/// `E(E, E)`.
+fn call(
+    rt: &impl Abort,
+    tables: &mut ScriptTables,
+    callee: u32,
+    args: Row,
+) -> Result<u32, AllocError> {
+    let count = tables.expression_count();
+    assert!(rt; callee < count);
+    assert!(rt; u64::from(args.first) + u64::from(args.count) <= u64::from(count));
+    assert!(rt; count < u32::MAX);
+    tables.put_expression(Expression::Call { callee, args })
+}
+
+/// `o.a[1]`.
+fn put_first(rt: &impl Abort, tables: &mut ScriptTables) -> Result<u32, AllocError> {
+    let object = named(rt, tables, 2)?;
+    let of = member(rt, tables, object, 3)?;
+    let key = one(rt, tables)?;
+    indexed(rt, tables, of, key)
+}
+
+/// `N.f(o.a[1], "x")`.
+fn put_call(rt: &impl Abort, alloc: Global, tables: &mut ScriptTables) -> Result<u32, AllocError> {
+    let space = named(rt, tables, 0)?;
+    let callee = member(rt, tables, space, 1)?;
+    let first = put_first(rt, tables)?;
+    let second = quoted(rt, tables, Units::of_str(alloc, "x")?)?;
+    let args = two(rt, tables, first, second)?;
+    call(rt, tables, callee, args)
+}
+
+/// `do N.f(o.a[1], "x")`.
+fn put_sample(
+    rt: &impl Abort,
+    alloc: Global,
+    tables: &mut ScriptTables,
+) -> Result<Row, AllocError> {
+    put_names(rt, alloc, tables)?;
+    let value = put_call(rt, alloc, tables)?;
+    do_alone(rt, tables, value)
+}
+
+fn is_name(script: &Script, place: u32, number: u32) -> bool {
+    match script.expression(place) {
+        Expression::Name(found) => *found == number,
+        _ => false,
+    }
+}
+
+fn is_member(script: &Script, place: u32, of: u32, key: MemberKey) -> bool {
+    match script.expression(place) {
+        Expression::Member(found) => found.of == of && found.key == key,
+        _ => false,
+    }
+}
+
+fn is_one(script: &Script, place: u32) -> bool {
+    matches!(
+        script.expression(place),
+        Expression::Number(Number::Whole(1))
+    )
+}
+
+fn is_x(script: &Script, place: u32) -> bool {
+    match script.expression(place) {
+        Expression::Text(text) => text.as_slice() == [120].as_slice(),
+        _ => false,
+    }
+}
+
+fn is_call(script: &Script, place: u32, of: u32, row: Row) -> bool {
+    match script.expression(place) {
+        Expression::Call { callee, args } => *callee == of && *args == row,
+        _ => false,
+    }
+}
+
+fn is_undefined(script: &Script, place: u32) -> bool {
+    matches!(script.expression(place), Expression::Undefined)
+}
+
+/// Whether the expressions are those of [`put_sample`]: the nodes whose trees are worked out in
+/// proofs/Examples.antt.
+fn has_expressions(script: &Script) -> bool {
+    is_name(script, 0, 0)
+        && is_member(script, 1, 0, MemberKey::Named(1))
+        && is_name(script, 2, 2)
+        && is_member(script, 3, 2, MemberKey::Named(3))
+        && is_one(script, 4)
+        && is_member(script, 5, 3, MemberKey::Computed(4))
+        && is_x(script, 6)
+        && is_call(script, 9, 1, Row { first: 7, count: 2 })
+}
+
+/// Whether the nodes of the row are read through, and what is past the end is the default.
+fn has_items(script: &Script) -> bool {
+    is_member(script, 7, 3, MemberKey::Computed(4))
+        && is_x(script, 8)
+        && is_undefined(script, 10)
+        && is_undefined(script, u32::MAX)
+}
+
+fn has_statements(script: &Script) -> bool {
+    script.top() == Row { first: 1, count: 1 }
+        && *script.statement(0) == Statement::Do(9)
+        && *script.statement(1) == Statement::Do(9)
+        && *script.statement(2) == Statement::Do(u32::MAX)
+        && script.function(0).body == Row { first: 0, count: 0 }
+}
+
+fn has_names(script: &Script) -> bool {
+    script.owner(0) == Some(Owner::Space(7))
+        && script.owner(1).is_none()
+        && script.name(3).as_slice() == [97].as_slice()
+        && script.name(4).len() == 0
+}
+
+/// Whether it has no function and no steps block.
+fn has_no_blocks(script: &Script, callee: &Callee) -> bool {
+    script.steps(0).is_none() && script.steps_of(callee, None).is_none() && !script.is_local(0, 0)
+}
+
+#[test]
+fn reads_a_script(rt: HostRuntime) -> Result<(), AllocError> {
+    let mut tables = ScriptTables::new(rt.alloc());
+    let top = put_sample(&rt, rt.alloc(), &mut tables)?;
+    let script = finished(&rt, tables, top);
+    assert!(rt; has_expressions(&script));
+    assert!(rt; has_items(&script));
+    assert!(rt; has_statements(&script));
+    assert!(rt; has_names(&script));
+    let callee = Callee {
+        owner: Owner::Space(7),
+        part: Part::Op(0),
+    };
+    assert!(rt; has_no_blocks(&script, &callee));
+    assert!(rt; Row { first: 7, count: 2 }.rest() == Row { first: 8, count: 1 });
     Ok(())
 }
