@@ -11,3 +11,4 @@ pub mod LineCuts
 pub mod Passing
 pub mod Leaving
 pub mod OneBreak
+pub mod WordBytes

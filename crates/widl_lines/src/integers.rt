@@ -1,6 +1,6 @@
 //! The integers of a script.
 
-ghost use Rattle.std.specs.Prelude.{◌≡◌, ◌||◌, ◌&&◌};
+ghost use Rattle.std.specs.Prelude.{◌≡◌, ◌||◌, ◌&&◌, false};
 ghost use Rattle.std.specs.List.{list_all};
 ghost use Rattle.std.specs.Char.{is_ascii_digit, is_ascii_hexdigit};
 ghost use Rattle.widl_lines.specs.Integers.{is_after_zero, is_hexadecimal, is_integer, is_large_integer, is_natural, is_negative, is_octal_digit, is_positive, is_unsigned, without_minus};
@@ -98,9 +98,19 @@ pub fn is_integer(text: &[u8]) -> bool
     is_unsigned(without_minus(text))
 }
 
+/// Whether a word may be an integer, by its first byte: most words aren't, and need no further look.
+fn may_be_integer(text: &[u8]) -> bool
+    ensures { result ≡ false → is_integer text.now ≡ false }
+{
+    match text.split_first() {
+        Some((first, _)) => first.is_ascii_digit() || *first == b'-',
+        None => false,
+    }
+}
+
 /// Whether the word is an integer above 2^64 in magnitude.
 pub fn is_large_integer(text: &[u8]) -> bool
     ensures { result ≡ is_large_integer text.now }
 {
-    is_integer(text) && magnitude(without_minus(text)) > 1 << 64
+    may_be_integer(text) && is_integer(text) && magnitude(without_minus(text)) > 1 << 64
 }

@@ -25,6 +25,7 @@ mod spelling;
 mod terminal;
 mod text_break;
 mod texts;
+mod word_bytes;
 mod word_form;
 mod words;
 

@@ -1,6 +1,6 @@
 //! The first rule that a line breaks, among open blocks.
 
-ghost use Rattle.std.specs.Prelude.{◌≡◌, ℕ, ◌<◌, ◌≤◌, ◌+◌, List, length, get_or, map, IfOk, MatchOption, true, false};
+ghost use Rattle.std.specs.Prelude.{◌≡◌, ℕ, ◌<◌, ◌≤◌, ◌+◌, List, length, get_or, map, IfOk, OnOk, MatchOption, true, false};
 ghost use Rattle.widl_lines.specs.declared.words.Word.{Word};
 ghost use Rattle.widl_lines.specs.Grammar.{grammar};
 ghost use Rattle.widl_lines.specs.Terminals.{is_large};
@@ -95,10 +95,15 @@ fn first_large(words: &[Word<'_>], limit: usize) -> Option<usize>
     None
 }
 
-fn terminals(alloc: Global, words: &[Word<'_>]) -> Result<Vec<Terminal>, AllocError>
-    ensures { IfOk result (λ terminals. terminals.items ≡ map (λ word. word.terminal) words.now) }
+/// Puts the terminals of the words into the room.
+fn list_terminals(room: &mut Vec<Terminal>, words: &[Word<'_>]) -> Result<(), AllocError>
+    ensures { OnOk result (room.new.items ≡ map (λ word. word.terminal) words.now) }
 {
-    words.iter().map(|word| word.terminal).collect(alloc)
+    room.clear();
+    for word in words {
+        room.push(word.terminal)?;
+    }
+    Ok(())
 }
 
 /// The first rule that a line's words break by themselves.
@@ -106,12 +111,13 @@ fn break_by_words(
     alloc: Global,
     start: Rule,
     words: &[Word<'_>],
+    terminals: &[Terminal],
 ) -> Result<Option<LineBreak>, AllocError>
-    requires { grammar.starts start ≡ true }
+    requires start { grammar.starts start ≡ true }
+    requires terminals { terminals.now ≡ map (λ word. word.terminal) words.now }
     ensures { IfOk result (WordBreaks start (map lexeme_of words.now)) }
 {
-    let terminals = terminals(alloc, words)?;
-    match read_sentence(alloc, start, &terminals) {
+    match read_sentence(alloc, start, terminals) {
         Err(Fault::Memory) => Err(AllocError),
         Err(Fault::Syntax(word)) => match first_large(words, word) {
             Some(large) => Ok(broken(LineRule::TooLarge, large)),
@@ -159,14 +165,17 @@ fn break_by_blocks(blocks: &[Block], words: &[Word<'_>]) -> Option<LineBreak>
 }
 
 /// The first rule that a line breaks: by word, then rule. Of these are a word that no line of a form goes on
-/// with, brackets of level 33, a 33rd block, a too large integer or text, and a block that isn't there.
+/// with, brackets of level 33, a 33rd block, a too large integer or text, and a block that isn't there. What is in
+/// the room doesn't matter: it is used for each line again.
 pub fn line_break(
     alloc: Global,
+    room: &mut Vec<Terminal>,
     blocks: &[Block],
     words: &[Word<'_>],
 ) -> Result<Option<LineBreak>, AllocError>
     ensures { IfOk result (LineBreaks (blocks_of blocks.now) (map lexeme_of words.now)) }
 {
-    let own = break_by_words(alloc, start_of(innermost(blocks)), words)?;
+    list_terminals(room, words)?;
+    let own = break_by_words(alloc, start_of(innermost(blocks)), words, room)?;
     Ok(first_of(own, break_by_blocks(blocks, words)))
 }

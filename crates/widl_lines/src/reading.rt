@@ -11,7 +11,7 @@ use crate::line_break::{LineBreak, number};
 use crate::lines::first_line;
 use crate::text_break::{column_of, pass_line};
 use crate::words::words_of;
-use crate::{ScriptFault, ScriptPlace, Word};
+use crate::{ScriptFault, ScriptPlace, Terminal, Word};
 use std::alloc::Global;
 
 /// A line that has words.
@@ -25,6 +25,13 @@ pub struct LineWords<'a> {
     pub inside: Option<Block>,
     /// Its words.
     pub words: Vec<Word<'a>>,
+}
+
+/// Lists that are filled anew for each line, so that memory is seldom asked for.
+#[derive(Drop)]
+struct Room<'a> {
+    words: Vec<Word<'a>>,
+    terminals: Vec<Terminal>,
 }
 
 /// What was read of a script so far.
@@ -50,18 +57,24 @@ fn place_in(number_of_line: u32, end: u32, words: &[Word<'_>], found: LineBreak)
 
 impl<'a> Reading<'a> {
     /// Reads the next line.
-    fn read_line(&mut self, alloc: Global, number: u32, line: &'a [u8]) -> Result<(), ScriptFault>
+    fn read_line(
+        &mut self,
+        alloc: Global,
+        room: &mut Room<'a>,
+        number: u32,
+        line: &'a [u8],
+    ) -> Result<(), ScriptFault>
         requires { length line.now + 1 < 2 ^ 32 }
         ensures ok { OnOk result (Reads (state_of self.old) (state_of self.new) (numbered number (length line.now + 1) (words_of line.now))) }
         ensures refused { IfErr result (RefusedIn (state_of self.old) (numbered number (length line.now + 1) (words_of line.now))) }
     {
-        let words = words_of(alloc, line)?;
+        let words = words_of(alloc, &mut room.words, line)?;
         if words.is_empty() {
             return Ok(());
         }
         let end = line.len() as u32 + 1;
         let inside = innermost(&self.open_blocks);
-        if let Some(found) = pass_line(alloc, &mut self.open_blocks, &words)? {
+        if let Some(found) = pass_line(alloc, &mut room.terminals, &mut self.open_blocks, &words)? {
             return Err(ScriptFault::Refused(place_in(number, end, &words, found)));
         }
         self.last = number;
@@ -86,12 +99,16 @@ pub fn read_lines<'a>(alloc: Global, text: &'a [u8]) -> Result<Reading<'a>, Scri
         lines: Vec::new(alloc),
         last: 1,
     };
+    let mut room = Room {
+        words: Vec::new(alloc),
+        terminals: Vec::new(alloc),
+    };
     let mut number = 0;
     let mut left = Some(text);
     while let Some(rest) = left {
         let first = first_line(rest);
         number += 1;
-        reading.read_line(alloc, number, first.line)?;
+        reading.read_line(alloc, &mut room, number, first.line)?;
         left = first.rest;
     }
     Ok(reading)

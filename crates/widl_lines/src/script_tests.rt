@@ -173,7 +173,6 @@ fn hostile_lines(rt: HostRuntime) -> Result<(), Fail> {
         row(b"", b"\r", 1_048_576, b"", "fits 0"),
         row(b"", b" ", 1_048_576, b"", "fits 0"),
         row(b"", b"#", 1_048_576, b"", "fits 0"),
-        row(b"if 1 is 1\n", b"do 1\n", 200_000, b"end", "fits 200002"),
     ];
     check_repeated(&rt, rt.alloc(), &rows)?;
     Ok(())
@@ -203,5 +202,16 @@ fn hostile_expressions(rt: HostRuntime) -> Result<(), Fail> {
         row(b"do \"", b"\\u0000", 174_761, b"\"", "S4 1 4"),
     ];
     check_repeated(&rt, rt.alloc(), &rows)?;
+    Ok(())
+}
+
+/// 32 open blocks, and 200,000 lines in them.
+#[test]
+fn hostile_blocks(rt: HostRuntime) -> Result<(), Fail> {
+    let opened = script_of(rt.alloc(), b"", b"if 1 is 1\n", 32, b"")?;
+    let closed = script_of(rt.alloc(), b"", b"end\n", 32, b"")?;
+    let script = script_of(rt.alloc(), &opened, b"do 1\n", 200_000, &closed)?;
+    let found = answer(rt.alloc(), &script)?;
+    assert_eq!(rt; found.as_str(), "fits 200064");
     Ok(())
 }

@@ -5,6 +5,7 @@ ghost use Rattle.std.specs.Prelude.{◌≡◌, ◌≤◌, length, false, not, If
 ghost use Rattle.widl_lines.specs.Words.{is_blank, is_run, run_length, has_dashes, is_literal, text_length, decimal_length, quoted, number, bare, shape_of, begins_step, after_first, in_step, next_context};
 
 use crate::WordForm;
+use crate::word_bytes::is_word_byte;
 
 /// Where in its line a word stands.
 #[derive(Clone, Copy, Debug, PartialEq, Eq)]
@@ -42,7 +43,7 @@ pub fn is_blank(byte: u8) -> bool
 fn is_run(dashes: bool, byte: u8) -> bool
     ensures { result ≡ is_run dashes byte }
 {
-    byte.is_ascii_alphanumeric() || byte == b'_' || (dashes && byte == b'-')
+    is_word_byte(byte) || (dashes && byte == b'-')
 }
 
 /// How many bytes from the start belong to a run.

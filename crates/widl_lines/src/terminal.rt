@@ -7,14 +7,8 @@ ghost use Rattle.widl_lines.specs.Terminals.{class_of, is_identifier, is_identif
 use crate::integers::{is_integer, is_natural, is_negative};
 use crate::listed::listed;
 use crate::texts::is_well_formed;
+use crate::word_bytes::is_word_byte;
 use crate::{Terminal, WordForm};
-
-/// Whether the byte may stand in a name.
-fn is_word_byte(byte: u8) -> bool
-    ensures { result ≡ is_word_byte byte }
-{
-    byte.is_ascii_alphanumeric() || byte == b'_'
-}
 
 /// Whether the byte may stand in an identifier of Web IDL.
 fn is_identifier_byte(byte: u8) -> bool

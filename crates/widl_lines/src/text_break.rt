@@ -7,9 +7,9 @@ ghost use Rattle.widl_lines.specs.Blocks.{after_change, blocks_after};
 ghost use Rattle.widl_lines.specs.Breaks.{LineBreaks};
 ghost use Rattle.widl_lines.specs.TextBreaks.{column_of};
 
-use crate::Word;
 use crate::blocks::{Block, Change, apply};
 use crate::line_break::{LineBreak, change_by, line_break};
+use crate::{Terminal, Word};
 use std::alloc::{AllocError, Global};
 
 fn apply_change(blocks: &mut Vec<Block>, change: Option<Change>) -> Result<(), AllocError>
@@ -24,13 +24,14 @@ fn apply_change(blocks: &mut Vec<Block>, change: Option<Change>) -> Result<(), A
 /// What a line breaks first; where it breaks nothing, the open blocks become those after it.
 pub fn pass_line(
     alloc: Global,
+    room: &mut Vec<Terminal>,
     blocks: &mut Vec<Block>,
     words: &[Word<'_>],
 ) -> Result<Option<LineBreak>, AllocError>
     ensures broken { IfOk result (LineBreaks (blocks_of blocks.old.items) (map lexeme_of words.now)) }
     ensures blocks { IfOk result (λ found. MatchOption found (blocks_of blocks.new.items ≡ blocks_after (map lexeme_of words.now) (blocks_of blocks.old.items)) (λ _. Unit {0})) }
 {
-    let found = line_break(alloc, blocks, words)?;
+    let found = line_break(alloc, room, blocks, words)?;
     if found.is_some() {
         return Ok(found);
     }
