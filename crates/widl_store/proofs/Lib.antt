@@ -1,0 +1,17 @@
+pub mod KeyEquality
+pub mod Creation
+pub mod KeyFinds
+pub mod Changing
+pub mod Sorting
+pub mod SoundObjects
+pub mod Along
+pub mod Keeping
+pub mod Fixed
+pub mod KeyGroups
+pub mod PlanObjects
+pub mod RealmSteps
+pub mod Living
+pub mod Shortest
+pub mod LiveHomes
+pub mod NamespaceShares
+pub mod FirstObjects

@@ -1,0 +1,5 @@
+use Rattle.widl_store.proofs.Keeping.{sound_set}
+use Rattle.widl_store.proofs.store.replace_inner.Goals as goal
+
+pub returns-clause-sound : goal.returns-clause-sound
+returns-clause-sound c sound = sound_set _ _ c.index_mut.result.now c.set_inner.new.self sound c.requires.place c.index_mut.ensures.value (c.set_inner.ensures.sound _)

@@ -1,0 +1,15 @@
+pub mod IdlCodes
+pub mod Inners
+pub mod Objects
+pub mod Found
+pub mod Effects
+pub mod OwnKeys
+pub mod Sound
+pub mod Order
+pub mod Leaving
+pub mod Meeting
+pub mod Plans
+pub mod Intrinsics
+pub mod Realm
+pub mod Rows
+pub mod Bounds

@@ -1,0 +1,163 @@
+//! Calls of a store with their answers in words, for tests.
+
+use crate::effects::{DefineFault, NotConfigurable, Put, PutFault};
+use crate::found::Found;
+use crate::inner::Inner;
+use crate::property::Prop;
+use crate::store::Store;
+use std::alloc::{AllocError, Global};
+use std::process::Abort;
+use widl_text::{Key, Units};
+use widl_value::{Flags, Number, ObjRef, Shape, Value};
+
+/// `Object.prototype`.
+pub(crate) const FIRST: ObjRef = ObjRef {
+    id: 0,
+    shape: Shape::Plain,
+};
+
+/// `Array.prototype`, which is an array.
+pub(crate) const ARRAY: ObjRef = ObjRef {
+    id: 2,
+    shape: Shape::Plain,
+};
+
+pub(crate) fn name(alloc: Global, text: &str) -> Result<Key, AllocError> {
+    let units = Units::of_str(alloc, text)?;
+    Ok(Key::Name(units))
+}
+
+pub(crate) fn number(n: i128) -> Value {
+    Value::Num(Number::Whole(n))
+}
+
+/// A property that is enumerable, of the number 1.
+pub(crate) fn plain(writable: bool, configurable: bool) -> Prop {
+    Prop::Plain {
+        value: number(1),
+        flags: Flags {
+            writable,
+            enumerable: true,
+            configurable,
+        },
+    }
+}
+
+/// An object with this prototype.
+pub(crate) fn heir(
+    rt: &impl Abort,
+    store: &mut Store,
+    proto: ObjRef,
+) -> Result<ObjRef, AllocError> {
+    assert!(rt; store.objects().len() < 4_294_967_295);
+    assert!(rt; store.is_live(proto));
+    store.add(Some(proto), Shape::Plain, Inner::Plain)
+}
+
+fn put_word(answer: &Result<Put, PutFault>) -> &'static str {
+    match answer {
+        Ok(Put::Done) => "done",
+        Ok(Put::Setter(_, _)) => "setter",
+        Err(PutFault::ReadOnly(_)) => "read only",
+        Err(PutFault::NoSetter) => "no setter",
+        Err(PutFault::Length) => "length",
+        Err(PutFault::Memory) => "memory",
+    }
+}
+
+/// What a put of the number answers.
+pub(crate) fn put(
+    rt: &impl Abort,
+    store: &mut Store,
+    obj: ObjRef,
+    key: Key,
+    n: i128,
+) -> &'static str {
+    assert!(rt; store.is_live(obj));
+    put_word(&store.put(obj, key, number(n)))
+}
+
+/// What a put of 1 at a name answers.
+pub(crate) fn puts(
+    rt: &impl Abort,
+    alloc: Global,
+    store: &mut Store,
+    obj: ObjRef,
+    text: &str,
+) -> Result<&'static str, AllocError> {
+    let key = name(alloc, text)?;
+    Ok(put(rt, store, obj, key, 1))
+}
+
+fn define_word(answer: Result<(), DefineFault>) -> &'static str {
+    match answer {
+        Ok(()) => "done",
+        Err(DefineFault::NotConfigurable(_)) => "not configurable",
+        Err(DefineFault::Length) => "length",
+        Err(DefineFault::Memory) => "memory",
+    }
+}
+
+/// What a definition of the property answers.
+pub(crate) fn define(
+    rt: &impl Abort,
+    store: &mut Store,
+    obj: ObjRef,
+    key: Key,
+    prop: Prop,
+) -> &'static str {
+    assert!(rt; store.is_live(obj));
+    define_word(store.define(obj, key, prop))
+}
+
+/// What a definition at a name answers.
+pub(crate) fn defines(
+    rt: &impl Abort,
+    alloc: Global,
+    store: &mut Store,
+    obj: ObjRef,
+    text: &str,
+) -> Result<&'static str, AllocError> {
+    let key = name(alloc, text)?;
+    Ok(define(rt, store, obj, key, plain(true, true)))
+}
+
+fn delete_word(answer: Result<(), NotConfigurable>) -> &'static str {
+    match answer {
+        Ok(()) => "done",
+        Err(NotConfigurable(_)) => "not configurable",
+    }
+}
+
+/// What a deletion at a name answers.
+pub(crate) fn deletes(
+    rt: &impl Abort,
+    alloc: Global,
+    store: &mut Store,
+    obj: ObjRef,
+    text: &str,
+) -> Result<&'static str, AllocError> {
+    let key = name(alloc, text)?;
+    assert!(rt; store.is_live(obj));
+    Ok(delete_word(store.delete(obj, &key)))
+}
+
+fn found_number(found: &Found) -> Option<i128> {
+    match found {
+        Found::Held(Value::Num(Number::Whole(n))) => Some(*n),
+        _ => None,
+    }
+}
+
+/// The number that is found at a name.
+pub(crate) fn finds(
+    rt: &impl Abort,
+    alloc: Global,
+    store: &Store,
+    obj: ObjRef,
+    text: &str,
+) -> Result<Option<i128>, AllocError> {
+    let key = name(alloc, text)?;
+    assert!(rt; store.is_live(obj));
+    Ok(found_number(&store.find(obj, &key)))
+}
