@@ -1,5 +1,5 @@
 -- Lists of definitions with the same term have the same lines.
-use Rattle.std.proofs.Common.{◌≡◌, ℕ, ◌++◌, cond, List, [], ◌∷◌, length, map, codes, refl, sym, ap, ◌∙◌}
+use Rattle.std.proofs.Common.{◌≡◌, ℕ, ◌++◌, cond, List, [], ◌∷◌, length, map, refl, sym, ap, ◌∙◌}
 use Rattle.std.specs.Prelude.{Option, None, Some, slice_get, option_map}
 use Rattle.std.specs.List.{flat_map}
 use Rattle.std.proofs.lemmas.List.Folds.{flat_map-map}
@@ -12,8 +12,8 @@ use Rattle.widl_idl.specs.DefinitionTerms.{DefsTerm, IfaceTerm, OpNameTerm, Spac
 use Rattle.widl_overload.specs.Sets.{TupleTerm}
 use Rattle.widl_spell.specs.Ids.{id_order, parents_of}
 use Rattle.widl_sets.specs.Lines.{after, is_last_of_length, line_of_index, lines_from, lines_of_set, tuple_line}
-use Rattle.widl_sets.specs.Listing.{all_lines, constructor_text, lines_at, lines_or_none, namespace_lines, operation_lines, static_text}
-use Rattle.widl_spell.specs.Names.{bare_name}
+use Rattle.widl_sets.specs.Listing.{all_lines, lines_at, lines_or_none, namespace_lines, operation_lines}
+use Rattle.widl_trace.specs.CalleeTexts.{constructor_text, operation_text}
 use Rattle.widl_sets.proofs.PlainTuples.{effective_by, effective_is}
 use Rattle.widl_sets.proofs.SameIndex.{same_index}
 
@@ -39,7 +39,7 @@ module _ (xs ys : Defs) (same : defs_term xs ≡ defs_term ys) where
 -- ---- the lines by the terms of the definitions, where `lines` are those of a set
 module _ (lines : List ℕ → List TupleTerm → List ℕ) where
   operation_by : List ℕ → OpNameTerm → List ℕ
-  operation_by owner op = lines (bare_name owner ++ codes "." ++ static_text op.fixed ++ bare_name op.name) (effective_by op.sigs 0)
+  operation_by owner op = lines (operation_text owner op.fixed op.name) (effective_by op.sigs 0)
 
   interface_by : Option IfaceTerm → List ℕ
   interface_by None = []
@@ -54,7 +54,7 @@ module _ (lines : List ℕ → List TupleTerm → List ℕ) where
 module _ (defs : Defs) where
   operation_is : (owner : List ℕ) (op : OpName) → operation_lines defs owner op ≡ operation_by (lines_of_set defs) owner (op_name_term op)
   unfolding operation_by
-  operation_is owner op = ap (lines_of_set defs (bare_name owner ++ codes "." ++ static_text op.fixed ++ bare_name op.name)) (effective_is op.sigs 0)
+  operation_is owner op = ap (lines_of_set defs (operation_text owner op.fixed op.name)) (effective_is op.sigs 0)
 
   operations_are : (owner : List ℕ) (ops : List OpName) → flat_map (operation_lines defs owner) ops ≡ flat_map (operation_by (lines_of_set defs) owner) (map op_name_term ops)
   operations_are owner ops = ap (λ (f : OpName → List ℕ). flat_map f ops) (λ i op. operation_is owner op i) ∙ sym (flat_map-map (operation_by (lines_of_set defs) owner) op_name_term ops)

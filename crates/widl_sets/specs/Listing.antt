@@ -1,5 +1,5 @@
 -- The lines of all that can be called.
-use Rattle.std.specs.Prelude.{ℕ, ◌++◌, Bool, true, false, List, [], codes, slice_get, Option, None, Some}
+use Rattle.std.specs.Prelude.{ℕ, ◌++◌, List, [], slice_get, Option, None, Some}
 use Rattle.std.specs.List.{flat_map}
 use Rattle.widl_idl.specs.declared.defs.Defs.{Defs}
 use Rattle.widl_idl.specs.declared.interface.Iface.{Iface}
@@ -9,26 +9,14 @@ use Rattle.widl_idl.specs.declared.signature.Sig.{Sig}
 use Rattle.widl_overload.specs.Sets.{effective_tuples}
 use Rattle.widl_spell.specs.Ids.{id_order, parents_of}
 use Rattle.widl_sets.specs.Lines.{lines_of_set}
-use Rattle.widl_spell.specs.Names.{bare_name}
-
-abbrev pub static_text : Bool → List ℕ
-static_text true = codes "static "
-static_text false = []
-
--- the operations of a name: `N.f`, or `I.static f` if they are static
-abbrev pub operation_text : List ℕ → OpName → List ℕ
-operation_text owner op = bare_name owner ++ codes "." ++ static_text op.fixed ++ bare_name op.name
-
--- the constructors of an interface
-abbrev pub constructor_text : List ℕ → List ℕ
-constructor_text owner = bare_name owner ++ codes ".constructor"
+use Rattle.widl_trace.specs.CalleeTexts.{constructor_text, operation_text}
 
 -- the lines of the effective overload set of these overloads
 abbrev pub callee_lines : Defs → List ℕ → List Sig → List ℕ
 callee_lines defs callee sigs = lines_of_set defs callee (effective_tuples sigs 0)
 
 abbrev pub operation_lines : Defs → List ℕ → OpName → List ℕ
-operation_lines defs owner op = callee_lines defs (operation_text owner op) op.sigs
+operation_lines defs owner op = callee_lines defs (operation_text owner op.fixed op.name) op.sigs
 
 -- the constructors, then the operations by their names
 abbrev pub interface_lines : Defs → Iface → List ℕ

@@ -7,14 +7,16 @@ ghost use Rattle.widl_idl.specs.declared.callee.Part.TheVariants as parts;
 ghost use Rattle.widl_overload.specs.Sets.{effective_set_of, overloads_in, overloads_named, overloads_of};
 ghost use Rattle.widl_spell.specs.Ids.{id_order, parents_of};
 ghost use Rattle.widl_sets.specs.Lines.{lines_of_set};
-ghost use Rattle.widl_sets.specs.Listing.{all_lines, callee_lines, constructor_text, interface_lines, lines_at, namespace_lines, operation_lines, operation_text, static_text};
+ghost use Rattle.widl_sets.specs.Listing.{all_lines, callee_lines, interface_lines, lines_at, namespace_lines, operation_lines};
+ghost use Rattle.widl_trace.specs.CalleeTexts.{constructor_text};
 
 use crate::lines::push_set;
 use std::alloc::{AllocError, Global};
 use widl_idl::{Callee, Defs, Iface, OpName, Owner, Part, Space};
 use widl_overload::effective_set;
-use widl_spell::{id_order, push_bare_name};
+use widl_spell::id_order;
 use widl_text::Units;
+use widl_trace::{constructor_text, operation_text};
 
 /// The lines of all that can be called, each ended by a line feed: for each operation name and for the
 /// constructors of each interface the effective overload set for no arguments, one line a tuple, and
@@ -193,32 +195,4 @@ fn push_callee(
 {
     let set = effective_set(alloc, defs, callee, 0)?;
     push_set(alloc, text, defs, name, &set)
-}
-
-/// The operations of a name: `N.f`, or `I.static f` if they are static.
-fn operation_text(alloc: Global, owner: &Units, op: &OpName) -> Result<Vec<u8>, AllocError>
-    ensures { IfOk result (λ text. text.items ≡ operation_text owner.now op.now) }
-{
-    let mut text = Vec::new(alloc);
-    push_bare_name(&mut text, owner)?;
-    text.extend_from_slice(b".")?;
-    text.extend_from_slice(static_text(op.fixed))?;
-    push_bare_name(&mut text, &op.name)?;
-    Ok(text)
-}
-
-fn static_text(fixed: bool) -> &'static [u8]
-    ensures { result.now ≡ static_text fixed }
-{
-    if fixed { b"static " } else { b"" }
-}
-
-/// The constructors of an interface.
-fn constructor_text(alloc: Global, owner: &Units) -> Result<Vec<u8>, AllocError>
-    ensures { IfOk result (λ text. text.items ≡ constructor_text owner.now) }
-{
-    let mut text = Vec::new(alloc);
-    push_bare_name(&mut text, owner)?;
-    text.extend_from_slice(b".constructor")?;
-    Ok(text)
 }
