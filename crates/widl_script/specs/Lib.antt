@@ -1,0 +1,17 @@
+pub mod Words
+pub mod Signs
+pub mod SpelledExpressions
+pub mod SpelledTargets
+pub mod SpelledSteps
+pub mod Functions
+pub mod SpelledStatements
+pub mod OneTree
+pub mod Spots
+pub mod Reading
+pub mod ReadLines
+pub mod StepReading
+pub mod OpenBlocks
+pub mod StatementPuts
+pub mod Building
+pub mod BuilderSteps
+pub mod ReadScript

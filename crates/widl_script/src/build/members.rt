@@ -1,0 +1,91 @@
+//! Members.
+
+ghost use Rattle.std.specs.Prelude.{◌≡◌, ◌≤◌, ◌<◌, [], IfOk, OnOk, MatchOption, length, true};
+ghost use Rattle.widl_lines.specs.declared.grammar.Rule.TheVariants as rule;
+ghost use Rattle.widl_lines.specs.declared.grammar.Terminal.TheVariants as terminal;
+ghost use Rattle.widl_script_tree.specs.Tables.{expression_at};
+ghost use Rattle.widl_script.specs.declared.build.forms.Link.TheVariants as link;
+ghost use Rattle.widl_script.specs.Reading.{Widens, part, terminal_ahead, Continues, link_part, link_terminal, ends_member, is_member, Never, HoldsMember};
+
+use crate::build::forms::{Link, ends_member, link_of};
+use crate::build::nodes::Nodes;
+use crate::build::reader::Reader;
+use crate::spots::Spot;
+use std::alloc::AllocError;
+use widl_script_tree::{Expression, MemberKey, MemberOf};
+
+impl<'w, 's> Reader<'w, 's> {
+    /// A member behind a dot.
+    fn dot_member(&mut self, nodes: &mut Nodes, of: u32, spot: Spot) -> Result<u32, AllocError>
+        requires begins { terminal_ahead self.old ≡ terminal.Dot }
+        requires within { of < length nodes.old.expressions }
+        ensures grown { OnOk result (Widens nodes.old nodes.new) }
+        ensures tree { IfOk result (λ place. Continues (link_part link.Dot) nodes.new of place self.old self.new) }
+        ensures member { IfOk result (λ place. is_member (expression_at nodes.new place) ≡ true) }
+        ensures shorter { OnOk result (length self.new < length self.old) }
+    {
+        self.take();
+        let number = self.name_number(nodes)?;
+        let key = MemberKey::Named(number);
+        nodes.put(Expression::Member(MemberOf { of, key }), spot)
+    }
+
+    /// A member in brackets.
+    #[cycle(expression)]
+    fn index_member(&mut self, nodes: &mut Nodes, of: u32, spot: Spot) -> Result<u32, AllocError>
+        requires begins { terminal_ahead self.old ≡ terminal.OpenBracket }
+        requires within { of < length nodes.old.expressions }
+        ensures grown { OnOk result (Widens nodes.old nodes.new) }
+        ensures tree { IfOk result (λ place. Continues (link_part link.Bracket) nodes.new of place self.old self.new) }
+        ensures member { IfOk result (λ place. is_member (expression_at nodes.new place) ≡ true) }
+        ensures shorter { OnOk result (length self.new < length self.old) }
+    {
+        self.take();
+        let key = MemberKey::Computed(self.expression(nodes)?);
+        self.take();
+        nodes.put(Expression::Member(MemberOf { of, key }), spot)
+    }
+
+    /// What goes on behind the expression at the place, which begins at the spot.
+    #[cycle(expression)]
+    pub(crate) fn follow_link(
+        &mut self,
+        nodes: &mut Nodes,
+        place: u32,
+        link: Link,
+        spot: Spot,
+    ) -> Result<u32, AllocError>
+        requires begins { terminal_ahead self.old ≡ link_terminal link }
+        requires within { place < length nodes.old.expressions }
+        ensures grown { OnOk result (Widens nodes.old nodes.new) }
+        ensures tree { IfOk result (λ next. Continues (link_part link) nodes.new place next self.old self.new) }
+        ensures member { IfOk result (λ next. ends_member link ≡ true → is_member (expression_at nodes.new next) ≡ true) }
+        ensures shorter { OnOk result (length self.new < length self.old) }
+    {
+        match link {
+            Link::Dot => self.dot_member(nodes, place, spot),
+            Link::Bracket => self.index_member(nodes, place, spot),
+            Link::Paren => self.call(nodes, place, spot),
+        }
+    }
+
+    /// An expression that ends in a member; none where no such words are.
+    pub(crate) fn member(&mut self, nodes: &mut Nodes) -> Result<Option<MemberOf>, AllocError>
+        ensures grown { OnOk result (Widens nodes.old nodes.new) }
+        ensures some { OnOk result (0 < length nodes.new.expressions) }
+        ensures tree { IfOk result (λ r. MatchOption r (Never (part rule.Member) self.old) (λ m. HoldsMember nodes.new m self.old self.new)) }
+        ensures shorter { OnOk result (length self.new ≤ length self.old) }
+    {
+        let spot = self.spot();
+        let mut place = self.primary(nodes)?;
+        let mut ended = false;
+        'links: while let Some(link) = link_of(self.ahead()) {
+            place = self.follow_link(nodes, place, link, spot)?;
+            ended = ends_member(link);
+        }
+        if ended {
+            return Ok(nodes.member_at(place));
+        }
+        Ok(None)
+    }
+}

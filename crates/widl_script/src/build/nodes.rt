@@ -1,0 +1,147 @@
+//! The tables while they are made, with the spots of their words.
+
+ghost use Rattle.std.specs.Prelude.{◌≡◌, ◌<◌, All, length, IfOk, OnOk, MatchOption, [], false};
+ghost use Rattle.widl_script_tree.specs.declared.expression.Expression.TheVariants as node;
+ghost use Rattle.widl_script_tree.specs.Parts.{IsBodyLower, IsFunction, IsLower, IsLowerStatement};
+ghost use Rattle.widl_script_tree.specs.Puts.{no_tables};
+ghost use Rattle.widl_script_tree.specs.Tables.{expression_at};
+ghost use Rattle.widl_script.specs.StatementPuts.{AllStatements, IsBlockPut, IsFunctionPut, IsStatementPut, IsStatementRow};
+ghost use Rattle.widl_script.specs.Reading.{Widens, is_member, IsPut, IsNamed, IsRow};
+
+use crate::spots::{BlockSpots, FunctionSpots, Spot, Spots};
+use std::alloc::{AllocError, Global};
+use std::marker::Model;
+use widl_script_tree::{Expression, Function, MemberOf, Row, ScriptTables, Statement, StepsBlock};
+use widl_text::Units;
+
+/// The tables of a script, which contracts see, and the spots of their words.
+#[derive(Drop)]
+pub(crate) struct Nodes {
+    pub(crate) tables: ScriptTables,
+    pub(crate) spots: Spots,
+}
+
+impl Model for Nodes {
+    ghost use Rattle.widl_script_tree.specs.Tables.{Tables};
+
+    ghost Value = { Tables };
+
+    ghost use Rattle.widl_script.specs.Spots.{HaveSpots};
+
+    ghost view = { λ n. n.tables };
+
+    ghost invariant = { λ n. HaveSpots n.tables n.spots };
+}
+
+impl Nodes {
+    /// No nodes.
+    pub(crate) fn new(alloc: Global) -> Nodes
+        ensures { result ≡ no_tables }
+    {
+        Nodes {
+            tables: ScriptTables::new(alloc),
+            spots: Spots::new(alloc),
+        }
+    }
+
+    /// Puts an expression that begins at the spot, and answers its place.
+    pub(crate) fn put(&mut self, node: Expression, spot: Spot) -> Result<u32, AllocError>
+        requires { IsLower self.old (length self.old.expressions) node }
+        ensures { IfOk result (λ place. IsPut node place self.old self.new) }
+    {
+        if self.tables.expression_count() == u32::MAX {
+            return Err(AllocError);
+        }
+        self.spots.push_expression(spot)?;
+        self.tables.put_expression(node)
+    }
+
+    /// Puts a row of the expressions at these places.
+    pub(crate) fn put_row(&mut self, places: &[u32]) -> Result<Row, AllocError>
+        requires { All (λ place. place < length self.old.expressions) places.now }
+        ensures grown { OnOk result (Widens self.old self.new) }
+        ensures row { IfOk result (λ row. IsRow self.new row places.now) }
+    {
+        if places.len() > (u32::MAX - self.tables.expression_count()) as usize {
+            return Err(AllocError);
+        }
+        self.spots.push_items(places)?;
+        self.tables.put_row(places)
+    }
+
+    /// The number of a name.
+    pub(crate) fn name(&mut self, text: Units) -> Result<u32, AllocError>
+        ensures { IfOk result (λ number. IsNamed text number self.old self.new) }
+    {
+        if self.tables.name_count() == u32::MAX {
+            return Err(AllocError);
+        }
+        self.tables.put_name(text)
+    }
+
+    /// The member at the place, if a member stands there.
+    pub(crate) fn member_at(&self, place: u32) -> Option<MemberOf>
+        ensures { MatchOption result (is_member (expression_at self.now place) ≡ false) (λ m. (expression_at self.now place ≡ node.Member m) × IsLower self.now place (node.Member m)) }
+    {
+        match self.tables.expression(place) {
+            Expression::Member(member) => Some(*member),
+            _ => None,
+        }
+    }
+
+    /// Puts a statement whose line begins at the spot, and answers its place.
+    pub(crate) fn put_statement(&mut self, node: Statement, spot: Spot) -> Result<u32, AllocError>
+        requires lower { IsLowerStatement self.old (length self.old.statements) node }
+        requires body { IsBodyLower self.old (length self.old.statements) node }
+        ensures { IfOk result (λ place. IsStatementPut node place self.old self.new) }
+    {
+        if self.tables.statement_count() == u32::MAX {
+            return Err(AllocError);
+        }
+        self.spots.push_statement(spot)?;
+        self.tables.put_statement(node)
+    }
+
+    /// Puts a row of the statements at these places.
+    pub(crate) fn put_statements(&mut self, places: &[u32]) -> Result<Row, AllocError>
+        requires lower { AllStatements self.old places.now }
+        ensures { IfOk result (λ row. IsStatementRow row places.now self.old self.new) }
+    {
+        if places.len() > (u32::MAX - self.tables.statement_count()) as usize {
+            return Err(AllocError);
+        }
+        self.spots.push_statement_items(places)?;
+        self.tables.put_statement_row(places)
+    }
+
+    /// Puts a function, and answers its number.
+    pub(crate) fn put_function(
+        &mut self,
+        function: Function,
+        spots: FunctionSpots,
+    ) -> Result<u32, AllocError>
+        requires parts { IsFunction self.old function }
+        ensures { IfOk result (λ number. IsFunctionPut function number self.old self.new) }
+    {
+        if self.tables.function_count() == u32::MAX {
+            return Err(AllocError);
+        }
+        self.spots.push_function(spots)?;
+        self.tables.put_function(function)
+    }
+
+    /// Puts a steps block, and answers its number.
+    pub(crate) fn put_steps(
+        &mut self,
+        block: StepsBlock,
+        spots: BlockSpots,
+    ) -> Result<u32, AllocError>
+        ensures { IfOk result (λ number. IsBlockPut block number self.old self.new) }
+    {
+        if self.tables.steps_count() == u32::MAX {
+            return Err(AllocError);
+        }
+        self.spots.push_block(spots)?;
+        self.tables.put_steps(block)
+    }
+}

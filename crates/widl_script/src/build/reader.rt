@@ -1,0 +1,128 @@
+//! The words of a line that are still to be read.
+
+ghost use Rattle.std.specs.Prelude.{◌≡◌, ◌≢◌, drop, IsTrue, false};
+ghost use Rattle.widl_script.specs.Reading.{terminal_ahead, IfAhead};
+
+use crate::spots::Spot;
+use std::alloc::{AllocError, Global};
+use std::marker::Model;
+use widl_lines::{Rule, Terminal, Word, WordForm};
+use widl_predictive::Rule as Grammar;
+use widl_text::Items;
+
+/// The words of a line from one of them on, which contracts see as a list.
+#[derive(Drop)]
+pub(crate) struct Reader<'w, 's> {
+    alloc: Global,
+    line: u32,
+    words: &'w [Word<'s>],
+    next: usize,
+}
+
+impl<'w, 's> Model for Reader<'w, 's> {
+    ghost use Rattle.std.specs.Prelude.{List, drop, map};
+    ghost use Rattle.widl_lines.specs.Words.{Lexeme};
+    ghost use Rattle.widl_lines.specs.WordTerms.{lexeme_of};
+
+    ghost Value = { List Lexeme };
+
+    ghost view = { λ r. map lexeme_of (drop r.next r.words.now) };
+}
+
+impl<'w, 's> Reader<'w, 's> {
+    ghost use Rattle.std.specs.Prelude.{map};
+    ghost use Rattle.widl_lines.specs.WordTerms.{lexeme_of};
+
+    /// All words of the line of this number.
+    pub(crate) fn new(alloc: Global, line: u32, words: &'w [Word<'s>]) -> Self
+        ensures { result ≡ map lexeme_of words.now }
+    {
+        Reader {
+            alloc,
+            line,
+            words,
+            next: 0,
+        }
+    }
+
+    pub(crate) fn alloc(&self) -> Global {
+        self.alloc
+    }
+
+    /// The terminal of the word ahead; `Unknown`, which no line has, at the end.
+    pub(crate) fn ahead(&self) -> Terminal
+        ensures { result ≡ terminal_ahead self.now }
+    {
+        if self.next < self.words.len() {
+            self.words[self.next].terminal
+        } else {
+            Terminal::Unknown
+        }
+    }
+
+    /// Whether this terminal is ahead.
+    pub(crate) fn is_ahead(&self, terminal: Terminal) -> bool
+        ensures yes { IsTrue result → terminal_ahead self.now ≡ terminal }
+        ensures no { result ≡ false → terminal_ahead self.now ≢ terminal }
+    {
+        <Rule as Grammar>::is_same(self.ahead(), terminal)
+    }
+
+    /// The bytes of the word ahead; none at the end.
+    pub(crate) fn text(&self) -> &'s [u8]
+        ensures { IfAhead self.now (λ w. result.now ≡ w.text) }
+    {
+        if self.next < self.words.len() {
+            self.words[self.next].text
+        } else {
+            &[]
+        }
+    }
+
+    /// The form of the word ahead.
+    pub(crate) fn form(&self) -> WordForm
+        ensures { IfAhead self.now (λ w. result ≡ w.form) }
+    {
+        if self.next < self.words.len() {
+            self.words[self.next].form
+        } else {
+            WordForm::Missing
+        }
+    }
+
+    /// Where the word ahead stands; column 0 at the end.
+    pub(crate) fn spot(&self) -> Spot
+        ensures { IfAhead self.now (λ w. result.column ≡ w.column) }
+    {
+        let column = if self.next < self.words.len() {
+            self.words[self.next].column
+        } else {
+            0
+        };
+        Spot {
+            line: self.line,
+            column,
+        }
+    }
+
+    /// Takes the word ahead.
+    pub(crate) fn take(&mut self)
+        ensures { self.new ≡ drop 1 self.old }
+    {
+        if self.next < self.words.len() {
+            self.next += 1;
+        }
+    }
+
+    /// Where the words of the line stand.
+    pub(crate) fn word_spots(&self) -> Result<Items<Spot>, AllocError> {
+        let mut spots = Items::new(self.alloc);
+        for word in self.words {
+            spots.push(Spot {
+                line: self.line,
+                column: word.column,
+            })?;
+        }
+        Ok(spots)
+    }
+}
