@@ -1,0 +1,5 @@
+use Rattle.widl_runs.proofs.Outcomes.{has_one_trace}
+use Rattle.widl_runs.proofs.laws.has_one_trace.Goals as goal
+
+pub returns : goal.returns
+returns c = has_one_trace

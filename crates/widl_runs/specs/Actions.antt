@@ -1,0 +1,228 @@
+-- Actions: the smallest things that a step of a script does to a world, or sees of it. A run is stopped here and nowhere else.
+-- Source: ECMA-262, the internal methods of objects and the operations on environment records; units, lines and stops are this program's own.
+use Rattle.std.specs.Prelude.{ℕ, ◌+◌, ◌-◌, nat_lt, Bool, true, false, if◌then◌else◌, decimal, List, [], ◌∷◌, ◌++◌, length, Option, None, Some, slice_get}
+use Rattle.std.specs.Option.{option_map_or}
+use Rattle.std.specs.declared.result.Result.{Result}
+use Rattle.std.specs.declared.result.Result.TheVariants as results
+use Rattle.widl_dialog.specs.Runs.{Did, Went, Stops}
+use Rattle.widl_text.specs.declared.key.Key.{Key}
+use Rattle.widl_text.specs.declared.key.Key.TheVariants as keys
+use Rattle.widl_idl.specs.DefinitionTerms.{DefsTerm}
+use Rattle.widl_value.specs.declared.object.ObjRef.{ObjRef}
+use Rattle.widl_value.specs.declared.object.Shape.TheVariants as shapes
+use Rattle.widl_value.specs.declared.value.Value.{Value}
+use Rattle.widl_value.specs.declared.value.Value.TheVariants as values
+use Rattle.widl_store.specs.declared.effects.DefineFault.{DefineFault}
+use Rattle.widl_store.specs.declared.effects.NotConfigurable as refusal
+use Rattle.widl_store.specs.declared.effects.Put.{Put}
+use Rattle.widl_store.specs.declared.effects.Put.TheVariants as puts
+use Rattle.widl_store.specs.declared.effects.PutFault.{PutFault}
+use Rattle.widl_store.specs.declared.inner.Builtin.{Builtin}
+use Rattle.widl_store.specs.declared.inner.Builtin.TheVariants as builtins
+use Rattle.widl_store.specs.declared.property.Prop.{Prop}
+use Rattle.widl_store.specs.declared.property.Prop.TheVariants as props
+use Rattle.widl_store.specs.Inners.{InnerTerm, PlainPart, ArrayPart, ErrorPart, ScriptPart, BuiltinPart, InterfacePart}
+use Rattle.widl_store.specs.Objects.{Obj, with_objects, all_flags, own_at, plain_object, function_object}
+use Rattle.widl_store.specs.Found.{found_at}
+use Rattle.widl_store.specs.Plans.{function_entries}
+use Rattle.widl_store.specs.Effects.{is_fixed, put_of, put_in, define_of, defined, delete_of, deleted, added}
+use Rattle.widl_script_tree.specs.Trees.{Text}
+use Rattle.widl_trace.specs.EventTerms.{EventTerm}
+use Rattle.widl_sink.specs.Lines.{line_cost}
+use Rattle.widl_trace.specs.EventLines.{line_of}
+use Rattle.widl_runs.specs.declared.stop.Stop.{Stop}
+use Rattle.widl_runs.specs.declared.stop.Stop.TheVariants as stops
+use Rattle.widl_runs.specs.Worlds.{Context, World, named_value, bound_world, this_value, outer_contexts}
+
+-- what a script can make
+pub data NewObject : Type 0 where
+  -- an ordinary object with this prototype
+  Ordinary : Option ObjRef → NewObject
+  -- the function of this number, with its name and how many parameters it has
+  ScriptFunction : ℕ → Text → ℕ → NewObject
+  -- an array of these items
+  ArrayOf : List Value → NewObject
+  -- a TypeError
+  TypeErrorObject : NewObject
+
+-- what a call of an object does
+pub data Body : Type 0 where
+  -- the statements of the function of this number
+  ScriptBody : ℕ → Body
+  BuiltinBody : Builtin → Body
+  -- the object can't be called
+  NoBody : Body
+
+pub data Action : Type 0 where
+  -- these cost units: one, those of a line
+  Pay : Action
+  Write : EventTerm → Action
+  -- calls and their contexts
+  TestDepth : Action
+  Enter : Context → Action
+  Leave : Action
+  FindBody : ObjRef → Action
+  -- names
+  ReadThis : Action
+  ReadName : Text → Action
+  BindName : Text → Value → Action
+  -- the next symbol, and new objects
+  TakeSymbol : Action
+  AddObject : NewObject → Action
+  -- properties
+  FindProperty : ObjRef → Key → Action
+  PutProperty : ObjRef → Key → Value → Action
+  DefineProperty : ObjRef → Key → Prop → Action
+  DeleteProperty : ObjRef → Key → Action
+  -- an end of the profile, by its number
+  Reach : ℕ → Action
+
+pub data Reply : Type 0 where
+  IsDone : Reply
+  IsValue : Value → Reply
+  IsObject : ObjRef → Reply
+  IsBody : Body → Reply
+  IsProperty : Option Prop → Reply
+  IsPut : Result Put PutFault → Reply
+  IsDefined : Result (Unit {0}) DefineFault → Reply
+  IsDeleted : Result (Unit {0}) refusal.NotConfigurable → Reply
+
+-- 1. What is in a reply. No other reply comes than the action gives; the last case of each is only there so that each reply has one
+
+abbrev pub value_in : Reply → Value
+value_in (IsValue value) = value
+value_in _ = values.Undefined
+
+abbrev pub object_in : Reply → ObjRef
+object_in (IsObject object) = object
+object_in _ = plain_object 0
+
+abbrev pub body_in : Reply → Body
+body_in (IsBody body) = body
+body_in _ = NoBody
+
+abbrev pub property_in : Reply → Option Prop
+property_in (IsProperty found) = found
+property_in _ = None
+
+abbrev pub put_result_in : Reply → Result Put PutFault
+put_result_in (IsPut answer) = answer
+put_result_in _ = results.Ok puts.Done
+
+abbrev pub define_result_in : Reply → Result (Unit {0}) DefineFault
+define_result_in (IsDefined answer) = answer
+define_result_in _ = results.Ok tt
+
+abbrev pub delete_result_in : Reply → Result (Unit {0}) refusal.NotConfigurable
+delete_result_in (IsDeleted answer) = answer
+delete_result_in _ = results.Ok tt
+
+-- 2. New objects
+
+-- the numbers that the initial store gives to Object.prototype, Function.prototype, Array.prototype and TypeError.prototype
+abbrev pub object_prototype : ObjRef
+object_prototype = plain_object 0
+
+abbrev pub function_prototype : ObjRef
+function_prototype = plain_object 1
+
+abbrev pub array_prototype : ObjRef
+array_prototype = plain_object 2
+
+abbrev pub type_error_prototype : ObjRef
+type_error_prototype = plain_object 4
+
+-- with these properties, defined one after another
+abbrev pub with_properties : List Obj → ℕ → List (Key × Prop) → List Obj
+with_properties objects id [] = objects
+with_properties objects id (entry ∷ entries) = with_properties (defined objects id entry.0 entry.1) id entries
+
+-- with the properties of a new function: its length, then its name (ECMA-262, SetFunctionLength and SetFunctionName)
+abbrev pub with_function : List Obj → ℕ → Text → ℕ → List Obj
+with_function objects id name count = with_properties objects id (function_entries count name)
+
+-- with the items, from this index on, as properties with all flags (ECMA-262, CreateArrayFromList)
+abbrev pub with_items : List Obj → ℕ → ℕ → List Value → List Obj
+with_items objects id index [] = objects
+with_items objects id index (item ∷ items) = with_items (defined objects id (keys.Name (decimal index)) (props.Plain item all_flags)) id (index + 1) items
+
+-- the objects with a new one, whose number is the next
+abbrev pub with_new : List Obj → NewObject → List Obj
+with_new objects (Ordinary proto) = added objects proto shapes.Plain PlainPart
+with_new objects (ScriptFunction number name count) = with_function (added objects (Some function_prototype) shapes.Callable (ScriptPart number)) (length objects) name count
+with_new objects (ArrayOf items) = with_items (added objects (Some array_prototype) shapes.Plain ArrayPart) (length objects) 0 items
+with_new objects TypeErrorObject = added objects (Some type_error_prototype) shapes.Plain ErrorPart
+
+abbrev pub new_reference : ℕ → NewObject → ObjRef
+new_reference id (Ordinary proto) = plain_object id
+new_reference id (ScriptFunction number name count) = function_object id
+new_reference id (ArrayOf items) = plain_object id
+new_reference id TypeErrorObject = plain_object id
+
+-- 3. What is seen of an object
+
+abbrev pub body_of : InnerTerm → Body
+body_of (ScriptPart number) = ScriptBody number
+body_of (BuiltinPart function) = BuiltinBody function
+body_of (InterfacePart iface slots) = BuiltinBody (builtins.InterfaceObject iface)
+body_of _ = NoBody
+
+abbrev pub body_at : List Obj → ObjRef → Body
+body_at objects object = option_map_or (λ o. body_of o.inner) (slice_get objects object.id) NoBody
+
+abbrev pub put_result : List Obj → ObjRef → Key → Value → Result Put PutFault
+put_result objects object key value = put_of (is_fixed objects object.id key) (found_at objects object.id key) value
+
+abbrev pub define_result : List Obj → ObjRef → Key → Result (Unit {0}) DefineFault
+define_result objects object key = define_of (is_fixed objects object.id key) (own_at objects object.id key)
+
+-- a change is made where nothing refuses it
+abbrev pub is_made : {E : Type 0} → Result (Unit {0}) E → Bool
+is_made (results.Ok done) = true
+is_made (results.Err fault) = false
+
+abbrev pub is_put : Result Put PutFault → Bool
+is_put (results.Ok puts.Done) = true
+is_put (results.Ok (puts.Setter setter value)) = false
+is_put (results.Err fault) = false
+
+-- 4. What an action does
+
+abbrev pub with_store : World → List Obj → World
+with_store w objects = record w { store = with_objects w.store objects }
+
+-- a cost above the units that are left takes none of them: the run stops there
+abbrev pub paid : ℕ → World → World → Did World Reply Stop
+paid cost w v = if nat_lt w.units cost then Stops stops.Budget else Went (record v { units = w.units - cost }) IsDone
+
+-- as many calls as may be open
+abbrev pub most_calls : ℕ
+most_calls = 100
+
+-- the units of an event's line
+abbrev pub event_cost : DefsTerm → EventTerm → ℕ
+event_cost list event = line_cost (line_of list event)
+
+abbrev pub act : DefsTerm → Action → World → Did World Reply Stop
+act list Pay w = paid 1 w w
+act list (Write event) w = paid (event_cost list event) w (record w { lines = w.lines ++ event ∷ [] })
+act list TestDepth w = if nat_lt (length w.contexts) most_calls then Went w IsDone else Stops stops.Depth
+act list (Enter context) w = Went (record w { contexts = context ∷ w.contexts }) IsDone
+act list Leave w = Went (record w { contexts = outer_contexts w.contexts }) IsDone
+act list (FindBody object) w = Went w (IsBody (body_at w.store.objects object))
+act list ReadThis w = Went w (IsValue (this_value w.contexts))
+act list (ReadName name) w = Went w (IsValue (named_value list w name))
+act list (BindName name value) w = Went (bound_world w name value) IsDone
+act list TakeSymbol w = Went (record w { next_symbol = w.next_symbol + 1 }) (IsValue (values.Sym w.next_symbol))
+act list (AddObject new) w = Went (with_store w (with_new w.store.objects new)) (IsObject (new_reference (length w.store.objects) new))
+act list (FindProperty object key) w = Went w (IsProperty (found_at w.store.objects object.id key))
+act list (PutProperty object key value) w =
+    let answer = put_result w.store.objects object key value in
+    Went (if is_put answer then with_store w (put_in w.store.objects object.id key value) else w) (IsPut answer)
+act list (DefineProperty object key prop) w =
+    let answer = define_result w.store.objects object key in
+    Went (if is_made answer then with_store w (defined w.store.objects object.id key prop) else w) (IsDefined answer)
+act list (DeleteProperty object key) w =
+    let answer = delete_of (own_at w.store.objects object.id key) in
+    Went (if is_made answer then with_store w (deleted w.store.objects object.id key) else w) (IsDeleted answer)
+act list (Reach end) w = Stops (stops.Profile end)

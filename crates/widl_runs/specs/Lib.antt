@@ -1,0 +1,12 @@
+pub mod Worlds
+pub mod Actions
+pub mod Jobs
+pub mod Errors
+pub mod Operations
+pub mod Calls
+pub mod Members
+pub mod Expressions
+pub mod Statements
+pub mod Rules
+pub mod Traces
+pub mod Laws
