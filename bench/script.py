@@ -1,22 +1,22 @@
 #!/usr/bin/env python3
-"""Measures the words and the check of form of realistic and of hostile scripts.
+"""Measures the words and the check of form of realistic and of hostile scripts, and how fast nodes are put.
 
 Run at the top of the repository, after `rt run` in crates/widl_bench has built the program:
 
     python3 bench/script.py
 
-It prints the milliseconds and the bytes of memory a byte for a realistic script of 1 MiB, the same a byte for one of
-64 KiB, and the time of each hostile script of 1 MiB beside the realistic one's. Times are those of the processor (user
-and system), the least of some runs, without the start of the program.
+It prints the milliseconds and the bytes of memory a byte for a realistic script of 1 MiB and for 16 of 64 KiB, each alone
+in a run of the program and all in one run, then the time of each hostile script of 1 MiB beside the realistic one's, and the
+time for a million nodes. Times are the least of some runs, without the start of the program, and memory is
+without that of the start.
 """
 import os
 import random
-import subprocess
-import sys
 import tempfile
 
+from measure import least
+
 MIB = 1 << 20
-PROGRAM = "crates/widl_bench/out/widl_bench"
 HOSTILE = {
     "do 1, each on a line": (b"", b"do 1\n", b""),
     "line feeds": (b"", b"\n", b""),
@@ -69,24 +69,33 @@ def filled(head, body, tail):
     return head + body * count + tail
 
 
-def run(names):
-    """The seconds and the peak memory in bytes of one run."""
-    child = subprocess.Popen([PROGRAM, "script", *names], stdout=subprocess.PIPE)
-    child.stdout.read()
-    _, status, usage = os.wait4(child.pid, 0)
-    child.returncode = status
-    if status != 0:
-        sys.exit(f"{PROGRAM} failed on {names[:1]}")
-    return usage.ru_utime + usage.ru_stime, usage.ru_maxrss * 1024
+def row(title, seconds, memory):
+    print(f"| {title} | {seconds * 1e3:.1f} | {MIB / seconds / 1e6:.0f} | {memory:.1f} |")
 
 
-def least(names, runs):
-    measured = [run(names) for _ in range(runs)]
-    return min(m[0] for m in measured), max(m[1] for m in measured)
+def measure(word, file, hostile):
+    start, start_memory = least([word], 100)
+
+    def measured(names, runs):
+        seconds, memory = least([word, *names], runs)
+        return seconds - start, (memory - start_memory) / MIB
+
+    whole = [file("whole", realistic(MIB, 0))]
+    parts = [file(f"part.{seed}", realistic(MIB // 16, seed)) for seed in range(16)]
+    print(f"| {word} | ms a MiB | MB/s | bytes of memory a byte |\n|---|---|---|---|")
+    usual, memory = measured(whole, 40)
+    row("realistic, 1 MiB", usual, memory)
+    alone = [measured([part], 40) for part in parts]
+    row("realistic, 64 KiB", sum(one[0] for one in alone), sum(one[1] for one in alone))
+    row("realistic, 16 of 64 KiB in one run", *measured(parts, 40))
+    print(f"\n| {word}: hostile, 1 MiB | ms | times the realistic one | bytes of memory a byte |\n|---|---|---|---|")
+    for title, text in hostile:
+        seconds, memory = measured([file("hostile", text)], 20)
+        print(f"| {title} | {seconds * 1e3:.1f} | {seconds / usual:.1f} | {memory:.1f} |", flush=True)
+    print()
 
 
 def main():
-    start, start_memory = least([], 60)
     with tempfile.TemporaryDirectory() as folder:
         def file(name, text):
             path = os.path.join(folder, name)
@@ -94,18 +103,9 @@ def main():
                 out.write(text)
             return path
 
-        usual = None
-        print("| script | ms a MiB | MB/s | bytes of memory a byte |\n|---|---|---|---|")
-        for title, size, count in (("realistic, 1 MiB", MIB, 1), ("realistic, 16 of 64 KiB", MIB // 16, 16)):
-            names = [file(f"{size}.{seed}", realistic(size, seed)) for seed in range(count)]
-            seconds, memory = least(names, 40)
-            seconds -= start
-            usual = usual or seconds
-            print(f"| {title} | {seconds * 1e3:.1f} | {MIB / seconds / 1e6:.0f} | {(memory - start_memory) / MIB:.1f} |")
-        print("\n| hostile, 1 MiB | ms | times the realistic one | bytes of memory a byte |\n|---|---|---|---|")
-        for title, parts in HOSTILE.items():
-            seconds, memory = least([file("hostile", filled(*parts))], 20)
-            print(f"| {title} | {(seconds - start) * 1e3:.1f} | {(seconds - start) / usual:.1f} | {(memory - start_memory) / MIB:.1f} |")
+        measure("script", file, [(title, filled(*parts)) for title, parts in HOSTILE.items()])
+    nodes = least(["nodes"], 20)[0] - least(["script"], 100)[0]
+    print(f"1,000,000 nodes: {nodes * 1e3:.1f} ms")
 
 
 if __name__ == "__main__":
