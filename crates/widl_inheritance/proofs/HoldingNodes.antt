@@ -1,14 +1,12 @@
 -- The graph of dictionaries, a node at a time.
-use Rattle.std.proofs.Common.{◌≡◌, ℕ, ◌+◌, ◌<◌, ◌≤◌, ◌++◌, Bool, true, false, List, [], ◌∷◌, length, take, map, get_or, slice_get, Some, option_map, arith, refl, sym, ap, subst, ◌∙◌, nat_lt, length-append}
+use Rattle.std.proofs.Common.{◌≡◌, ℕ, ◌+◌, ◌<◌, ◌++◌, Bool, true, false, List, [], ◌∷◌, length, map, get_or, slice_get, Some, option_map, arith, refl, sym, ap, subst, ◌∙◌, nat_lt, length-append}
 use Rattle.std.specs.List.{Contains, EachIndex, flat_map}
 use Rattle.std.proofs.Math.ListN.{get_or-append}
 use Rattle.std.proofs.Math.Seq.{get_or-append_seam}
-use Rattle.std.proofs.lemmas.List.{length-map, take_more, take_all}
+use Rattle.std.proofs.lemmas.List.{length-map}
 use Rattle.std.proofs.lemmas.List.Folds.{flat_map-map}
 use Rattle.std.proofs.lemmas.Option.{slice_get-map, slice_get_read}
-use Rattle.widl_graph.specs.Lists.{with_successor}
 use Rattle.widl_graph.specs.Reaching.{successors_of}
-use Rattle.widl_graph.proofs.Building.{with_successor-append}
 use Rattle.widl_graph.proofs.Complete.{from_each}
 use Rattle.widl_idl.specs.declared.dictionary.Dict.{Dict}
 use Rattle.widl_idl.specs.declared.dictionary.Member.{Member}

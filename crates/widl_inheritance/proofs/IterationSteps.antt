@@ -12,7 +12,7 @@ use Rattle.widl_idl.specs.PlainTrees.{PlainMember, PlainMemberKind, IterableMemb
 use Rattle.widl_idl.proofs.Order.{first_same, one_place}
 use Rattle.widl_inheritance.specs.InterfaceMembers.{listed_members}
 use Rattle.widl_inheritance.specs.Iterations.{FollowsIterable, IsHiding, iterable_place, violation_if}
-use Rattle.widl_inheritance.proofs.Fits.{item_any}
+use Rattle.widl_fits.proofs.Fits.{item_any}
 use Rattle.widl_names.proofs.Mapped.{all_somewhere, next_somewhere}
 use Rattle.widl_names.proofs.PlainLists.{mapped_more}
 use Rattle.widl_names.proofs.Pushed.{at_one_push}

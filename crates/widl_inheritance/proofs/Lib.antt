@@ -1,5 +1,3 @@
-pub mod KeptValues
-pub mod Inherited
 pub mod Fits
 pub mod WrittenFits
 pub mod Lacking

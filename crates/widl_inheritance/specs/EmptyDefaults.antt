@@ -11,8 +11,8 @@ use Rattle.widl_idl.specs.PlainTrees.{PlainArgument, PlainArgumentKind, Required
 use Rattle.widl_idl.specs.Terms.{TypeTerm, NullableType}
 use Rattle.widl_idl.specs.WrittenTypes.{meaning_with}
 use Rattle.widl_overload.specs.DefaultRules.{TakesNoMember}
-use Rattle.widl_inheritance.specs.declared.tables.Tables.{Tables}
-use Rattle.widl_inheritance.specs.Fitting.{takes}
+use Rattle.widl_fits.specs.declared.tables.Tables.{Tables}
+use Rattle.widl_fits.specs.Fitting.{takes}
 
 -- whether an argument of a dictionary type has no default value where it needs one, and a call may leave out all that follow
 abbrev pub needs_default : Bool → PlainArgumentKind → Bool

@@ -1,8 +1,5 @@
 pub mod WrittenLists
 pub mod WrittenDefaults
-pub mod ChoiceValues
-pub mod Required
-pub mod Fitting
 pub mod WrittenFitting
 pub mod EmptyDefaults
 pub mod HoldingGraph

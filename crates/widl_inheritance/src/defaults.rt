@@ -4,16 +4,16 @@ ghost use Rattle.std.specs.Prelude.{◌≡◌, map, IfOk};
 ghost use Rattle.widl_idl.specs.DefinitionTerms.{DefsTerm, defs_term};
 ghost use Rattle.widl_idl.specs.First.{FirstWhere, Somewhere};
 ghost use Rattle.widl_idl.specs.PlainTrees.{plain_definitions};
-ghost use Rattle.widl_inheritance.specs.Fitting.{Knows};
+ghost use Rattle.widl_fits.specs.Fitting.{Knows};
 ghost use Rattle.widl_inheritance.specs.WrittenDefaults.{defaulted_of, listed_defaults};
 ghost use Rattle.widl_names.specs.Listings.{listed_definitions};
 ghost use Rattle.widl_overload.specs.DefaultRules.{HasOtherDefault, IsOtherDefault};
 
 use crate::defaulted::{Defaulted, list_defaults};
 use crate::fitting::fits;
-use crate::tables::Tables;
 use crate::written_fitting::fits_as_written;
 use std::alloc::{AllocError, Global};
+use widl_fits::Tables;
 use widl_idl::tree::Definition;
 use widl_idl::{Defs, Violation, earlier_violation};
 use widl_names::Resolver;

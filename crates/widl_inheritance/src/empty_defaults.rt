@@ -8,16 +8,15 @@ ghost use Rattle.widl_idl.specs.PlainTrees.{argument_kind_of, argument_of, argum
 ghost use Rattle.widl_idl.specs.PlainTypes.{form_term, type_of};
 ghost use Rattle.widl_idl.specs.Terms.{type_term};
 ghost use Rattle.widl_inheritance.specs.EmptyDefaults.{LacksHere, is_name_or_union, may_take_dictionary, needs_default, takes_no_member};
-ghost use Rattle.widl_inheritance.specs.Fitting.{KnowsRequired};
+ghost use Rattle.widl_fits.specs.Fitting.{KnowsRequired};
 ghost use Rattle.widl_inheritance.specs.WrittenLists.{listed_arguments};
 ghost use Rattle.widl_names.specs.Listings.{listed_definitions};
 ghost use Rattle.widl_overload.specs.ArgumentRules.{is_required};
 ghost use Rattle.widl_overload.specs.DefaultRules.{HasNoEmptyDefault, LacksEmptyDefault};
 
 use crate::call_lists::list_calls;
-use crate::fitting::any_takes;
-use crate::tables::Tables;
 use std::alloc::{AllocError, Global};
+use widl_fits::{Tables, any_takes};
 use widl_idl::tree::{Argument, ArgumentKind, Definition, TypeForm, WrittenType};
 use widl_idl::{Defs, IdlType, Literal, Violation, earlier_violation};
 use widl_names::Resolver;

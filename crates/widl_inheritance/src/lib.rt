@@ -1,12 +1,11 @@
 //! The rules of validity that read what is inherited, and default values: on dictionaries and the types of
 //! their members, on arguments that a call may leave out, and on iterables. It stands on the merged list of
-//! `widl_idl`, on the names of `widl_names`, and on `widl_overload`, where each rule is stated. The contract
-//! that is used above: each function answers exactly the first place at which its rule is broken, or none.
+//! `widl_idl`, on the names of `widl_names`, on `widl_fits`, which tells whether a literal fits a type, and on
+//! `widl_overload`, where each rule is stated. The contract that is used above: each function answers exactly the first place at which its rule is broken, or none.
 #![tactic(auto)]
 
 mod argument_lists;
 mod call_lists;
-mod choice_values;
 mod defaulted;
 mod defaults;
 mod empty_defaults;
@@ -19,12 +18,9 @@ mod iterations;
 mod long_chains;
 mod member_names;
 mod parent_graph;
-mod ranges;
 mod reached_flags;
-mod required_members;
 mod span_walk;
 mod spans;
-mod tables;
 mod written_fitting;
 
 pub use defaults::first_other_default;

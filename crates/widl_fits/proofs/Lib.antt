@@ -1,0 +1,4 @@
+pub mod KeptValues
+pub mod Inherited
+pub mod Fits
+pub mod DefaultValues

@@ -1,0 +1,4 @@
+pub mod ChoiceValues
+pub mod Required
+pub mod Fitting
+pub mod Literals

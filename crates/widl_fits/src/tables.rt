@@ -1,0 +1,50 @@
+//! What the rules on default values look up in a merged list.
+
+ghost use Rattle.std.specs.Prelude.{IfOk};
+ghost use Rattle.widl_idl.specs.DefinitionTerms.{defs_term};
+ghost use Rattle.widl_fits.specs.Fitting.{Knows, KnowsRequired};
+
+use crate::choice_values::list_values;
+use crate::required_members::required_members;
+use indexmap::IndexSet;
+use std::alloc::{AllocError, Global};
+use widl_idl::Defs;
+
+/// Dictionaries and enumerations by their numbers, for those who ask for much.
+#[derive(Drop)]
+pub struct Tables<'d> {
+    /// Whether a dictionary has a required member, inherited ones included.
+    pub required: Vec<bool>,
+    /// The values of an enumeration.
+    pub values: Vec<IndexSet<&'d [u16]>>,
+}
+
+impl<'d> Tables<'d> {
+    /// The dictionaries and the enumerations of a merged list.
+    ///
+    /// # Errors
+    ///
+    /// Those of [`required_members`].
+    pub fn of(alloc: Global, defs: &'d Defs) -> Result<Tables<'d>, AllocError>
+        ensures { IfOk result (λ tables. Knows (defs_term defs.now) tables) }
+    {
+        let required = required_members(alloc, defs.dicts.as_slice())?;
+        let values = list_values(alloc, defs.choices.as_slice())?;
+        Ok(Tables { required, values })
+    }
+
+    /// The dictionaries alone, without a value of an enumeration.
+    ///
+    /// # Errors
+    ///
+    /// Those of [`required_members`].
+    pub fn of_dictionaries(alloc: Global, defs: &'d Defs) -> Result<Tables<'d>, AllocError>
+        ensures { IfOk result (λ tables. KnowsRequired (defs_term defs.now) tables) }
+    {
+        let required = required_members(alloc, defs.dicts.as_slice())?;
+        Ok(Tables {
+            required,
+            values: Vec::new(alloc),
+        })
+    }
+}
