@@ -12,7 +12,7 @@ module _ {J Q A R W S : Type 0} (rule : J → Dialog J Q A R) (act : Q → W →
   more_credit (Say q k) n m h x = (omega (arith, h, x.0), λ a. more_credit (k a) (n - takes q + gives q) (m - takes q + gives q) (omega (arith, h)) (x.1 a))
   more_credit (Steps j k) n m h x = λ r. more_credit (k r) n m h (x r)
 
-  owes_bind : (d : Dialog J Q A R) (k : R → Dialog J Q A R) (c n : ℕ) → Owes gives takes c d → ((r : R) → Owes gives takes n (k r)) → Owes gives takes (c + n) (bind d k)
+  pub owes_bind : (d : Dialog J Q A R) (k : R → Dialog J Q A R) (c n : ℕ) → Owes gives takes c d → ((r : R) → Owes gives takes n (k r)) → Owes gives takes (c + n) (bind d k)
   owes_bind (End r) k c n x y = more_credit (k r) n (c + n) (omega arith) (y r)
   owes_bind (Say q g) k c n x y = (
     omega (arith, x.0),

@@ -1,4 +1,4 @@
--- A job adds no more objects than the units that it takes: one unit is paid for each before it is added.
+-- A job adds no more objects and symbols than the units that it takes: one unit is paid for each before it is added.
 use Rattle.std.proofs.Common.{◌≡◌, ℕ, ◌+◌, ◌-◌, ◌≤◌, Bool, true, false, List, [], ◌∷◌, ◌++◌, Option, Some, None, length, sum_by, arith, refl, ap, ◌∙◌, if◌then◌else◌}
 use Rattle.std.specs.declared.result.Result.{Result}
 use Rattle.std.specs.declared.result.Result.TheVariants as results
@@ -67,23 +67,34 @@ use Rattle.widl_trace.specs.EventTerms.{EventTerm}
 use Rattle.widl_trace.specs.EventLines.{line_of}
 use Rattle.widl_store.specs.Realm.{realm_of}
 use Rattle.widl_runs.proofs.LineCosts.{lines_are_paid}
-use Rattle.widl_runs.specs.Laws.{ObjectsArePaid, TracesArePaid, count_of_objects}
+use Rattle.widl_runs.specs.Laws.{ObjectsArePaid, SymbolsArePaid, TracesArePaid, count_of_objects}
 
 -- 1. Each action
 
-abbrev gives : Action → ℕ
+abbrev pub gives : Action → ℕ
 gives Pay = 1
 gives _ = 0
 
-abbrev takes : Action → ℕ
-takes (AddObject new) = 1
-takes _ = 0
+abbrev new_objects : Action → ℕ
+new_objects (AddObject new) = 1
+new_objects _ = 0
 
-abbrev level : World → ℕ
-level w = count_of_objects w + w.units
+abbrev new_symbols : Action → ℕ
+new_symbols TakeSymbol = 1
+new_symbols _ = 0
 
-abbrev IsLevel : ℕ → ℕ → World → Did World Reply Stop → Type 0
-IsLevel = MovesLevel {A = Reply} {S = Stop} level
+abbrev pub takes : Action → ℕ
+takes q = new_objects q + new_symbols q
+
+-- what an action that goes adds and leaves
+record Counts (q : Action) (w v : World) : Type 0 where
+  objects : count_of_objects v ≡ count_of_objects w + new_objects q
+  symbols : v.next_symbol ≡ w.next_symbol + new_symbols q
+  units : v.units + gives q ≤ w.units
+
+abbrev Counted : Action → World → Did World Reply Stop → Type 0
+Counted q w (Went v r) = Counts q w v
+Counted q w (Stops s) = Unit {0}
 
 changed_length : (objects : List Obj) (id : ℕ) (change : Obj → List (Key × Prop)) (o : Option Obj) → length (option_map_or (λ x. slice_set objects id (with_props x (change x))) o objects) ≡ length objects
 changed_length objects id change None = refl
@@ -115,39 +126,65 @@ new_length objects (ScriptFunction number name params) = function_length (added 
 new_length objects (ArrayOf items) = items_length (added objects (Some array_prototype) shapes.Plain ArrayPart) (length objects) 0 items ∙ length-append objects _
 new_length objects TypeErrorObject = length-append objects _
 
-paid_level : (b : Bool) (cost gives : ℕ) (w v : World) → nat_lt w.units cost ≡ b → gives ≤ cost → count_of_objects v ≡ count_of_objects w → IsLevel gives 0 w (if b then Stops stops.Budget else Went (record v { units = w.units - cost }) IsDone)
-paid_level true cost gives w v test h e = tt
-paid_level false cost gives w v test h e = let enough = ltb-false w.units cost test in omega (arith, enough, h, e)
+pay_counts : (b : Bool) (w : World) → nat_lt w.units 1 ≡ b → Counted Pay w (if b then Stops stops.Budget else Went (record w { units = w.units - 1 }) IsDone)
+pay_counts true w test = tt
+pay_counts false w test = let enough = ltb-false w.units 1 test in record { objects = omega arith; symbols = omega arith; units = omega (arith, enough) }
 
-deep_level : (b : Bool) (w : World) → IsLevel 0 0 w (if b then Went w IsDone else Stops stops.Depth)
-deep_level true w = omega arith
-deep_level false w = tt
+write_counts : (b : Bool) (w : World) (event : EventTerm) (cost : ℕ) → Counted (Write event) w (if b then Stops stops.Budget else Went (record w { units = w.units - cost; lines = w.lines ++ event ∷ [] }) IsDone)
+write_counts true w event cost = tt
+write_counts false w event cost = record { objects = omega arith; symbols = omega arith; units = omega arith }
 
-made_level : (b : Bool) (w : World) (objects : List Obj) → length objects ≡ length w.store.objects → level (if b then with_store w objects else w) ≡ level w
-made_level true w objects e = ap (λ n. n + w.units) e
-made_level false w objects e = refl
+deep_counts : (b : Bool) (w : World) → Counted TestDepth w (if b then Went w IsDone else Stops stops.Depth)
+deep_counts true w = record { objects = omega arith; symbols = omega arith; units = omega arith }
+deep_counts false w = tt
 
-bound_level : (b : Bool) (w : World) (name : Text) (v : Value) → level (if b then record w { contexts = with_local w.contexts name v } else record w { globals = with_value w.globals name v }) ≡ level w
-bound_level true w name v = refl
-bound_level false w name v = refl
+-- an action that adds nothing and takes nothing, whether it is made or not
+made_counts : (b : Bool) (q : Action) (w : World) (objects : List Obj) → length objects ≡ length w.store.objects → gives q ≡ 0 → new_objects q ≡ 0 → new_symbols q ≡ 0 → Counts q w (if b then with_store w objects else w)
+made_counts true q w objects e g o s = record { objects = omega (arith, e, o); symbols = omega (arith, s); units = omega (arith, g) }
+made_counts false q w objects e g o s = record { objects = omega (arith, o); symbols = omega (arith, s); units = omega (arith, g) }
 
-levels : (list : DefsTerm) (q : Action) (w : World) → IsLevel (gives q) (takes q) w (act list q w)
-levels list Pay w = paid_level (nat_lt w.units 1) 1 1 w w refl (omega arith) refl
-levels list (Write event) w = paid_level (nat_lt w.units (event_cost list event)) (event_cost list event) 0 w (record w { lines = w.lines ++ event ∷ [] }) refl (omega arith) refl
-levels list TestDepth w = deep_level (nat_lt (length w.contexts) most_calls) w
-levels list (Enter context) w = omega arith
-levels list Leave w = omega arith
-levels list (FindBody object) w = omega arith
-levels list ReadThis w = omega arith
-levels list (ReadName name) w = omega arith
-levels list (BindName name v) w = let e = bound_level (is_local w.contexts name) w name v in omega (arith, e)
-levels list TakeSymbol w = omega arith
-levels list (AddObject new) w = let e = new_length w.store.objects new in omega (arith, e)
-levels list (FindProperty object key) w = omega arith
-levels list (PutProperty object key v) w = let e = made_level (is_put (put_result w.store.objects object key v)) w (put_in w.store.objects object.id key v) (put_length w.store.objects object.id key v) in omega (arith, e)
-levels list (DefineProperty object key prop) w = let e = made_level (is_made (define_result w.store.objects object key)) w (defined w.store.objects object.id key prop) (defined_length w.store.objects object.id key prop) in omega (arith, e)
-levels list (DeleteProperty object key) w = let e = made_level (is_made (delete_of (own_at w.store.objects object.id key))) w (deleted w.store.objects object.id key) (deleted_length w.store.objects object.id key) in omega (arith, e)
-levels list (Reach end) w = tt
+bound_counts : (b : Bool) (w : World) (name : Text) (v : Value) → Counts (BindName name v) w (if b then record w { contexts = with_local w.contexts name v } else record w { globals = with_value w.globals name v })
+bound_counts true w name v = record { objects = omega arith; symbols = omega arith; units = omega arith }
+bound_counts false w name v = record { objects = omega arith; symbols = omega arith; units = omega arith }
+
+counts : (list : DefsTerm) (q : Action) (w : World) → Counted q w (act list q w)
+counts list Pay w = pay_counts (nat_lt w.units 1) w refl
+counts list (Write event) w = write_counts (nat_lt w.units (event_cost list event)) w event (event_cost list event)
+counts list TestDepth w = deep_counts (nat_lt (length w.contexts) most_calls) w
+counts list (Enter context) w = record { objects = omega arith; symbols = omega arith; units = omega arith }
+counts list Leave w = record { objects = omega arith; symbols = omega arith; units = omega arith }
+counts list (FindBody object) w = record { objects = omega arith; symbols = omega arith; units = omega arith }
+counts list ReadThis w = record { objects = omega arith; symbols = omega arith; units = omega arith }
+counts list (ReadName name) w = record { objects = omega arith; symbols = omega arith; units = omega arith }
+counts list (BindName name v) w = bound_counts (is_local w.contexts name) w name v
+counts list TakeSymbol w = record { objects = omega arith; symbols = omega arith; units = omega arith }
+counts list (AddObject new) w = let e = new_length w.store.objects new in record { objects = omega (arith, e); symbols = omega arith; units = omega arith }
+counts list (FindProperty object key) w = record { objects = omega arith; symbols = omega arith; units = omega arith }
+counts list (PutProperty object key v) w = made_counts (is_put (put_result w.store.objects object key v)) (PutProperty object key v) w (put_in w.store.objects object.id key v) (put_length w.store.objects object.id key v) refl refl refl
+counts list (DefineProperty object key prop) w = made_counts (is_made (define_result w.store.objects object key)) (DefineProperty object key prop) w (defined w.store.objects object.id key prop) (defined_length w.store.objects object.id key prop) refl refl refl
+counts list (DeleteProperty object key) w = made_counts (is_made (delete_of (own_at w.store.objects object.id key))) (DeleteProperty object key) w (deleted w.store.objects object.id key) (deleted_length w.store.objects object.id key) refl refl refl
+counts list (Reach end) w = tt
+
+-- the objects with the units that are left, and both with the symbols
+abbrev level : World → ℕ
+level w = count_of_objects w + w.units
+
+abbrev pub made_level : World → ℕ
+made_level w = count_of_objects w + w.next_symbol + w.units
+
+moves_did : (q : Action) (w : World) (did : Did World Reply Stop) → Counted q w did → MovesLevel level (gives q) (takes q) w did
+moves_did q w (Went v r) c = let o = c.objects in let u = c.units in omega (arith, o, u)
+moves_did q w (Stops s) c = tt
+
+moves_made_did : (q : Action) (w : World) (did : Did World Reply Stop) → Counted q w did → MovesLevel made_level (gives q) (takes q) w did
+moves_made_did q w (Went v r) c = let o = c.objects in let s = c.symbols in let u = c.units in omega (arith, o, s, u)
+moves_made_did q w (Stops s) c = tt
+
+moves : (list : DefsTerm) (q : Action) (w : World) → MovesLevel level (gives q) (takes q) w (act list q w)
+moves list q w = moves_did q w (act list q w) (counts list q w)
+
+pub moves_made : (list : DefsTerm) (q : Action) (w : World) → MovesLevel made_level (gives q) (takes q) w (act list q w)
+moves_made list q w = moves_made_did q w (act list q w) (counts list q w)
 
 -- 2. Each rule
 
@@ -396,7 +433,7 @@ fair_steps : (p : Program) (args : List Value) (lines : List StepLine) → IsFai
 fair_steps p args [] = tt
 fair_steps p args (line ∷ lines) = (omega arith, λ r. credited p (step args line) (fair_step args line))
 
-fair : (p : Program) (j : Job) → IsFair 0 (rule p j)
+pub fair : (p : Program) (j : Job) → IsFair 0 (rule p j)
 fair p (RunStatements ss) = fair_statements ss
 fair p (RunStatement s) = fair_statement p s
 fair p (Evaluate e) = fair_evaluate e
@@ -412,14 +449,20 @@ fair p (RunSteps args lines) = fair_steps p args lines
 fair p (Fail code) = (omega arith, λ a. (omega arith, λ b. (omega arith, λ c. tt)))
 
 balanced : (p : Program) → Balanced (rule p) (act p.list) level gives takes
-balanced p = record { moves = levels p.list; owes = fair p }
+balanced p = record { moves = moves p.list; owes = fair p }
+
+balanced_made : (p : Program) → Balanced (rule p) (act p.list) made_level gives takes
+balanced_made p = record { moves = moves_made p.list; owes = fair p }
 
 -- 3. Over a job, and over a whole run
 
 pub objects_are_paid : (p : Program) → ObjectsArePaid p
 objects_are_paid p = none_rises (rule p) (act p.list) level gives takes (balanced p)
 
-fair_whole : (p : Program) → IsFair 0 (whole p)
+pub symbols_are_paid : (p : Program) → SymbolsArePaid p
+symbols_are_paid p = none_rises (rule p) (act p.list) made_level gives takes (balanced_made p)
+
+pub fair_whole : (p : Program) → IsFair 0 (whole p)
 fair_whole p = λ c. (omega arith, λ r. tt)
 
 -- each line costs a unit or more
@@ -449,4 +492,5 @@ pub traces_are_paid : (list : DefsTerm) (script : ScriptTree) (budget : ℕ) →
 traces_are_paid list script budget lines end trace =
     let p : Program = record { list = list; script = script } in
     let h = level_kept (rule p) (act list) level gives takes (balanced p) 0 (fair_whole p) trace.runs in
-    record { few_objects = omega (arith, h); few_lines = few_lines list script budget lines end trace }
+    let g = level_kept (rule p) (act list) made_level gives takes (balanced_made p) 0 (fair_whole p) trace.runs in
+    record { few_objects = omega (arith, h); few_symbols = omega (arith, g); few_lines = few_lines list script budget lines end trace }

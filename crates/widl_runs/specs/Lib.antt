@@ -9,4 +9,5 @@ pub mod Expressions
 pub mod Statements
 pub mod Rules
 pub mod Traces
+pub mod Fitting
 pub mod Laws

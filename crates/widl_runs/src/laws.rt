@@ -4,7 +4,7 @@ ghost use Rattle.std.specs.Prelude.{ℕ};
 ghost use Rattle.widl_idl.specs.DefinitionTerms.{DefsTerm};
 ghost use Rattle.widl_script_tree.specs.Trees.{ScriptTree};
 ghost use Rattle.widl_runs.specs.Jobs.{Program, Doing};
-ghost use Rattle.widl_runs.specs.Laws.{HasOneOutcome, HasOneTrace, LinesGrow, LinesArePaid, ObjectsArePaid, TracesArePaid};
+ghost use Rattle.widl_runs.specs.Laws.{HasOneOutcome, HasOneTrace, LinesGrow, LinesArePaid, ObjectsArePaid, ScriptsFit, SymbolsArePaid, TracesArePaid};
 ghost use Rattle.widl_runs.specs.Worlds.{World};
 
 /// Steps that are done in a world lead to a world and finish there, and to no other, in no other way.
@@ -28,9 +28,16 @@ pub fn lines_are_paid()
     ensures { (p : Program) → LinesArePaid p }
 {}
 
-/// No more objects are added than units are taken, over a job and over a whole run; and a trace has at
-/// most one line more than that.
+/// No more objects are added than units are taken, nor objects and symbols together, over a job and over
+/// a whole run; and a trace has at most one line more than that.
 pub fn objects_are_paid()
     ensures job { (p : Program) → ObjectsArePaid p }
+    ensures symbols { (p : Program) → SymbolsArePaid p }
     ensures run { (list : DefsTerm) (script : ScriptTree) (budget : ℕ) → TracesArePaid list script budget }
+{}
+
+/// Whatever a script does, each object that an action names is there, each function that is made is one
+/// of the script, and the objects and symbols have room in 32 bits.
+pub fn runs_fit()
+    ensures { (p : Program) (budget : ℕ) → ScriptsFit p budget }
 {}

@@ -7,8 +7,8 @@
 //! and the only place where a run is stopped; `rule` gives each statement, expression and call its
 //! steps. `IsTrace` is the relation between a list of definitions, a script, a budget, the lines and
 //! the end. The laws are the contracts of the functions of [`laws`]: everything that is done in a world
-//! has one outcome, each script has one trace for each budget, lines only grow and are paid, and a run
-//! adds no more objects than it takes units.
+//! has one outcome, each script has one trace for each budget, lines only grow and are paid, a run adds no
+//! more objects than it takes units, and each object that an action names is there.
 #![tactic(auto)]
 
 mod completion;

@@ -1,0 +1,176 @@
+-- For proofs alone. Effects on a store keep its references live.
+use Rattle.std.proofs.Common.{◌≡◌, ℕ, zero, suc, ◌+◌, List, [], ◌∷◌, ◌++◌, Option, Some, None, length, map, filter, refl, sym, ap, subst, ◌∙◌}
+use Rattle.std.proofs.lemmas.Bool.{cond_both}
+use Rattle.std.specs.Prelude.{decimal, is_some, slice_get, slice_set}
+use Rattle.std.specs.Map.{lookup}
+use Rattle.std.specs.Option.{option_and_then, option_map, option_map_or}
+use Rattle.widl_text.specs.Index.{index_of}
+use Rattle.widl_text.specs.declared.key.Key.{Key}
+use Rattle.widl_text.specs.declared.key.Key.TheVariants as keys
+use Rattle.widl_value.specs.declared.object.ObjRef.{ObjRef}
+use Rattle.widl_value.specs.declared.object.Shape.TheVariants as shapes
+use Rattle.widl_value.specs.declared.value.Value.{Value}
+use Rattle.widl_store.specs.declared.property.Prop.{Prop}
+use Rattle.widl_store.specs.declared.property.Prop.TheVariants as props
+use Rattle.widl_store.specs.Inners.{PlainPart, ArrayPart, ErrorPart, ScriptPart, is_array}
+use Rattle.widl_store.specs.Objects.{Obj, IsLive, same_key, prop_at, replaced, with_prop, is_other, without_prop, all_flags, length_key, length_prop}
+use Rattle.widl_store.specs.Effects.{with_props, changed, is_above, raised_from, raised, placed, plain_with, put_in, defined, deleted, new_object, added}
+use Rattle.widl_store.specs.Found.{own_or, first_along, found_at}
+use Rattle.widl_store.specs.Plans.{function_entries}
+use Rattle.widl_store.proofs.Living.{live_changed, live_more}
+use Rattle.widl_runs.specs.Actions.{NewObject, Ordinary, ScriptFunction, ArrayOf, TypeErrorObject, with_properties, with_function, with_items, with_new, new_reference, function_prototype, array_prototype, type_error_prototype}
+use Rattle.widl_runs.proofs.LiveParts.{Grows, LiveValue, LiveValues, LiveProp, LiveFound, LiveProps, LiveObjects, more_values, more_props, more_objects}
+use Rattle.widl_runs.proofs.LiveSteps.{LiveItems}
+
+-- 1. The properties of one object
+
+module _ (objects : List Obj) where
+  pub live_at : (entries : List (Key × Prop)) (key : Key) → LiveProps objects entries → LiveFound objects (prop_at entries key)
+  live_at [] key l = tt
+  live_at (e ∷ es) key l = cond_both (same_key key e.0) (Some e.1) (lookup (same_key key) es) (LiveFound objects) (λ e. l.0) (λ e. live_at es key l.1)
+
+  live_replaced : (entries : List (Key × Prop)) (key : Key) (prop : Prop) → LiveProps objects entries → LiveProp objects prop → LiveProps objects (map (replaced key prop) entries)
+  live_replaced [] key prop l x = tt
+  live_replaced (e ∷ es) key prop l x = (cond_both (same_key key e.0) (e.0, prop) e (λ (y : Key × Prop). LiveProp objects y.1) (λ e. x) (λ e. l.0), live_replaced es key prop l.1 x)
+
+  live_last : (entries : List (Key × Prop)) (key : Key) (prop : Prop) → LiveProps objects entries → LiveProp objects prop → LiveProps objects (entries ++ (key, prop) ∷ [])
+  live_last [] key prop l x = (x, tt)
+  live_last (e ∷ es) key prop l x = (l.0, live_last es key prop l.1 x)
+
+  pub live_with : (entries : List (Key × Prop)) (key : Key) (prop : Prop) → LiveProps objects entries → LiveProp objects prop → LiveProps objects (with_prop entries key prop)
+  live_with entries key prop l x = cond_both (is_some (prop_at entries key)) (map (replaced key prop) entries) (entries ++ (key, prop) ∷ []) (LiveProps objects) (λ e. live_replaced entries key prop l x) (λ e. live_last entries key prop l x)
+
+  live_without : (entries : List (Key × Prop)) (key : Key) → LiveProps objects entries → LiveProps objects (without_prop entries key)
+  live_without [] key l = tt
+  live_without (e ∷ es) key l = let rest = live_without es key l.1 in cond_both (is_other key e) (e ∷ filter (is_other key) es) (filter (is_other key) es) (LiveProps objects) (λ e. (l.0, rest)) (λ e. rest)
+
+  live_raised_from : (entries : List (Key × Prop)) (index : ℕ) (found : Option Prop) → LiveProps objects entries → LiveProps objects (raised_from entries index found)
+  live_raised_from entries index None l = l
+  live_raised_from entries index (Some now) l = cond_both (is_above now index) entries (with_prop entries length_key (length_prop (index + 1))) (LiveProps objects) (λ e. l) (λ e. live_with entries length_key (length_prop (index + 1)) l tt)
+
+  live_raised : (index : Option ℕ) (entries : List (Key × Prop)) → LiveProps objects entries → LiveProps objects (raised index entries)
+  live_raised None entries l = l
+  live_raised (Some index) entries l = live_raised_from entries index (prop_at entries length_key) l
+
+  live_placed : (o : Obj) (key : Key) (prop : Prop) → LiveProps objects o.props → LiveProp objects prop → LiveProps objects (placed o key prop)
+  live_placed o key prop l x =
+      let props : List (Key × Prop) = with_prop o.props key prop in
+      let held = live_with o.props key prop l x in
+      cond_both (is_array o.inner) (raised (index_of key) props) props (LiveProps objects) (λ e. live_raised (index_of key) props held) (λ e. held)
+
+  live_plain : (v : Value) (found : Option Prop) → LiveValue objects v → LiveProp objects (plain_with v found)
+  live_plain v None l = l
+  live_plain v (Some prop) l = l
+
+  -- 2. The objects
+
+  pub live_object : (os : List Obj) (id : ℕ) (o : Obj) → slice_get os id ≡ Some o → LiveObjects objects os → LiveProps objects o.props
+  live_object [] id o at l = absurd (let bad : None ≡ Some o = at in cc)
+  live_object (a ∷ os) zero o at l = let same : a ≡ o = let f : Some a ≡ Some o = at in cc in subst (λ (x : Obj). LiveProps objects x.props) same l.0
+  live_object (a ∷ os) (suc id) o at l = live_object os id o at l.1
+
+  live_set : (os : List Obj) (id : ℕ) (o : Obj) → LiveObjects objects os → LiveProps objects o.props → LiveObjects objects (slice_set os id o)
+  live_set [] id o l x = tt
+  live_set (a ∷ os) zero o l x = (x, l.1)
+  live_set (a ∷ os) (suc id) o l x = (l.0, live_set os id o l.1 x)
+
+  live_appended : (os : List Obj) (o : Obj) → LiveObjects objects os → LiveProps objects o.props → LiveObjects objects (os ++ o ∷ [])
+  live_appended [] o l x = (x, tt)
+  live_appended (a ∷ os) o l x = (l.0, live_appended os o l.1 x)
+
+  live_change : (os : List Obj) (id : ℕ) (change : Obj → List (Key × Prop)) → LiveObjects objects os → ((o : Obj) → LiveProps objects o.props → LiveProps objects (change o)) → LiveObjects objects (changed os id change)
+  live_change os id change l keeps = at (slice_get os id) refl
+    where
+      at : (o : Option Obj) → slice_get os id ≡ o → LiveObjects objects (option_map_or (λ x. slice_set os id (with_props x (change x))) o os)
+      at None is = l
+      at (Some o) is = live_set os id (with_props o (change o)) l (keeps o (live_object os id o is l))
+
+  -- what a search finds
+  live_own : (own : Option Prop) (proto : Option ObjRef) (further : ℕ → Option Prop) → LiveFound objects own → ((id : ℕ) → LiveFound objects (further id)) → LiveFound objects (own_or own proto further)
+  live_own (Some prop) proto further l each = l
+  live_own None None further l each = tt
+  live_own None (Some p) further l each = each p.id
+
+  live_one : (os : List Obj) (id : ℕ) (key : Key) (further : ℕ → Option Prop) (o : Option Obj) → slice_get os id ≡ o → LiveObjects objects os → ((i : ℕ) → LiveFound objects (further i)) → LiveFound objects (option_and_then (λ x. own_or (prop_at x.props key) x.proto further) o)
+  live_one os id key further None is l each = tt
+  live_one os id key further (Some o) is l each = live_own (prop_at o.props key) o.proto further (live_at o.props key (live_object os id o is l)) each
+
+  live_along : (n : ℕ) (os : List Obj) (id : ℕ) (key : Key) → LiveObjects objects os → LiveFound objects (first_along n os id key)
+  live_along zero os id key l = tt
+  live_along (suc n) os id key l = live_one os id key (λ i. first_along n os i key) (slice_get os id) refl l (λ i. live_along n os i key l)
+
+  pub live_found : (os : List Obj) (id : ℕ) (key : Key) → LiveObjects objects os → LiveFound objects (found_at os id key)
+  unfolding found_at
+  live_found os id key l = live_along (suc id) os id key l
+
+-- 3. The changes
+
+-- what was live is live, and all that the objects hold
+pub record Kept (objects more : List Obj) : Type 0 where
+  pub grows : Grows objects more
+  pub live : LiveObjects more more
+
+kept_then : (a b c : List Obj) → Kept a b → Kept b c → Kept a c
+kept_then a b c x y = record { grows = λ o l. y.grows o (x.grows o l); live = y.live }
+
+kept_change : (objects : List Obj) (id : ℕ) (change : Obj → List (Key × Prop)) → LiveObjects objects objects → ((o : Obj) → LiveProps objects o.props → LiveProps objects (change o)) → Kept objects (changed objects id change)
+kept_change objects id change l keeps =
+    let grows : Grows objects (changed objects id change) = λ o x. live_changed objects id change o x in
+    record { grows = grows; live = more_objects objects (changed objects id change) grows (changed objects id change) (live_change objects objects id change l keeps) }
+
+pub kept_defined : (objects : List Obj) (id : ℕ) (key : Key) (prop : Prop) → LiveObjects objects objects → LiveProp objects prop → Kept objects (defined objects id key prop)
+kept_defined objects id key prop l x = kept_change objects id (λ o. placed o key prop) l (λ o y. live_placed objects o key prop y x)
+
+pub kept_put : (objects : List Obj) (id : ℕ) (key : Key) (v : Value) → LiveObjects objects objects → LiveValue objects v → Kept objects (put_in objects id key v)
+kept_put objects id key v l x = kept_change objects id (λ o. placed o key (plain_with v (prop_at o.props key))) l (λ o y. live_placed objects o key (plain_with v (prop_at o.props key)) y (live_plain objects v (prop_at o.props key) x))
+
+pub kept_deleted : (objects : List Obj) (id : ℕ) (key : Key) → LiveObjects objects objects → Kept objects (deleted objects id key)
+kept_deleted objects id key l = kept_change objects id (λ o. without_prop o.props key) l (λ o y. live_without objects o.props key y)
+
+kept_properties : (objects : List Obj) (id : ℕ) (entries : List (Key × Prop)) → LiveObjects objects objects → LiveProps objects entries → Kept objects (with_properties objects id entries)
+kept_properties objects id [] l x = record { grows = λ o y. y; live = l }
+kept_properties objects id (e ∷ es) l x =
+    let one = kept_defined objects id e.0 e.1 l x.0 in
+    let next : List Obj = defined objects id e.0 e.1 in
+    kept_then objects next (with_properties next id es) one (kept_properties next id es one.live (more_props objects next one.grows es x.1))
+
+kept_items : (objects : List Obj) (id index : ℕ) (items : List Value) → LiveObjects objects objects → LiveValues objects items → Kept objects (with_items objects id index items)
+kept_items objects id index [] l x = record { grows = λ o y. y; live = l }
+kept_items objects id index (v ∷ vs) l x =
+    let one = kept_defined objects id (keys.Name (decimal index)) (props.Plain v all_flags) l x.0 in
+    let next : List Obj = defined objects id (keys.Name (decimal index)) (props.Plain v all_flags) in
+    kept_then objects next (with_items next id (index + 1) vs) one (kept_items next id (index + 1) vs one.live (more_values objects next one.grows vs x.1))
+
+-- an object that is added, and its reference
+pub record Made (objects more : List Obj) (o : ObjRef) : Type 0 where
+  pub kept : Kept objects more
+  pub live : IsLive more o
+
+-- the shape of the object after these
+pub last_shape : (os rest : List Obj) (o : Obj) → option_map (λ x. x.shape) (slice_get (os ++ o ∷ rest) (length os)) ≡ Some o.shape
+last_shape [] rest o = refl
+last_shape (a ∷ os) rest o = last_shape os rest o
+
+made_object : (objects : List Obj) (o : Obj) (r : ObjRef) → r.id ≡ length objects → r.shape ≡ o.shape → ((more : List Obj) → LiveProps more o.props) → LiveObjects objects objects → Made objects (objects ++ o ∷ []) r
+made_object objects o r id shape bare l =
+    let more : List Obj = objects ++ o ∷ [] in
+    let grows : Grows objects more = λ p x. live_more objects o p x in
+    record {
+      kept = record { grows = grows; live = live_appended more objects o (more_objects objects more grows objects l) (bare more) };
+      live = ap (λ n. option_map (λ x. x.shape) (slice_get more n)) id ∙ last_shape objects [] o ∙ ap Some (sym shape);
+    }
+
+made_then : (objects more last : List Obj) (o : ObjRef) → Made objects more o → Kept more last → Made objects last o
+made_then objects more last o x y = record { kept = kept_then objects more last x.kept y; live = y.grows o x.live }
+
+pub made_new : (objects : List Obj) (new : NewObject) → LiveObjects objects objects → LiveItems objects new → Made objects (with_new objects new) (new_reference (length objects) new)
+made_new objects (Ordinary proto) l items = made_object objects (new_object proto shapes.Plain PlainPart) (new_reference (length objects) (Ordinary proto)) refl refl (λ more. tt) l
+made_new objects (ScriptFunction number name count) l items =
+    let more : List Obj = added objects (Some function_prototype) shapes.Callable (ScriptPart number) in
+    let one = made_object objects (new_object (Some function_prototype) shapes.Callable (ScriptPart number)) (new_reference (length objects) (ScriptFunction number name count)) refl refl (λ us. tt) l in
+    made_then objects more (with_function more (length objects) name count) (new_reference (length objects) (ScriptFunction number name count)) one (kept_properties more (length objects) (function_entries count name) one.kept.live (tt, (tt, tt)))
+made_new objects (ArrayOf vs) l items =
+    let more : List Obj = added objects (Some array_prototype) shapes.Plain ArrayPart in
+    let one = made_object objects (new_object (Some array_prototype) shapes.Plain ArrayPart) (new_reference (length objects) (ArrayOf vs)) refl refl (λ us. (tt, tt)) l in
+    made_then objects more (with_items more (length objects) 0 vs) (new_reference (length objects) (ArrayOf vs)) one (kept_items more (length objects) 0 vs one.kept.live (more_values objects more one.kept.grows vs items))
+made_new objects TypeErrorObject l items = made_object objects (new_object (Some type_error_prototype) shapes.Plain ErrorPart) (new_reference (length objects) TypeErrorObject) refl refl (λ more. tt) l
