@@ -48,7 +48,7 @@ pub enum Event {
     Ret(Value),
     /// A call or a construction ends with a thrown value.
     Thr(Value),
-    /// The steps of a callee begin, which is given IDL values (Web IDL, "method steps").
+    /// What a callee does begins, with its arguments as IDL values (Web IDL, "method steps").
     Op {
         /// The operation, constructor, getter, setter or stringifier.
         callee: Callee,
@@ -57,7 +57,7 @@ pub enum Event {
         /// The IDL values.
         values: IdlValues,
     },
-    /// A TypeError object was made.
+    /// A TypeError was created, and is about to be thrown.
     Error {
         /// The object.
         obj: ObjRef,

@@ -6,7 +6,7 @@ ghost use Rattle.widl_sink.specs.Lines.{ended, line_cost};
 ghost use Rattle.widl_trace.specs.EventLines.{line_of};
 ghost use Rattle.widl_trace.specs.EventTerms.{EventTerm, IsStop};
 
-/// A line with its line feed has at most 64 bytes for each unit of its cost.
+/// For each unit of its cost a line has at most 64 bytes, its line feed among them.
 pub fn line_has_64_bytes_a_unit()
     ensures { (line : List ℕ) → length (ended line) ≤ 64 * line_cost line }
 {}

@@ -1,4 +1,4 @@
-//! The IDL values with which the steps of a callee begin.
+//! The IDL values that a callee begins with.
 
 use super::definitions::definitions;
 use super::{expect, number, object};
