@@ -72,6 +72,6 @@ abbrev pub overload_text : Option ℕ → List ℕ
 overload_text None = []
 overload_text (Some number) = codes "#" ++ decimal number
 
--- a callee, by the owner that has the member; of an owner or a part that the list doesn't have only the overload's number is left
+-- a callee, under the name of what it is a member of; where the owner or the part isn't there only the overload's number is left
 abbrev pub callee_text : DefsTerm → Callee → Option ℕ → List ℕ
 callee_text defs callee overload = owner_part defs callee.owner callee.part ++ overload_text overload

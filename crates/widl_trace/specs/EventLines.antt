@@ -14,7 +14,7 @@ use Rattle.widl_trace.specs.ValueTexts.{key_text, object_text, value_text}
 abbrev pub arguments_text : List Value → List ℕ
 arguments_text args = codes " (" ++ separated (codes ", ") (map value_text args) ++ codes ")"
 
--- the IDL values with which the steps of a callee begin
+-- the IDL values that a callee begins with
 abbrev pub idl_arguments_text : DefsTerm → List IdlTerm → List ℕ
 idl_arguments_text defs args = codes " (" ++ separated (codes ", ") (map (idl_value_text defs) args) ++ codes ")"
 

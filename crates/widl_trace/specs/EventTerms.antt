@@ -19,7 +19,7 @@ pub data EventTerm : Type 0 where
   NewEvent : ObjRef → List Value → EventTerm
   ReturnEvent : Value → EventTerm
   ThrowEvent : Value → EventTerm
-  -- the steps of a callee begin, of the overload if it has overloads, with these values
+  -- what a callee does begins, of the overload if it has overloads, with these values
   OperationEvent : Callee → Option ℕ → List IdlTerm → EventTerm
   ErrorEvent : ObjRef → Code → EventTerm
   -- a promise gets a value, or a reason, or waits for an object by its method
