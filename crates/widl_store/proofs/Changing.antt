@@ -12,7 +12,7 @@ use Rattle.std.proofs.lemmas.Option.{slice_get-get_or}
 use Rattle.std.specs.Option.{option_map}
 use Rattle.widl_text.specs.declared.key.Key.{Key}
 use Rattle.widl_store.specs.declared.property.Prop.{Prop}
-use Rattle.widl_store.specs.declared.property_map.Held.{Held}
+use Rattle.widl_store.specs.declared.numbered_map.Held.{Held}
 use Rattle.widl_store.specs.Leaving.{Leaves}
 use Rattle.widl_store.specs.Objects.{same_key, replaced, without_prop}
 use Rattle.widl_store.specs.Order.{Entry, gathered, shown, in_order, changed, Numbered}

@@ -10,7 +10,7 @@ use Rattle.std.proofs.lemmas.Option.{slice_get-get_or, slice_get_within, get_or_
 use Rattle.std.specs.Option.{option_map}
 use Rattle.std.proofs.lemmas.Bool.{cases_lt}
 use Rattle.widl_text.specs.declared.key.Key.{Key}
-use Rattle.widl_store.specs.declared.property_map.Held.{Held}
+use Rattle.widl_store.specs.declared.numbered_map.Held.{Held}
 use Rattle.widl_store.specs.Leaving.{Leaves}
 use Rattle.widl_store.specs.Objects.{same_key, is_other}
 use Rattle.widl_store.specs.Order.{Entry, at, listed, gathered, shown, in_order}

@@ -3,6 +3,7 @@ pub mod Creation
 pub mod KeyFinds
 pub mod Changing
 pub mod Sorting
+pub mod FewProperties
 pub mod SoundObjects
 pub mod Along
 pub mod Keeping
@@ -13,5 +14,6 @@ pub mod RealmSteps
 pub mod Living
 pub mod Shortest
 pub mod LiveHomes
+pub mod OneFunction
 pub mod NamespaceShares
 pub mod FirstObjects

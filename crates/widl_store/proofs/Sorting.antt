@@ -9,7 +9,7 @@ use Rattle.std.proofs.lemmas.List.Sorted.{IsPermutation-sym, IsPermutation-map, 
 use Rattle.std.proofs.lemmas.Bool.{cases_lt}
 use Rattle.widl_text.specs.declared.key.Key.{Key}
 use Rattle.widl_store.specs.declared.property.Prop.{Prop}
-use Rattle.widl_store.specs.declared.property_map.Held.{Held}
+use Rattle.widl_store.specs.declared.numbered_map.Held.{Held}
 use Rattle.widl_store.specs.Leaving.{Leaves}
 use Rattle.widl_store.specs.Objects.{same_key}
 use Rattle.widl_store.specs.Order.{Entry, at, listed, gathered, shown, in_order, Numbered}

@@ -6,6 +6,8 @@ pub mod Effects
 pub mod OwnKeys
 pub mod Sound
 pub mod Order
+pub mod Labels
+pub mod PropertyForms
 pub mod Leaving
 pub mod Meeting
 pub mod Plans
@@ -13,3 +15,4 @@ pub mod Intrinsics
 pub mod Realm
 pub mod Rows
 pub mod Bounds
+pub mod OperationFunctions

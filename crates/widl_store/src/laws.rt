@@ -11,6 +11,7 @@ ghost use Rattle.widl_store.specs.Effects.{added, defined, deleted, put_in, with
 ghost use Rattle.widl_store.specs.Inners.{InnerTerm};
 ghost use Rattle.widl_store.specs.Objects.{IsLive, Obj, home_of};
 ghost use Rattle.widl_store.specs.declared.homes.Home as homes;
+ghost use Rattle.widl_store.specs.OperationFunctions.{AreNamed, HaveOneFunctionEach};
 ghost use Rattle.widl_store.specs.Realm.{HasOperationsAlone, realm_over, shortest};
 ghost use Rattle.widl_text.specs.declared.key.Key as keys;
 ghost use Rattle.widl_value.specs.declared.object.ObjRef as references;
@@ -36,6 +37,13 @@ pub fn served_lists_have_operations_alone()
 pub fn shortest_length()
     ensures least { (sigs : List signatures.Sig) (n : ℕ) (t : TupleTerm) → Contains (effective_tuples sigs n) t → shortest (map sig_term sigs) ≤ length t.types }
     ensures reached { (sig : signatures.Sig) (sigs : List signatures.Sig) (n : ℕ) → (t : TupleTerm) × Contains (effective_tuples (sig ∷ sigs) n) t × (length t.types ≡ shortest (map sig_term (sig ∷ sigs))) }
+{}
+
+/// That each operation name of a namespace has exactly one function among the first objects, whatever its
+/// overloads, and that the function's property `name` is that name.
+pub fn operations_have_one_function()
+    ensures one { HaveOneFunctionEach }
+    ensures named { AreNamed }
 {}
 
 /// That what stands for a definition is live in the first store.

@@ -6,6 +6,7 @@
 #![tactic(auto)]
 
 mod effects;
+mod few;
 mod found;
 mod functions;
 mod homes;
@@ -14,9 +15,11 @@ mod initial_store;
 mod initial_tests;
 mod inner;
 mod intrinsics;
+mod label;
 pub mod laws;
 mod meets;
 mod namespaces;
+mod numbered_map;
 mod object;
 mod own_keys;
 mod plans;

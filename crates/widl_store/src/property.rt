@@ -1,5 +1,8 @@
 //! The properties of objects.
 
+ghost use Rattle.std.specs.Prelude.{◌≡◌, IfOk};
+
+use std::alloc::AllocError;
 use widl_value::{Flags, ObjRef, Value};
 
 /// A property of an object (ECMA-262, "Property Attributes").
@@ -21,4 +24,27 @@ pub enum Prop {
         /// Its flags.
         flags: Flags,
     },
+}
+
+impl Prop {
+    /// An equal property.
+    ///
+    /// # Errors
+    ///
+    /// `AllocError` where there is no memory.
+    pub(crate) fn copy(&self) -> Result<Prop, AllocError>
+        ensures { IfOk result (λ copy. copy ≡ self.now) }
+    {
+        match self {
+            Prop::Plain { value, flags } => Ok(Prop::Plain {
+                value: value.copy()?,
+                flags: *flags,
+            }),
+            Prop::Accessor { get, set, flags } => Ok(Prop::Accessor {
+                get: *get,
+                set: *set,
+                flags: *flags,
+            }),
+        }
+    }
 }

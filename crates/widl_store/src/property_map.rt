@@ -1,52 +1,49 @@
 //! Properties by their keys, in the order of their creation.
 
-ghost use Rattle.std.specs.Prelude.{◌≡◌, [], ◌∷◌, IfOk, IfSome, OnErr, OnOk, None, ◌++◌, map, not};
+ghost use Rattle.std.specs.Prelude.{◌≡◌, [], ◌∷◌, ◌++◌, IfOk, IfSome, OnErr, OnOk, None, map};
 ghost use Rattle.std.specs.List.{IsDistinct};
-ghost use Rattle.std.specs.List.Sorted.{IsPermutation, IsNonDecreasingBy};
 ghost use Rattle.std.specs.Map.{keys_of};
-ghost use Rattle.std.specs.Map.Iter.{deref_pair};
 ghost use Rattle.std.specs.Option.{option_copied};
-ghost use Rattle.indexmap.specs.IndexMap.{insert_entry, IsUnique};
-ghost use Rattle.widl_store.specs.Leaving.{Leaves};
 ghost use Rattle.widl_store.specs.Objects.{prop_at, replaced, same_key, with_prop, without_prop};
-ghost use Rattle.widl_store.specs.Order.{changed};
+ghost use Rattle.widl_store.specs.PropertyForms.{IsHeldOnce, props_in};
 
+use crate::few::{get_few, keys_of_few, numbered, push_few, remove_few, set_few};
+use crate::label::Label;
+use crate::numbered_map::NumberedMap;
 use crate::property::Prop;
-use indexmap::IndexMap;
 use std::alloc::{AllocError, Global};
 use std::marker::Model;
 use widl_text::Key;
 
-/// A property, and the number that it was given when it was created.
-#[derive(Drop)]
-pub struct Held {
-    /// How many properties were created before it.
-    pub number: u64,
-    /// The property.
-    pub prop: Prop,
-}
+/// How many properties are held without an index: a walk over so few takes no longer than a look-up.
+const MOST_FEW: usize = 8;
 
 /// Properties by their keys.
-///
-/// A removed entry is replaced by the last one, so that no removal moves all the others. The order of
-/// creation is that of the numbers.
+#[derive(Drop)]
+pub(crate) enum Form {
+    /// Without an index.
+    Few(Vec<(Label, Prop)>),
+    /// With an index.
+    Many(Box<NumberedMap>),
+}
+
+/// Properties by their keys. Most objects have few, so there is an index only once there are more.
 #[derive(Drop)]
 pub(crate) struct PropertyMap {
-    entries: IndexMap<Key, Held>,
-    next: u64,
+    form: Form,
 }
 
 impl Model for PropertyMap {
     ghost use Rattle.std.specs.Prelude.{List};
     ghost use Rattle.widl_store.specs.declared.property.Prop.{Prop as PropTerm};
-    ghost use Rattle.widl_store.specs.Order.{Numbered, in_order};
+    ghost use Rattle.widl_store.specs.PropertyForms.{IsHeldOnce, props_in};
     ghost use Rattle.widl_text.specs.declared.key.Key.{Key as KeyTerm};
 
     ghost Value = { List (KeyTerm × PropTerm) };
 
-    ghost view = { λ m. in_order m.next m.entries.entries };
+    ghost view = { λ m. props_in m.form };
 
-    ghost invariant = { λ m. Numbered m.next m.entries.entries };
+    ghost invariant = { λ m. IsHeldOnce m.form };
 }
 
 impl PropertyMap {
@@ -55,8 +52,7 @@ impl PropertyMap {
         ensures { result ≡ [] }
     {
         PropertyMap {
-            entries: IndexMap::new(alloc),
-            next: 0,
+            form: Form::Few(Vec::new(alloc)),
         }
     }
 
@@ -64,10 +60,7 @@ impl PropertyMap {
     pub(crate) fn get(&self, key: &Key) -> Option<&Prop>
         ensures { option_copied result ≡ prop_at self.now key.now }
     {
-        match self.entries.get(key) {
-            Some(held) => Some(&held.prop),
-            None => None,
-        }
+        get_in(&self.form, key)
     }
 
     /// Puts the property at the key: in its place where the key is held, else last.
@@ -92,7 +85,7 @@ impl PropertyMap {
     pub(crate) fn set(&mut self, key: &Key, prop: Prop)
         ensures { self.new ≡ map (replaced key.now prop) self.old }
     {
-        set_in(&mut self.entries, key, prop);
+        set_in(&mut self.form, key, prop);
     }
 
     /// Puts the property last, at a key that has none.
@@ -101,12 +94,17 @@ impl PropertyMap {
         ensures ok { OnOk result (self.new ≡ self.old ++ (key, prop) ∷ []) }
         ensures err { OnErr result (self.new ≡ self.old) }
     {
-        let number = self.next;
-        let Some(next) = number.checked_add(1) else {
-            return Err(AllocError);
-        };
-        insert_in(&mut self.entries, key, Held { number, prop })?;
-        self.next = next;
+        self.index()?;
+        create_in(&mut self.form, key, prop)
+    }
+
+    /// Makes an index where there would be too many properties without.
+    fn index(&mut self) -> Result<(), AllocError>
+        ensures { self.new ≡ self.old }
+    {
+        if let Some(map) = indexed(&self.form)? {
+            self.form = Form::Many(map);
+        }
         Ok(())
     }
 
@@ -114,7 +112,7 @@ impl PropertyMap {
     pub(crate) fn delete(&mut self, key: &Key)
         ensures { self.new ≡ without_prop self.old key.now }
     {
-        remove_in(&mut self.entries, key);
+        remove_in(&mut self.form, key);
     }
 
     /// The keys, in the order of their creation.
@@ -126,75 +124,78 @@ impl PropertyMap {
         ensures keys { IfOk result (λ v. v.items ≡ keys_of self.now) }
         ensures once { IfOk result (λ v. IsDistinct same_key v.items) }
     {
-        let sorted = by_number(listed(alloc, &self.entries)?);
-        let keys = copied_keys(alloc, &sorted)?;
-        Ok(keys)
+        keys_in(alloc, &self.form)
     }
 }
 
-/// Puts the property in the place of that which the key has, with its number.
-fn set_in(entries: &mut IndexMap<Key, Held>, key: &Key, prop: Prop)
-    ensures changed { entries.new.entries ≡ map (changed key.now prop) entries.old.entries }
-    ensures unique { IsUnique same_key entries.new }
+fn get_in<'a>(form: &'a Form, key: &Key) -> Option<&'a Prop>
+    requires { IsHeldOnce form.now }
+    ensures { option_copied result ≡ prop_at (props_in form.now) key.now }
 {
-    if let Some(held) = entries.get_mut(key) {
-        held.prop = prop;
+    match form {
+        Form::Few(entries) => get_few(entries.as_slice(), key),
+        Form::Many(map) => map.get(key),
     }
 }
 
-/// Puts an entry at the key.
-fn insert_in(entries: &mut IndexMap<Key, Held>, key: Key, held: Held) -> Result<(), AllocError>
-    ensures ok { OnOk result (entries.new.entries ≡ insert_entry same_key entries.old.entries key held) }
-    ensures err { OnErr result (entries.new.entries ≡ entries.old.entries) }
-    ensures unique { IsUnique same_key entries.new }
+fn set_in(form: &mut Form, key: &Key, prop: Prop)
+    requires { IsHeldOnce form.old }
+    ensures set { props_in form.new ≡ map (replaced key.now prop) (props_in form.old) }
+    ensures once { IsHeldOnce form.new }
 {
-    match entries.insert(key, held) {
-        Ok(_) => Ok(()),
-        Err(_) => Err(AllocError),
+    match form {
+        Form::Few(entries) => set_few(entries, key, prop),
+        Form::Many(map) => map.set(key, prop),
     }
 }
 
-/// Removes the entry at the key; the last one takes its place.
-fn remove_in(entries: &mut IndexMap<Key, Held>, key: &Key)
-    ensures leaves { Leaves (λ e. not (same_key key.now e.0)) entries.old.entries entries.new.entries }
-    ensures unique { IsUnique same_key entries.new }
+fn create_in(form: &mut Form, key: Key, prop: Prop) -> Result<(), AllocError>
+    requires once { IsHeldOnce form.old }
+    requires absent { prop_at (props_in form.old) key ≡ None }
+    ensures ok { OnOk result (props_in form.new ≡ props_in form.old ++ (key, prop) ∷ []) }
+    ensures err { OnErr result (props_in form.new ≡ props_in form.old) }
+    ensures once { IsHeldOnce form.new }
 {
-    if let Some(index) = entries.get_index_of(key) {
-        let _removed = entries.swap_remove_index(index);
+    match form {
+        Form::Few(entries) => push_few(entries, key, prop),
+        Form::Many(map) => map.create(key, prop),
     }
 }
 
-/// The entries, by reference.
-fn listed<'a>(
-    alloc: Global,
-    entries: &'a IndexMap<Key, Held>,
-) -> Result<Vec<(&'a Key, &'a Held)>, AllocError>
-    ensures { IfOk result (λ v. map deref_pair v.items ≡ entries.now.entries) }
+/// The properties with an index, where they have none and there would be too many.
+fn indexed(form: &Form) -> Result<Option<Box<NumberedMap>>, AllocError>
+    requires { IsHeldOnce form.now }
+    ensures { IfOk result (λ found. IfSome found (λ map. map.value ≡ props_in form.now)) }
 {
-    let mut list = Vec::with_capacity(alloc, entries.len())?;
-    for (key, held) in entries {
-        list.push((key, held))?;
+    match form {
+        Form::Few(entries) if entries.len() >= MOST_FEW => {
+            let alloc = *entries.allocator();
+            let map = numbered(alloc, entries.as_slice())?;
+            let boxed = Box::new(alloc, map)?;
+            Ok(Some(boxed))
+        }
+        Form::Few(_) | Form::Many(_) => Ok(None),
     }
-    Ok(list)
 }
 
-/// The entries in the order of their numbers.
-fn by_number<'a>(entries: Vec<(&'a Key, &'a Held)>) -> Vec<(&'a Key, &'a Held)>
-    ensures same { IsPermutation entries.entry.items result.items }
-    ensures ascending { IsNonDecreasingBy (λ e. e.1.now.number) result.items }
+fn remove_in(form: &mut Form, key: &Key)
+    requires { IsHeldOnce form.old }
+    ensures removed { props_in form.new ≡ without_prop (props_in form.old) key.now }
+    ensures once { IsHeldOnce form.new }
 {
-    let mut entries = entries;
-    entries.sort_unstable_by_key(|entry| entry.1.number);
-    entries
+    match form {
+        Form::Few(entries) => remove_few(entries, key),
+        Form::Many(map) => map.delete(key),
+    }
 }
 
-/// Copies of the keys.
-fn copied_keys(alloc: Global, entries: &[(&Key, &Held)]) -> Result<Vec<Key>, AllocError>
-    ensures { IfOk result (λ v. v.items ≡ map (λ e. e.0.now) entries.now) }
+fn keys_in(alloc: Global, form: &Form) -> Result<Vec<Key>, AllocError>
+    requires { IsHeldOnce form.now }
+    ensures keys { IfOk result (λ v. v.items ≡ keys_of (props_in form.now)) }
+    ensures once { IfOk result (λ v. IsDistinct same_key v.items) }
 {
-    let mut keys = Vec::with_capacity(alloc, entries.len())?;
-    for (key, _) in entries {
-        keys.push(key.copy()?)?;
+    match form {
+        Form::Few(entries) => keys_of_few(alloc, entries.as_slice()),
+        Form::Many(map) => map.keys_in_order(alloc),
     }
-    Ok(keys)
 }
