@@ -58,7 +58,7 @@ outside_is u [] e = refl
 outside_is u (frame ∷ stack) e = go frame.block e
   where
     go : (b : OpenBlock) → is_steps b ≡ false → is_outside (Rattle.widl_script.specs.Building.block_open u (statements_at u frame.before.items) b ∷ opens_of u stack) ≡ true
-    go (block.Steps target lines spots) e = absurd (let bad : true ≡ false = e in cc)
+    go (block.Steps target lines) e = absurd (let bad : true ≡ false = e in cc)
     go block.Try e = refl
     go (block.Catch body name) e = refl
     go (block.Then left right) e = refl
@@ -73,7 +73,7 @@ line_rule [] e = refl
 line_rule (frame ∷ stack) e = go frame.block e
   where
     go : (b : OpenBlock) → is_steps b ≡ false → start_of (Some (kind_of b)) ≡ rule.Line
-    go (block.Steps target lines spots) e = absurd (let bad : true ≡ false = e in cc)
+    go (block.Steps target lines) e = absurd (let bad : true ≡ false = e in cc)
     go block.Try e = refl
     go (block.Catch body name) e = refl
     go (block.Then left right) e = refl
@@ -85,7 +85,7 @@ step_rule [] e = absurd (let bad : false ≡ true = e in cc)
 step_rule (frame ∷ stack) e = go frame.block e
   where
     go : (b : OpenBlock) → is_steps b ≡ true → start_of (Some (kind_of b)) ≡ rule.StepLine
-    go (block.Steps target lines spots) e = refl
+    go (block.Steps target lines) e = refl
     go block.Try e = absurd (let bad : false ≡ true = e in cc)
     go (block.Catch body name) e = absurd (let bad : false ≡ true = e in cc)
     go (block.Then left right) e = absurd (let bad : false ≡ true = e in cc)
@@ -151,7 +151,7 @@ block_up a b g (block.Catch body name) s = (omega (arith, s.0, extends_length g.
 block_up a b g (block.Then left right) s = (omega (arith, s.0, extends_length g.expressions), omega (arith, s.1, extends_length g.expressions))
 block_up a b g (block.Else left right met) s = (omega (arith, s.0, extends_length g.expressions), omega (arith, s.1, extends_length g.expressions), omega (arith, s.2, extends_length g.statements))
 block_up a b g (block.Function head outer) s = (omega (arith, s.0, extends_length g.names), names_up a b g head.params s.1, names_up a b g outer s.2)
-block_up a b g (block.Steps target lines spots) s = tt
+block_up a b g (block.Steps target lines) s = tt
 
 pub frame_up : (a b : Tables) → Grown a b → (f : Frame) → IsSoundFrame a f → IsSoundFrame b f
 frame_up a b g f s = record { sound = block_up a b g f.block s.sound; before = statements_up a b g f.before.items s.before }

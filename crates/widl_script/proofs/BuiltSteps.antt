@@ -25,7 +25,7 @@ use Rattle.widl_script.specs.SpelledExpressions.{number_signs}
 use Rattle.widl_script.specs.SpelledTargets.{target_name, overload_signs, owner_of, part_signs, target_signs}
 use Rattle.widl_script.specs.SpelledSteps.{literal_signs, value_signs, source_signs, slot_source_signs, more_sources, source_list, called_signs}
 use Rattle.widl_script.specs.Reading.{Symbols, token, part, Reads, terminal_ahead, IfAhead}
-use Rattle.widl_script.specs.StepReading.{is_plain_literal, IsPlainLiteral, is_plain_value, IsPlainValue, is_step_word, is_block_word, IsTextAhead, HoldsPart}
+use Rattle.widl_script.specs.StepReading.{is_plain_literal, IsPlainLiteral, is_plain_value, IsPlainValue, is_step_word, is_block_word, IsTextAhead, HoldsPart, HoldsOperation}
 use Rattle.widl_script.proofs.Parts.{follow, before, nothing, of_signs, took, took_as, took_word, took_nested, by_row, by_only, by_test, by_none, if_ahead}
 
 -- 1. Words
@@ -298,6 +298,9 @@ invoke_line_read i from one to a b c d f block e read = go (terminal_ahead from)
 
 pub overload_read : (k : ℕ) (text : List ℕ) (from mid to : List Lexeme) → mid ≡ drop 1 from → k ≡ min (magnitude text) (2 ^ 32 - 1) → IfAhead mid (λ w. text ≡ w.text) → to ≡ drop 1 mid → Reads (part rule.OverloadNumber) [] (overload_signs k) from to
 overload_read k text from mid to e same held f = by_only rule.OverloadNumber refl (follow (took t.NumberSign _ e) (index_took k text [] mid to same held f))
+
+pub by_operation : (owner text : Text) (fixed : Bool) (t : Target) (start from to : List Lexeme) → HoldsOperation owner text fixed t from to → ((k : ℕ) → Reads (part rule.OverloadNumber) [] (overload_signs k) from to → HoldsPart owner (target.Operation owner text fixed k) start to) → HoldsPart owner t start to
+by_operation owner text fixed t start from to h f = subst (λ (x : Target). HoldsPart owner x start to) (sym h.is) (f h.overload h.reads)
 
 pub constructor_holds : (owner : Text) (k : ℕ) (from mid to : List Lexeme) → terminal_ahead from ≡ t.Constructor → mid ≡ drop 1 from → Reads (part rule.OverloadNumber) [] (overload_signs k) mid to → HoldsPart owner (target.Constructor owner k) from to
 constructor_holds owner k from mid to begins e read = record { owner_is = refl; reads = by_row rule.TargetRest t.Constructor begins refl refl (follow (by_row rule.PlainTargetName t.Constructor begins refl refl (took t.Constructor _ e)) read) }

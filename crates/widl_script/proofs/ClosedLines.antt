@@ -24,8 +24,6 @@ use Rattle.widl_script.specs.declared.build.frames.OpenBlock.TheVariants as bloc
 use Rattle.widl_script.specs.declared.build.frames.Frame.{Frame}
 use Rattle.widl_script.specs.declared.build.frames.Builder.{Builder}
 use Rattle.widl_script.specs.declared.build.functions.FunctionHead.{FunctionHead}
-use Rattle.widl_script.specs.declared.spots.Spot.{Spot}
-use Rattle.widl_script.specs.declared.spots.BlockSpots.{BlockSpots}
 use Rattle.widl_script.specs.Signs.{SpellsLine, word}
 use Rattle.widl_script.specs.SpelledStatements.{Lines, end_signs, followed_by}
 use Rattle.widl_script.specs.OpenBlocks.{Open, Standing}
@@ -54,8 +52,8 @@ closed_stands tree before old new all rest u g c h =
     (ap (statements_at u) c.places ∙ statements_snoc u before c.place ∙ ap (λ (x : StatementTree). followed_by (statements_at u before) (then_more x no_statements)) (c.is u g))
     (ap (λ (x : List Function). length x) c.functions) (ap (map (function_tree u)) c.functions) (ap (map (name_at u)) c.names) h
 
-pub catch_frame : (body : Row) (name : ℕ) (spot : Spot) (frame : Frame) (old new : Builder) → frame.block ≡ block.Catch body name → Sound old → IsSoundFrame old.nodes frame → IsClosed (tried_tree body name old.places.items) frame.before.items old new → FrameClosed frame old new
-catch_frame body name spot frame old new is sound f c = subst (λ (b : OpenBlock). FrameClosed (record frame { block = b }) old new) (sym is) (record {
+pub catch_frame : (body : Row) (name : ℕ) (frame : Frame) (old new : Builder) → frame.block ≡ block.Catch body name → Sound old → IsSoundFrame old.nodes frame → IsClosed (tried_tree body name old.places.items) frame.before.items old new → FrameClosed frame old new
+catch_frame body name frame old new is sound f c = subst (λ (b : OpenBlock). FrameClosed (record frame { block = b }) old new) (sym is) (record {
   sound = closed_sound _ frame.before.items old new sound f.before c;
   grown = c.grown;
   frames = c.frames;
@@ -81,8 +79,8 @@ else_frame left right met frame old new is sound f c = subst (λ (b : OpenBlock)
       (stands_else_closed all (opens_of u (stack_of old)) (kept_of u (stack_of old)) (statements_at u frame.before.items) (statements_tree u met) (statements_at u old.places.items) (expression_tree u left) (expression_tree u right) _ _ _ words rest (outside_is u (stack_of old) out.0) spells h);
 })
 
-pub steps_frame : (target : Target) (lines : List StepLine) (spots : BlockSpots) (frame : Frame) (old new : Builder) → frame.block ≡ block.Steps target lines spots → Sound old → IsClosed (steps_tree target lines) old.places.items old new → FrameClosed frame old new
-steps_frame target lines spots frame old new is sound c = subst (λ (b : OpenBlock). FrameClosed (record frame { block = b }) old new) (sym is) (record {
+pub steps_frame : (target : Target) (lines : List StepLine) (frame : Frame) (old new : Builder) → frame.block ≡ block.Steps target lines → Sound old → IsClosed (steps_tree target lines) old.places.items old new → FrameClosed frame old new
+steps_frame target lines frame old new is sound c = subst (λ (b : OpenBlock). FrameClosed (record frame { block = b }) old new) (sym is) (record {
   sound = closed_sound _ old.places.items old new sound sound.places c;
   grown = c.grown;
   frames = c.frames;
@@ -129,7 +127,7 @@ closes (block.Catch body name) f = refl
 closes (block.Then left right) f = refl
 closes (block.Else left right met) f = refl
 closes (block.Function head outers) f = refl
-closes (block.Steps target lines spots) f = refl
+closes (block.Steps target lines) f = refl
 
 -- an `end` closes the block of the frame that was taken off the stack
 pub end_done : (old mid new : Builder) (frame : Frame) (words : List Lexeme) → terminal_ahead words ≡ t.End → old.frames.items ≡ mid.frames.items ++ frame ∷ [] → mid.nodes ≡ old.nodes → mid.places.items ≡ old.places.items → mid.names ≡ old.names → FrameClosed frame mid new → IsDone old new words

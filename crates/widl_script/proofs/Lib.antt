@@ -4,7 +4,6 @@ mod Unique
 mod UniqueLines
 mod UniqueSteps
 mod UniqueScripts
-pub mod Beside
 pub mod Growing
 pub mod Parts
 pub mod Built

@@ -23,7 +23,6 @@ use Rattle.widl_script.specs.declared.build.frames.OpenBlock.{OpenBlock}
 use Rattle.widl_script.specs.declared.build.frames.OpenBlock.TheVariants as block
 use Rattle.widl_script.specs.declared.build.frames.Frame.{Frame}
 use Rattle.widl_script.specs.declared.build.frames.Builder.{Builder}
-use Rattle.widl_script.specs.declared.spots.BlockSpots.{BlockSpots}
 use Rattle.widl_script.specs.Signs.{SpellsLine, word, ◌⧺◌, name}
 use Rattle.widl_script.specs.SpelledTargets.{target_signs}
 use Rattle.widl_script.specs.SpelledSteps.{step_signs}
@@ -80,7 +79,7 @@ else_sound b row block.Try lower s = s
 else_sound b row (block.Catch body name) lower s = s
 else_sound b row (block.Else left right met) lower s = s
 else_sound b row (block.Function head outer) lower s = s
-else_sound b row (block.Steps target lines spots) lower s = s
+else_sound b row (block.Steps target lines) lower s = s
 
 pub else_done : (old new : Builder) (frame other : Frame) (popped : List Frame) (row : Row) (places : List ℕ) (words to : List Lexeme) → Sound old → terminal_ahead words ≡ t.Else → to ≡ drop 1 words → places ≡ old.places.items → IsStatementRow row places old.nodes new.nodes → old.frames.items ≡ popped ++ frame ∷ [] → new.frames.items ≡ popped ++ other ∷ [] → other.block ≡ with_else frame.block row → other.before.items ≡ frame.before.items → new.places.items ≡ [] → new.names ≡ old.names → IsDone old new words
 else_done old new frame other popped row places words to sound begins rest at put was is turned before empty names = go frame.block refl
@@ -158,7 +157,7 @@ else_done old new frame other popped row places words to sound begins rest at pu
     go (block.Catch body name) e = none (block.Catch body name) e refl
     go (block.Else left right met) e = none (block.Else left right met) e refl
     go (block.Function head outer) e = none (block.Function head outer) e refl
-    go (block.Steps target lines spots) e = none (block.Steps target lines spots) e refl
+    go (block.Steps target lines) e = none (block.Steps target lines) e refl
 
 pub else_none : (old new : Builder) (row : Row) (places : List ℕ) (words : List Lexeme) → Sound old → terminal_ahead words ≡ t.Else → IsStatementRow row places old.nodes new.nodes → old.frames.items ≡ [] → new.frames.items ≡ [] → new.places.items ≡ old.places.items → new.names ≡ old.names → IsDone old new words
 else_none old new row places words sound begins put was is same names = cant_be old new words
@@ -182,7 +181,7 @@ catch_sound b row number (block.Then left right) lower n s = s
 catch_sound b row number (block.Catch body text) lower n s = s
 catch_sound b row number (block.Else left right met) lower n s = s
 catch_sound b row number (block.Function head outer) lower n s = s
-catch_sound b row number (block.Steps target lines spots) lower n s = s
+catch_sound b row number (block.Steps target lines) lower n s = s
 
 pub catch_done : (old new : Builder) (mid : Tables) (frame other : Frame) (popped : List Frame) (row : Row) (number : ℕ) (places : List ℕ) (words one to : List Lexeme) → Sound old → terminal_ahead words ≡ t.Catch → one ≡ drop 1 words → Widens old.nodes mid → IsNameAhead old.nodes mid number one to → places ≡ old.places.items → IsStatementRow row places mid new.nodes → old.frames.items ≡ popped ++ frame ∷ [] → new.frames.items ≡ popped ++ other ∷ [] → other.block ≡ with_catch frame.block row number → other.before.items ≡ frame.before.items → new.places.items ≡ [] → new.names ≡ insert_key nat_eq old.names number → IsDone old new words
 catch_done old new mid frame other popped row number places words one to sound begins first w ahead at put was is turned before empty names = go frame.block refl
@@ -274,7 +273,7 @@ catch_done old new mid frame other popped row number places words one to sound b
     go (block.Catch body text) e = none (block.Catch body text) e refl
     go (block.Else left right met) e = none (block.Else left right met) e refl
     go (block.Function head outer) e = none (block.Function head outer) e refl
-    go (block.Steps target lines spots) e = none (block.Steps target lines spots) e refl
+    go (block.Steps target lines) e = none (block.Steps target lines) e refl
 
 pub catch_none : (old new : Builder) (mid : Tables) (row : Row) (places : List ℕ) (words : List Lexeme) → Sound old → terminal_ahead words ≡ t.Catch → Widens old.nodes mid → IsStatementRow row places mid new.nodes → old.frames.items ≡ [] → new.frames.items ≡ [] → new.places.items ≡ old.places.items → new.names ≡ old.names → IsDone old new words
 catch_none old new mid row places words sound begins w put was is same names =
@@ -292,7 +291,7 @@ catch_none old new mid row places words sound begins w put was is same names =
 -- 5. Step lines
 
 step_sound : (b : Tables) (step : StepLine) (x y : OpenBlock) → StepAdded step x y → IsSoundBlock b x → IsSoundBlock b y
-step_sound b step (block.Steps target lines spots) y h s = subst (IsSoundBlock b) (sym h.1) tt
+step_sound b step (block.Steps target lines) y h s = subst (IsSoundBlock b) (sym h) tt
 step_sound b step block.Try y h s = subst (IsSoundBlock b) (sym h) s
 step_sound b step (block.Then left right) y h s = subst (IsSoundBlock b) (sym h) s
 step_sound b step (block.Catch body text) y h s = subst (IsSoundBlock b) (sym h) s
@@ -325,12 +324,12 @@ step_done old new frame other popped step words to sound inside plain read was i
     none : (x : OpenBlock) → frame.block ≡ x → is_steps x ≡ false → IsDone old new words
     none x e other_ = absurd (let bad : true ≡ false = sym steps_is ∙ ap is_steps e ∙ other_ in cc)
 
-    steps_read : (target : Target) (lines : List StepLine) (spots : BlockSpots) → frame.block ≡ block.Steps target lines spots → IsDone old new words
-    steps_read target lines spots e = record {
+    steps_read : (target : Target) (lines : List StepLine) → frame.block ≡ block.Steps target lines → IsDone old new words
+    steps_read target lines e = record {
       sound = new_sound;
       grown = grown;
       read = record {
-        kinds = λ h. top_is new popped other (block.Steps target (lines ++ step ∷ []) added_is.0) is added_is.1 ∙ sym (top_is old popped frame (block.Steps target lines spots) was e) ∙ sym (stay_is words (kinds_of (stack_of old)) plain);
+        kinds = λ h. top_is new popped other (block.Steps target (lines ++ step ∷ [])) is added_is ∙ sym (top_is old popped frame (block.Steps target lines) was e) ∙ sym (stay_is words (kinds_of (stack_of old)) plain);
         stands = λ h all rest u g s. record {
           standing = stood u g all rest h s.standing;
           outside = subst AllOutside (sym new_stack) (outside s.outside);
@@ -338,13 +337,13 @@ step_done old new frame other popped step words to sound inside plain read was i
       };
     }
       where
-        added_is : StepAdded step (block.Steps target lines spots) other.block
+        added_is : StepAdded step (block.Steps target lines) other.block
         added_is = subst (λ x. StepAdded step x other.block) e added
 
         outside : AllOutside (stack_of old) → AllOutside (other ∷ reverse popped)
         outside o =
             let p : AllOutside (frame ∷ reverse popped) = subst AllOutside old_stack o in
-            (subst (λ x. StandsOutside x (reverse popped)) (sym added_is.1) tt, p.1)
+            (subst (λ x. StandsOutside x (reverse popped)) (sym added_is) tt, p.1)
 
         stood : (u : Tables) → Grown new.nodes u → (all rest : Lines) → LineBreaks (kinds_of (stack_of old)) words None → Stood all u old.nodes (stack_of old) old.places.items old.names (words ∷ rest) → Stood all u new.nodes (stack_of new) new.places.items new.names rest
         stood u g all rest h s =
@@ -359,8 +358,8 @@ step_done old new frame other popped step words to sound inside plain read was i
             (sym (ap (kept_of u) old_stack ∙ ap (λ x. kept_by u x kept) e))
             refl refl refl refl s in
             standing_at all _ _ _ _ _ _ _ _ _ _ _ _ rest
-            (ap (opens_of u) new_stack ∙ ap (λ x. block_open u (statements_at u other.before.items) x ∷ opens) added_is.1)
-            (ap (kept_of u) new_stack ∙ ap (λ x. kept_by u x kept) added_is.1)
+            (ap (opens_of u) new_stack ∙ ap (λ x. block_open u (statements_at u other.before.items) x ∷ opens) added_is)
+            (ap (kept_of u) new_stack ∙ ap (λ x. kept_by u x kept) added_is)
             (ap (statements_at u) places)
             (ap (λ (x : Tables). length x.functions) nodes)
             (ap (λ (x : Tables). map (function_tree u) x.functions) nodes)
@@ -368,7 +367,7 @@ step_done old new frame other popped step words to sound inside plain read was i
             (stands_step all opens kept target lines step done _ _ _ words rest spelled here)
 
     go : (x : OpenBlock) → frame.block ≡ x → IsDone old new words
-    go (block.Steps target lines spots) e = steps_read target lines spots e
+    go (block.Steps target lines) e = steps_read target lines e
     go block.Try e = none block.Try e refl
     go (block.Then left right) e = none (block.Then left right) e refl
     go (block.Catch body text) e = none (block.Catch body text) e refl
@@ -380,8 +379,8 @@ step_none old new words inside was = absurd (let bad : false ≡ true = sym (ap 
 
 -- 6. `steps`
 
-pub steps_done : (old new : Builder) (frame : Frame) (target : Target) (lines : List StepLine) (spots : BlockSpots) (words one to : List Lexeme) → Sound old → terminal_ahead words ≡ t.Steps → one ≡ drop 1 words → Reads (part rule.Target) [] (target_signs target) one to → new.frames.items ≡ old.frames.items ++ frame ∷ [] → frame.block ≡ block.Steps target lines spots → lines ≡ [] → frame.before.items ≡ [] → new.nodes ≡ old.nodes → new.places.items ≡ old.places.items → new.names ≡ old.names → IsDone old new words
-steps_done old new frame target lines spots words one to sound begins first read is e nil before nodes places names = record {
+pub steps_done : (old new : Builder) (frame : Frame) (target : Target) (lines : List StepLine) (words one to : List Lexeme) → Sound old → terminal_ahead words ≡ t.Steps → one ≡ drop 1 words → Reads (part rule.Target) [] (target_signs target) one to → new.frames.items ≡ old.frames.items ++ frame ∷ [] → frame.block ≡ block.Steps target lines → lines ≡ [] → frame.before.items ≡ [] → new.nodes ≡ old.nodes → new.places.items ≡ old.places.items → new.names ≡ old.names → IsDone old new words
+steps_done old new frame target lines words one to sound begins first read is e nil before nodes places names = record {
   sound = record {
     differ = subst (λ (x : Tables). Distinct x.names) (sym nodes) sound.differ;
     places = subst (AllStatements new.nodes) (sym places) (statements_up old.nodes new.nodes grown old.places.items sound.places);

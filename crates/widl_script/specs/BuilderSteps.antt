@@ -13,7 +13,6 @@ use Rattle.widl_script_tree.specs.Growth.{Grown}
 use Rattle.widl_script.specs.declared.build.frames.OpenBlock.{OpenBlock}
 use Rattle.widl_script.specs.declared.build.frames.OpenBlock.TheVariants as block
 use Rattle.widl_script.specs.declared.build.frames.Frame.{Frame}
-use Rattle.widl_script.specs.declared.spots.BlockSpots.{BlockSpots}
 use Rattle.widl_script.specs.declared.build.frames.Builder.{Builder}
 use Rattle.widl_script.specs.declared.build.functions.FunctionHead.{FunctionHead}
 use Rattle.widl_script.specs.Signs.{SpellsLine}
@@ -105,5 +104,5 @@ with_else b met = b
 
 -- a step line was put at the end of a steps block
 abbrev pub StepAdded : StepLine → OpenBlock → OpenBlock → Type 0
-StepAdded step (block.Steps target lines spots) new = (kept : BlockSpots) × (new ≡ block.Steps target (lines ++ step ∷ []) kept)
+StepAdded step (block.Steps target lines) new = new ≡ block.Steps target (lines ++ step ∷ [])
 StepAdded step b new = new ≡ b

@@ -27,7 +27,7 @@ block_open u before (block.Catch body name) = InCatch before (statements_tree u 
 block_open u before (block.Then left right) = InThen before (expression_tree u left) (expression_tree u right)
 block_open u before (block.Else left right met) = InElse before (expression_tree u left) (expression_tree u right) (statements_tree u met)
 block_open u before (block.Function head outer) = InFunction before (name_at u head.name) (map (name_at u) head.params)
-block_open u before (block.Steps target lines spots) = InSteps target lines
+block_open u before (block.Steps target lines) = InSteps target lines
 
 abbrev pub open_of : Tables → Frame → Open
 open_of u frame = block_open u (statements_at u frame.before.items) frame.block
@@ -42,7 +42,7 @@ kind_of (block.Catch body name) = kind.Catch
 kind_of (block.Then left right) = kind.If
 kind_of (block.Else left right met) = kind.Else
 kind_of (block.Function head outer) = kind.Function
-kind_of (block.Steps target lines spots) = kind.Steps
+kind_of (block.Steps target lines) = kind.Steps
 
 -- the frames, the innermost first, and what kinds of blocks they are
 abbrev pub stack_of : Builder → List Frame
@@ -59,7 +59,7 @@ IsSoundBlock t (block.Catch body name) = IsLowerRow (length t.statements) body �
 IsSoundBlock t (block.Then left right) = IsExpression t left × IsExpression t right
 IsSoundBlock t (block.Else left right met) = IsExpression t left × IsExpression t right × IsLowerRow (length t.statements) met
 IsSoundBlock t (block.Function head outer) = IsName t head.name × All (IsName t) head.params × All (IsName t) outer
-IsSoundBlock t (block.Steps target lines spots) = Unit {0}
+IsSoundBlock t (block.Steps target lines) = Unit {0}
 
 pub record IsSoundFrame (t : Tables) (frame : Frame) : Type 0 where
   pub sound : IsSoundBlock t frame.block
@@ -88,7 +88,7 @@ abbrev pub Stood : Lines → Tables → Tables → List Frame → List ℕ → L
 Stood all u t stack places names rest = Standing all (opens_of u stack) (kept_of u stack) (statements_at u places) (length t.functions) (map (function_tree u) t.functions) (map (name_at u) names) rest
 
 abbrev pub is_steps : OpenBlock → Bool
-is_steps (block.Steps target lines spots) = true
+is_steps (block.Steps target lines) = true
 is_steps _ = false
 
 -- the innermost block is a steps block
@@ -99,7 +99,7 @@ is_in_steps (frame ∷ stack) = is_steps frame.block
 -- no step line begins with `try` or `if`
 abbrev pub StandsOutside : OpenBlock → List Frame → Type 0
 StandsOutside (block.Function head outer) stack = Unit {0}
-StandsOutside (block.Steps target lines spots) stack = Unit {0}
+StandsOutside (block.Steps target lines) stack = Unit {0}
 StandsOutside _ stack = is_in_steps stack ≡ false
 
 abbrev pub AllOutside : List Frame → Type 0

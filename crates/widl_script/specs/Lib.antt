@@ -6,7 +6,6 @@ pub mod SpelledSteps
 pub mod Functions
 pub mod SpelledStatements
 pub mod OneTree
-pub mod Spots
 pub mod Reading
 pub mod ReadLines
 pub mod StepReading

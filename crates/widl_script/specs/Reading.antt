@@ -107,7 +107,7 @@ pub record Holds (before after : Symbols) (t : Tables) (place : ℕ) (from to : 
   pub within : place < length t.expressions
   pub reads : (u : Tables) → Grown t u → Reads before after (signs (expression_tree u place)) from to
 
--- the tree at the place goes on from that at an earlier one by what was read
+-- the words of the tree at a place are those of the tree at another one, and then what was read
 pub record Continues (link : Symbols) (t : Tables) (of place : ℕ) (from to : List Lexeme) : Type 0 where
   pub within : place < length t.expressions
   pub more : (u : Tables) → Grown t u → (x : List Sign) × (signs (expression_tree u place) ≡ signs (expression_tree u of) ⧺ x) × Reads link [] x from to

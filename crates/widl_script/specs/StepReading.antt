@@ -1,5 +1,5 @@
 -- For proofs alone. What code has read of step lines and targets.
-use Rattle.std.specs.Prelude.{◌≡◌, true, false, Bool, List, [], drop}
+use Rattle.std.specs.Prelude.{◌≡◌, ℕ, true, false, Bool, List, [], drop}
 use Rattle.widl_idl.specs.declared.literal.Literal.{Literal}
 use Rattle.widl_value.specs.declared.value.Value.{Value}
 use Rattle.widl_lines.specs.declared.grammar.Rule.TheVariants as rule
@@ -7,10 +7,11 @@ use Rattle.widl_lines.specs.declared.grammar.Terminal.{Terminal}
 use Rattle.widl_lines.specs.declared.grammar.Terminal.TheVariants as terminal
 use Rattle.widl_lines.specs.Words.{Lexeme}
 use Rattle.widl_script_tree.specs.declared.steps.Target.{Target}
+use Rattle.widl_script_tree.specs.declared.steps.Target.TheVariants as target
 use Rattle.widl_script_tree.specs.Trees.{Text}
 use Rattle.widl_script.specs.Signs.{word}
 use Rattle.widl_script.specs.SpelledSteps.{literal_signs, value_signs}
-use Rattle.widl_script.specs.SpelledTargets.{owner_of, part_signs}
+use Rattle.widl_script.specs.SpelledTargets.{overload_signs, owner_of, part_signs}
 use Rattle.widl_script.specs.Reading.{part, Reads, IfAhead}
 
 -- a constant of one word that says all, in a literal
@@ -44,7 +45,7 @@ is_step_word terminal.Throw = true
 is_step_word terminal.Invoke = true
 is_step_word _ = false
 
--- a line that opens, turns or closes a block begins with the word
+-- the first line of a block, its `catch` or `else`, or its `end` begins with the word
 abbrev pub is_block_word : Terminal → Bool
 is_block_word terminal.Function = true
 is_block_word terminal.Steps = true
@@ -64,3 +65,9 @@ pub record IsTextAhead (text : Text) (from to : List Lexeme) : Type 0 where
 pub record HoldsPart (owner : Text) (t : Target) (from to : List Lexeme) : Type 0 where
   pub owner_is : owner_of t ≡ owner
   pub reads : Reads (part rule.TargetRest) [] (part_signs t) from to
+
+-- the overload of an operation was read
+pub record HoldsOperation (owner text : Text) (fixed : Bool) (t : Target) (from to : List Lexeme) : Type 0 where
+  pub overload : ℕ
+  pub is : t ≡ target.Operation owner text fixed overload
+  pub reads : Reads (part rule.OverloadNumber) [] (overload_signs overload) from to

@@ -17,7 +17,6 @@ use crate::build::forms::{BlockWord, block_word_of};
 use crate::build::frames::{Builder, Frame, OpenBlock};
 use crate::build::functions::FunctionHead;
 use crate::build::reader::Reader;
-use crate::spots::{BlockSpots, Spot};
 use std::alloc::{AllocError, Global};
 use std::mem;
 use widl_lines::LineWords;
@@ -43,19 +42,7 @@ fn with_catch(block: OpenBlock, body: Row, name: u32) -> OpenBlock
 {
     match block {
         OpenBlock::Try => OpenBlock::Catch { body, name },
-        OpenBlock::Catch { body, name } => OpenBlock::Catch { body, name },
-        OpenBlock::Then { left, right } => OpenBlock::Then { left, right },
-        OpenBlock::Else { left, right, then } => OpenBlock::Else { left, right, then },
-        OpenBlock::Function { head, outer } => OpenBlock::Function { head, outer },
-        OpenBlock::Steps {
-            target,
-            lines,
-            spots,
-        } => OpenBlock::Steps {
-            target,
-            lines,
-            spots,
-        },
+        other => other,
     }
 }
 
@@ -65,70 +52,41 @@ fn with_else(block: OpenBlock, then: Row) -> OpenBlock
 {
     match block {
         OpenBlock::Then { left, right } => OpenBlock::Else { left, right, then },
-        OpenBlock::Try => OpenBlock::Try,
-        OpenBlock::Catch { body, name } => OpenBlock::Catch { body, name },
-        OpenBlock::Else { left, right, then } => OpenBlock::Else { left, right, then },
-        OpenBlock::Function { head, outer } => OpenBlock::Function { head, outer },
-        OpenBlock::Steps {
-            target,
-            lines,
-            spots,
-        } => OpenBlock::Steps {
-            target,
-            lines,
-            spots,
-        },
+        other => other,
     }
 }
 
 /// The block with one more step line, if it is a steps block.
-fn with_step(block: OpenBlock, step: StepLine, words: Items<Spot>) -> Result<OpenBlock, AllocError>
+fn with_step(block: OpenBlock, step: StepLine) -> Result<OpenBlock, AllocError>
     ensures { IfOk result (StepAdded step block) }
 {
     match block {
-        OpenBlock::Steps {
-            target,
-            mut lines,
-            mut spots,
-        } => {
+        OpenBlock::Steps { target, mut lines } => {
             lines.push(step)?;
-            spots.lines.push(words)?;
-            Ok(OpenBlock::Steps {
-                target,
-                lines,
-                spots,
-            })
+            Ok(OpenBlock::Steps { target, lines })
         }
-        OpenBlock::Try => Ok(OpenBlock::Try),
-        OpenBlock::Catch { body, name } => Ok(OpenBlock::Catch { body, name }),
-        OpenBlock::Then { left, right } => Ok(OpenBlock::Then { left, right }),
-        OpenBlock::Else { left, right, then } => Ok(OpenBlock::Else { left, right, then }),
-        OpenBlock::Function { head, outer } => Ok(OpenBlock::Function { head, outer }),
+        other => Ok(other),
     }
 }
 
 impl Builder {
     /// Puts a statement after those of the innermost list.
-    fn add(&mut self, statement: Statement, spot: Spot) -> Result<(), AllocError>
+    fn add(&mut self, statement: Statement) -> Result<(), AllocError>
         requires lower { IsLowerStatement self.old.nodes (length self.old.nodes.statements) statement }
         requires body { IsBodyLower self.old.nodes (length self.old.nodes.statements) statement }
         ensures { OnOk result (IsAdded statement self.old self.new) }
     {
-        let place = self.nodes.put_statement(statement, spot)?;
+        let place = self.nodes.put_statement(statement)?;
         self.places.push(place)?;
         Ok(())
     }
 
     /// Opens a block that has a list of statements.
-    fn open(&mut self, alloc: Global, block: OpenBlock, spot: Spot) -> Result<(), AllocError>
+    fn open(&mut self, alloc: Global, block: OpenBlock) -> Result<(), AllocError>
         ensures { OnOk result (IsOpened block self.old self.new) }
     {
         let before = mem::replace(&mut self.places, Vec::new(alloc));
-        self.frames.push(Frame {
-            block,
-            spot,
-            before,
-        })?;
+        self.frames.push(Frame { block, before })?;
         Ok(())
     }
 
@@ -156,13 +114,7 @@ impl Builder {
     }
 
     /// The end of the lines after a `catch`.
-    fn end_catch(
-        &mut self,
-        body: Row,
-        name: u32,
-        before: Vec<u32>,
-        spot: Spot,
-    ) -> Result<(), AllocError>
+    fn end_catch(&mut self, body: Row, name: u32, before: Vec<u32>) -> Result<(), AllocError>
         requires places { AllStatements self.old.nodes self.old.places.items }
         requires body { IsLowerRow (length self.old.nodes.statements) body }
         requires name { IsName self.old.nodes name }
@@ -170,24 +122,15 @@ impl Builder {
     {
         let handler = self.nodes.put_statements(&self.places)?;
         self.places = before;
-        self.add(
-            Statement::Try {
-                body,
-                name,
-                handler,
-            },
-            spot,
-        )
+        self.add(Statement::Try {
+            body,
+            name,
+            handler,
+        })
     }
 
     /// The end of an `if` without an `else`.
-    fn end_then(
-        &mut self,
-        left: u32,
-        right: u32,
-        before: Vec<u32>,
-        spot: Spot,
-    ) -> Result<(), AllocError>
+    fn end_then(&mut self, left: u32, right: u32, before: Vec<u32>) -> Result<(), AllocError>
         requires places { AllStatements self.old.nodes self.old.places.items }
         requires left { IsExpression self.old.nodes left }
         requires right { IsExpression self.old.nodes right }
@@ -195,15 +138,12 @@ impl Builder {
     {
         let then = self.nodes.put_statements(&self.places)?;
         self.places = before;
-        self.add(
-            Statement::If {
-                left,
-                right,
-                then,
-                otherwise: Row { first: 0, count: 0 },
-            },
-            spot,
-        )
+        self.add(Statement::If {
+            left,
+            right,
+            then,
+            otherwise: Row { first: 0, count: 0 },
+        })
     }
 
     /// The end of the lines after an `else`.
@@ -213,7 +153,6 @@ impl Builder {
         right: u32,
         then: Row,
         before: Vec<u32>,
-        spot: Spot,
     ) -> Result<(), AllocError>
         requires places { AllStatements self.old.nodes self.old.places.items }
         requires left { IsExpression self.old.nodes left }
@@ -223,15 +162,12 @@ impl Builder {
     {
         let otherwise = self.nodes.put_statements(&self.places)?;
         self.places = before;
-        self.add(
-            Statement::If {
-                left,
-                right,
-                then,
-                otherwise,
-            },
-            spot,
-        )
+        self.add(Statement::If {
+            left,
+            right,
+            then,
+            otherwise,
+        })
     }
 
     /// The end of a function.
@@ -240,7 +176,6 @@ impl Builder {
         head: FunctionHead,
         outer: LocalNames,
         before: Vec<u32>,
-        spot: Spot,
     ) -> Result<(), AllocError>
         requires places { AllStatements self.old.nodes self.old.places.items }
         requires name { IsName self.old.nodes head.name }
@@ -251,33 +186,23 @@ impl Builder {
         let body = self.nodes.put_statements(&self.places)?;
         self.places = before;
         let names = mem::replace(&mut self.names, outer);
-        let FunctionHead {
-            name,
-            params,
-            spots,
-        } = head;
+        let FunctionHead { name, params } = head;
         let function = Function {
             name,
             params,
             names,
             body,
         };
-        let number = self.nodes.put_function(function, spots)?;
-        self.add(Statement::Function(number), spot)
+        let number = self.nodes.put_function(function)?;
+        self.add(Statement::Function(number))
     }
 
     /// The end of a steps block.
-    fn end_steps(
-        &mut self,
-        target: Target,
-        lines: StepLines,
-        spots: BlockSpots,
-        spot: Spot,
-    ) -> Result<(), AllocError>
+    fn end_steps(&mut self, target: Target, lines: StepLines) -> Result<(), AllocError>
         ensures { OnOk result (IsClosed (steps_tree target lines) self.old.places.items self.old self.new) }
     {
-        let number = self.nodes.put_steps(StepsBlock { target, lines }, spots)?;
-        self.add(Statement::Steps(number), spot)
+        let number = self.nodes.put_steps(StepsBlock { target, lines })?;
+        self.add(Statement::Steps(number))
     }
 
     /// A statement of one line.
@@ -287,10 +212,9 @@ impl Builder {
         requires other { is_block_word (terminal_ahead reader.old) ≡ false }
         ensures { OnOk result (IsDone self.old self.new reader.old) }
     {
-        let spot = reader.spot();
         let statement = reader.statement_line(&mut self.nodes)?;
         self.bind(statement)?;
-        self.add(statement, spot)
+        self.add(statement)
     }
 
     /// `try`.
@@ -299,9 +223,8 @@ impl Builder {
         requires begins { terminal_ahead reader.old ≡ terminal.Try }
         ensures { OnOk result (IsDone self.old self.new reader.old) }
     {
-        let spot = reader.spot();
         reader.take();
-        self.open(alloc, OpenBlock::Try, spot)
+        self.open(alloc, OpenBlock::Try)
     }
 
     /// `if` with the two expressions that it compares.
@@ -310,10 +233,9 @@ impl Builder {
         requires begins { terminal_ahead reader.old ≡ terminal.If }
         ensures { OnOk result (IsDone self.old self.new reader.old) }
     {
-        let spot = reader.spot();
         reader.take();
         let (left, right) = reader.if_head(&mut self.nodes)?;
-        self.open(alloc, OpenBlock::Then { left, right }, spot)
+        self.open(alloc, OpenBlock::Then { left, right })
     }
 
     /// `function` with its name and its parameters.
@@ -326,12 +248,11 @@ impl Builder {
         requires begins { terminal_ahead reader.old ≡ terminal.Function }
         ensures { OnOk result (IsDone self.old self.new reader.old) }
     {
-        let spot = reader.spot();
         reader.take();
         let head = reader.function_head(&mut self.nodes)?;
         let names = local_params(alloc, &head.params)?;
         let outer = mem::replace(&mut self.names, names);
-        self.open(alloc, OpenBlock::Function { head, outer }, spot)
+        self.open(alloc, OpenBlock::Function { head, outer })
     }
 
     /// `steps` with its target.
@@ -340,20 +261,13 @@ impl Builder {
         requires begins { terminal_ahead reader.old ≡ terminal.Steps }
         ensures { OnOk result (IsDone self.old self.new reader.old) }
     {
-        let spot = reader.spot();
         reader.take();
-        let spots = BlockSpots {
-            target: reader.spot(),
-            lines: Items::new(alloc),
-        };
         let target = reader.target()?;
         self.frames.push(Frame {
             block: OpenBlock::Steps {
                 target,
                 lines: Items::new(alloc),
-                spots,
             },
-            spot,
             before: Vec::new(alloc),
         })?;
         Ok(())
@@ -374,7 +288,6 @@ impl Builder {
                 self.places = Vec::new(alloc);
                 self.frames.push(Frame {
                     block: with_catch(frame.block, body, name),
-                    spot: frame.spot,
                     before: frame.before,
                 })?;
                 Ok(())
@@ -396,7 +309,6 @@ impl Builder {
                 self.places = Vec::new(alloc);
                 self.frames.push(Frame {
                     block: with_else(frame.block, then),
-                    spot: frame.spot,
                     before: frame.before,
                 })?;
                 Ok(())
@@ -412,13 +324,11 @@ impl Builder {
         requires other { is_block_word (terminal_ahead reader.old) ≡ false }
         ensures { OnOk result (IsDone self.old self.new reader.old) }
     {
-        let spots = reader.word_spots()?;
         let step = reader.step_line()?;
         match self.frames.pop() {
             Some(frame) => {
                 self.frames.push(Frame {
-                    block: with_step(frame.block, step, spots)?,
-                    spot: frame.spot,
+                    block: with_step(frame.block, step)?,
                     before: frame.before,
                 })?;
                 Ok(())
@@ -433,27 +343,17 @@ impl Builder {
         requires frame { IsSoundFrame self.old.nodes frame }
         ensures { OnOk result (FrameClosed frame self.old self.new) }
     {
-        let Frame {
-            block,
-            spot,
-            before,
-        } = frame;
+        let Frame { block, before } = frame;
         match block {
             OpenBlock::Try => {
                 self.places = before;
                 Ok(())
             }
-            OpenBlock::Catch { body, name } => self.end_catch(body, name, before, spot),
-            OpenBlock::Then { left, right } => self.end_then(left, right, before, spot),
-            OpenBlock::Else { left, right, then } => {
-                self.end_else(left, right, then, before, spot)
-            }
-            OpenBlock::Function { head, outer } => self.end_function(head, outer, before, spot),
-            OpenBlock::Steps {
-                target,
-                lines,
-                spots,
-            } => self.end_steps(target, lines, spots, spot),
+            OpenBlock::Catch { body, name } => self.end_catch(body, name, before),
+            OpenBlock::Then { left, right } => self.end_then(left, right, before),
+            OpenBlock::Else { left, right, then } => { self.end_else(left, right, then, before) }
+            OpenBlock::Function { head, outer } => self.end_function(head, outer, before),
+            OpenBlock::Steps { target, lines } => self.end_steps(target, lines),
         }
     }
 
@@ -470,7 +370,7 @@ impl Builder {
         }
     }
 
-    /// A line that opens, turns or closes a block.
+    /// The first line of a block, its `catch` or `else`, or its `end`.
     fn block_line(
         &mut self,
         alloc: Global,
@@ -507,7 +407,7 @@ impl Builder {
         ensures grown { OnOk result (Grown self.old.nodes self.new.nodes) }
         ensures read { OnOk result (LineRead self.old self.new (map lexeme_of line.now.words.items)) }
     {
-        let mut reader = Reader::new(alloc, line.number, &line.words);
+        let mut reader = Reader::new(alloc, &line.words);
         match block_word_of(reader.ahead()) {
             Some(word) => self.block_line(alloc, word, &mut reader),
             None => {

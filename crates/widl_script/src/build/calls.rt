@@ -9,7 +9,6 @@ ghost use Rattle.widl_script.specs.Reading.{Widens, part, token, terminal_ahead,
 
 use crate::build::nodes::Nodes;
 use crate::build::reader::Reader;
-use crate::spots::Spot;
 use std::alloc::AllocError;
 use widl_lines::Terminal;
 use widl_script_tree::{Expression, Row};
@@ -17,12 +16,7 @@ use widl_script_tree::{Expression, Row};
 impl<'w, 's> Reader<'w, 's> {
     /// A call.
     #[cycle(expression)]
-    pub(crate) fn call(
-        &mut self,
-        nodes: &mut Nodes,
-        callee: u32,
-        spot: Spot,
-    ) -> Result<u32, AllocError>
+    pub(crate) fn call(&mut self, nodes: &mut Nodes, callee: u32) -> Result<u32, AllocError>
         requires begins { terminal_ahead self.old ≡ terminal.OpenParen }
         requires within { callee < length nodes.old.expressions }
         ensures grown { OnOk result (Widens nodes.old nodes.new) }
@@ -31,7 +25,7 @@ impl<'w, 's> Reader<'w, 's> {
     {
         self.take();
         let args = self.list(nodes)?;
-        nodes.put(Expression::Call { callee, args }, spot)
+        nodes.put(Expression::Call { callee, args })
     }
 
     /// A list, and what closes it.
@@ -99,16 +93,15 @@ impl<'w, 's> Reader<'w, 's> {
         ensures tree { IfOk result (λ place. Holds (part rule.Primary) [] nodes.new place self.old self.new) }
         ensures shorter { OnOk result (length self.new ≤ length self.old) }
     {
-        let spot = self.spot();
         self.take();
         self.take();
         if self.is_ahead(Terminal::CloseParen) {
             self.take();
-            return nodes.put(Expression::NewObject { proto: None }, spot);
+            return nodes.put(Expression::NewObject { proto: None });
         }
         let proto = self.expression(nodes)?;
         self.take();
-        nodes.put(Expression::NewObject { proto: Some(proto) }, spot)
+        nodes.put(Expression::NewObject { proto: Some(proto) })
     }
 
     /// `array` with its items.
@@ -119,11 +112,10 @@ impl<'w, 's> Reader<'w, 's> {
         ensures tree { IfOk result (λ place. Holds (part rule.Primary) [] nodes.new place self.old self.new) }
         ensures shorter { OnOk result (length self.new ≤ length self.old) }
     {
-        let spot = self.spot();
         self.take();
         self.take();
         let row = self.list(nodes)?;
-        nodes.put(Expression::NewArray(row), spot)
+        nodes.put(Expression::NewArray(row))
     }
 
     /// `call` with a function, a value as `this` and arguments.
@@ -134,14 +126,13 @@ impl<'w, 's> Reader<'w, 's> {
         ensures tree { IfOk result (λ place. Holds (part rule.Primary) [] nodes.new place self.old self.new) }
         ensures shorter { OnOk result (length self.new ≤ length self.old) }
     {
-        let spot = self.spot();
         self.take();
         self.take();
         let callee = self.expression(nodes)?;
         self.take();
         let this = self.expression(nodes)?;
         let args = self.more_list(nodes)?;
-        nodes.put(Expression::CallWith { callee, this, args }, spot)
+        nodes.put(Expression::CallWith { callee, this, args })
     }
 
     /// `new` with an interface object and arguments.
@@ -152,11 +143,10 @@ impl<'w, 's> Reader<'w, 's> {
         ensures tree { IfOk result (λ place. Holds (part rule.Primary) [] nodes.new place self.old self.new) }
         ensures shorter { OnOk result (length self.new ≤ length self.old) }
     {
-        let spot = self.spot();
         self.take();
         self.take();
         let callee = self.expression(nodes)?;
         let args = self.more_list(nodes)?;
-        nodes.put(Expression::New { callee, args }, spot)
+        nodes.put(Expression::New { callee, args })
     }
 }

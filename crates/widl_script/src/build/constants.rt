@@ -22,6 +22,12 @@ use widl_value::{Number, Value, nearest};
 pub(crate) fn units_of_bytes(alloc: Global, bytes: &[u8]) -> Result<Units, AllocError>
     ensures { IfOk result (λ units. units ≡ bytes.now) }
 {
+    // Names are ASCII: such a text gets its room at once.
+    if bytes.is_ascii() {
+        if let Ok(text) = std::str::from_utf8(bytes) {
+            return Units::of_ascii(alloc, text);
+        }
+    }
     let mut units = Units::new(alloc);
     for byte in bytes {
         units.push(u16::from(*byte))?;

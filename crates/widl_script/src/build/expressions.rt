@@ -32,9 +32,8 @@ impl<'w, 's> Reader<'w, 's> {
         ensures tree { IfOk result (λ place. Holds (part rule.Primary) [] nodes.new place self.old self.new) }
         ensures shorter { OnOk result (length self.new ≤ length self.old) }
     {
-        let spot = self.spot();
         let number = self.name_number(nodes)?;
-        nodes.put(Expression::Name(number), spot)
+        nodes.put(Expression::Name(number))
     }
 
     /// An integer.
@@ -44,10 +43,9 @@ impl<'w, 's> Reader<'w, 's> {
         ensures tree { IfOk result (λ place. Holds (part rule.Primary) [] nodes.new place self.old self.new) }
         ensures shorter { OnOk result (length self.new ≤ length self.old) }
     {
-        let spot = self.spot();
         let number = number_of(self.text());
         self.take();
-        nodes.put(Expression::Number(number), spot)
+        nodes.put(Expression::Number(number))
     }
 
     /// A text.
@@ -57,10 +55,9 @@ impl<'w, 's> Reader<'w, 's> {
         ensures tree { IfOk result (λ place. Holds (part rule.Primary) [] nodes.new place self.old self.new) }
         ensures shorter { OnOk result (length self.new ≤ length self.old) }
     {
-        let spot = self.spot();
         let text = text_of(self.alloc(), self.form(), self.text())?;
         self.take();
-        nodes.put(Expression::Text(text), spot)
+        nodes.put(Expression::Text(text))
     }
 
     /// `symbol()`.
@@ -70,11 +67,10 @@ impl<'w, 's> Reader<'w, 's> {
         ensures tree { IfOk result (λ place. Holds (part rule.Primary) [] nodes.new place self.old self.new) }
         ensures shorter { OnOk result (length self.new ≤ length self.old) }
     {
-        let spot = self.spot();
         self.take();
         self.take();
         self.take();
-        nodes.put(Expression::NewSymbol, spot)
+        nodes.put(Expression::NewSymbol)
     }
 
     /// An expression without the members and calls behind it.
@@ -86,9 +82,8 @@ impl<'w, 's> Reader<'w, 's> {
     {
         let ahead = self.ahead();
         if let Some(node) = leaf_of(ahead) {
-            let spot = self.spot();
             self.take();
-            return nodes.put(node, spot);
+            return nodes.put(node);
         }
         match form_of(ahead) {
             Some(Form::Integer) => self.integer(nodes),
@@ -109,10 +104,9 @@ impl<'w, 's> Reader<'w, 's> {
         ensures tree { IfOk result (λ place. Holds (part rule.Expression) [] nodes.new place self.old self.new) }
         ensures shorter { OnOk result (length self.new ≤ length self.old) }
     {
-        let spot = self.spot();
         let mut place = self.primary(nodes)?;
         'links: while let Some(link) = link_of(self.ahead()) {
-            place = self.follow_link(nodes, place, link, spot)?;
+            place = self.follow_link(nodes, place, link)?;
         }
         Ok(place)
     }

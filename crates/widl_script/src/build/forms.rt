@@ -120,7 +120,7 @@ pub(crate) enum Head {
     Show,
 }
 
-/// A line that opens, turns or closes a block.
+/// The first line of a block, its `catch` or `else`, or its `end`.
 #[derive(Clone, Copy, Debug)]
 pub(crate) enum BlockWord {
     /// `try`.

@@ -2,7 +2,6 @@
 
 use crate::build::functions::FunctionHead;
 use crate::build::nodes::Nodes;
-use crate::spots::{BlockSpots, Spot};
 use std::alloc::Global;
 use widl_script_tree::{LocalNames, Row, StepLines, Target};
 
@@ -47,8 +46,6 @@ pub(crate) enum OpenBlock {
         target: Target,
         /// Its lines so far.
         lines: StepLines,
-        /// Where the words of these stand.
-        spots: BlockSpots,
     },
 }
 
@@ -57,8 +54,6 @@ pub(crate) enum OpenBlock {
 #[derive(Drop)]
 pub(crate) struct Frame {
     pub(crate) block: OpenBlock,
-    /// Where the block's first line begins.
-    pub(crate) spot: Spot,
     /// The places of the statements before it.
     pub(crate) before: Vec<u32>,
 }

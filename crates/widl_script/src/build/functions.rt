@@ -8,7 +8,6 @@ ghost use Rattle.widl_script.specs.ReadLines.{HoldsFunction, NameLists};
 
 use crate::build::nodes::Nodes;
 use crate::build::reader::Reader;
-use crate::spots::{FunctionSpots, Spot};
 use std::alloc::AllocError;
 use widl_lines::Terminal;
 use widl_script_tree::Params;
@@ -21,8 +20,6 @@ pub(crate) struct FunctionHead {
     pub(crate) name: u32,
     /// The parameters, by the numbers of their names.
     pub(crate) params: Params,
-    /// Where the name and the parameters stand.
-    pub(crate) spots: FunctionSpots,
 }
 
 impl<'w, 's> Reader<'w, 's> {
@@ -31,23 +28,15 @@ impl<'w, 's> Reader<'w, 's> {
         ensures grown { OnOk result (Widens nodes.old nodes.new) }
         ensures tree { IfOk result (λ head. HoldsFunction nodes.new head.name head.params self.old self.new) }
     {
-        let mut spots = FunctionSpots {
-            name: self.spot(),
-            params: Items::new(self.alloc()),
-        };
         let name = self.name_number(nodes)?;
         self.take();
-        let params = self.params(nodes, &mut spots.params)?;
+        let params = self.params(nodes)?;
         self.take();
-        Ok(FunctionHead {
-            name,
-            params,
-            spots,
-        })
+        Ok(FunctionHead { name, params })
     }
 
     /// The parameters of a function.
-    fn params(&mut self, nodes: &mut Nodes, spots: &mut Items<Spot>) -> Result<Params, AllocError>
+    fn params(&mut self, nodes: &mut Nodes) -> Result<Params, AllocError>
         ensures grown { OnOk result (Widens nodes.old nodes.new) }
         ensures lists { IfOk result (λ params. NameLists (part rule.ParameterList) [] name_list nodes.new [] params self.old self.new) }
     {
@@ -55,26 +44,19 @@ impl<'w, 's> Reader<'w, 's> {
         if self.is_ahead(Terminal::CloseParen) {
             return Ok(params);
         }
-        spots.push(self.spot())?;
         let name = self.name_number(nodes)?;
         params.push(name)?;
-        self.more_params(nodes, &mut params, spots)?;
+        self.more_params(nodes, &mut params)?;
         Ok(params)
     }
 
     /// Further parameters, with a comma before each.
-    fn more_params(
-        &mut self,
-        nodes: &mut Nodes,
-        params: &mut Params,
-        spots: &mut Items<Spot>,
-    ) -> Result<(), AllocError>
+    fn more_params(&mut self, nodes: &mut Nodes, params: &mut Params) -> Result<(), AllocError>
         ensures grown { OnOk result (Widens nodes.old nodes.new) }
         ensures lists { OnOk result (NameLists (part rule.MoreParameters) [] more_names nodes.new params.old params.new self.old self.new) }
     {
         'names: while self.is_ahead(Terminal::Comma) {
             self.take();
-            spots.push(self.spot())?;
             let name = self.name_number(nodes)?;
             params.push(name)?;
         }

@@ -10,13 +10,12 @@ ghost use Rattle.widl_script.specs.Reading.{Widens, part, terminal_ahead, Contin
 use crate::build::forms::{Link, ends_member, link_of};
 use crate::build::nodes::Nodes;
 use crate::build::reader::Reader;
-use crate::spots::Spot;
 use std::alloc::AllocError;
 use widl_script_tree::{Expression, MemberKey, MemberOf};
 
 impl<'w, 's> Reader<'w, 's> {
     /// A member behind a dot.
-    fn dot_member(&mut self, nodes: &mut Nodes, of: u32, spot: Spot) -> Result<u32, AllocError>
+    fn dot_member(&mut self, nodes: &mut Nodes, of: u32) -> Result<u32, AllocError>
         requires begins { terminal_ahead self.old ≡ terminal.Dot }
         requires within { of < length nodes.old.expressions }
         ensures grown { OnOk result (Widens nodes.old nodes.new) }
@@ -27,12 +26,12 @@ impl<'w, 's> Reader<'w, 's> {
         self.take();
         let number = self.name_number(nodes)?;
         let key = MemberKey::Named(number);
-        nodes.put(Expression::Member(MemberOf { of, key }), spot)
+        nodes.put(Expression::Member(MemberOf { of, key }))
     }
 
     /// A member in brackets.
     #[cycle(expression)]
-    fn index_member(&mut self, nodes: &mut Nodes, of: u32, spot: Spot) -> Result<u32, AllocError>
+    fn index_member(&mut self, nodes: &mut Nodes, of: u32) -> Result<u32, AllocError>
         requires begins { terminal_ahead self.old ≡ terminal.OpenBracket }
         requires within { of < length nodes.old.expressions }
         ensures grown { OnOk result (Widens nodes.old nodes.new) }
@@ -43,17 +42,16 @@ impl<'w, 's> Reader<'w, 's> {
         self.take();
         let key = MemberKey::Computed(self.expression(nodes)?);
         self.take();
-        nodes.put(Expression::Member(MemberOf { of, key }), spot)
+        nodes.put(Expression::Member(MemberOf { of, key }))
     }
 
-    /// What goes on behind the expression at the place, which begins at the spot.
+    /// What goes on behind the expression at the place.
     #[cycle(expression)]
     pub(crate) fn follow_link(
         &mut self,
         nodes: &mut Nodes,
         place: u32,
         link: Link,
-        spot: Spot,
     ) -> Result<u32, AllocError>
         requires begins { terminal_ahead self.old ≡ link_terminal link }
         requires within { place < length nodes.old.expressions }
@@ -63,9 +61,9 @@ impl<'w, 's> Reader<'w, 's> {
         ensures shorter { OnOk result (length self.new < length self.old) }
     {
         match link {
-            Link::Dot => self.dot_member(nodes, place, spot),
-            Link::Bracket => self.index_member(nodes, place, spot),
-            Link::Paren => self.call(nodes, place, spot),
+            Link::Dot => self.dot_member(nodes, place),
+            Link::Bracket => self.index_member(nodes, place),
+            Link::Paren => self.call(nodes, place),
         }
     }
 
@@ -76,11 +74,10 @@ impl<'w, 's> Reader<'w, 's> {
         ensures tree { IfOk result (λ r. MatchOption r (Never (part rule.Member) self.old) (λ m. HoldsMember nodes.new m self.old self.new)) }
         ensures shorter { OnOk result (length self.new ≤ length self.old) }
     {
-        let spot = self.spot();
         let mut place = self.primary(nodes)?;
         let mut ended = false;
         'links: while let Some(link) = link_of(self.ahead()) {
-            place = self.follow_link(nodes, place, link, spot)?;
+            place = self.follow_link(nodes, place, link)?;
             ended = ends_member(link);
         }
         if ended {

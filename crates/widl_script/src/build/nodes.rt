@@ -1,4 +1,4 @@
-//! The tables while they are made, with the spots of their words.
+//! The tables while they are made.
 
 ghost use Rattle.std.specs.Prelude.{◌≡◌, ◌<◌, All, length, IfOk, OnOk, MatchOption, [], false};
 ghost use Rattle.widl_script_tree.specs.declared.expression.Expression.TheVariants as node;
@@ -8,17 +8,15 @@ ghost use Rattle.widl_script_tree.specs.Tables.{expression_at};
 ghost use Rattle.widl_script.specs.StatementPuts.{AllStatements, IsBlockPut, IsFunctionPut, IsStatementPut, IsStatementRow};
 ghost use Rattle.widl_script.specs.Reading.{Widens, is_member, IsPut, IsNamed, IsRow};
 
-use crate::spots::{BlockSpots, FunctionSpots, Spot, Spots};
 use std::alloc::{AllocError, Global};
 use std::marker::Model;
 use widl_script_tree::{Expression, Function, MemberOf, Row, ScriptTables, Statement, StepsBlock};
 use widl_text::Units;
 
-/// The tables of a script, which contracts see, and the spots of their words.
+/// The tables of a script, which contracts see.
 #[derive(Drop)]
 pub(crate) struct Nodes {
     pub(crate) tables: ScriptTables,
-    pub(crate) spots: Spots,
 }
 
 impl Model for Nodes {
@@ -26,11 +24,7 @@ impl Model for Nodes {
 
     ghost Value = { Tables };
 
-    ghost use Rattle.widl_script.specs.Spots.{HaveSpots};
-
     ghost view = { λ n. n.tables };
-
-    ghost invariant = { λ n. HaveSpots n.tables n.spots };
 }
 
 impl Nodes {
@@ -40,19 +34,17 @@ impl Nodes {
     {
         Nodes {
             tables: ScriptTables::new(alloc),
-            spots: Spots::new(alloc),
         }
     }
 
-    /// Puts an expression that begins at the spot, and answers its place.
-    pub(crate) fn put(&mut self, node: Expression, spot: Spot) -> Result<u32, AllocError>
+    /// Puts an expression, and answers its place.
+    pub(crate) fn put(&mut self, node: Expression) -> Result<u32, AllocError>
         requires { IsLower self.old (length self.old.expressions) node }
         ensures { IfOk result (λ place. IsPut node place self.old self.new) }
     {
         if self.tables.expression_count() == u32::MAX {
             return Err(AllocError);
         }
-        self.spots.push_expression(spot)?;
         self.tables.put_expression(node)
     }
 
@@ -65,7 +57,6 @@ impl Nodes {
         if places.len() > (u32::MAX - self.tables.expression_count()) as usize {
             return Err(AllocError);
         }
-        self.spots.push_items(places)?;
         self.tables.put_row(places)
     }
 
@@ -89,8 +80,8 @@ impl Nodes {
         }
     }
 
-    /// Puts a statement whose line begins at the spot, and answers its place.
-    pub(crate) fn put_statement(&mut self, node: Statement, spot: Spot) -> Result<u32, AllocError>
+    /// Puts a statement, and answers its place.
+    pub(crate) fn put_statement(&mut self, node: Statement) -> Result<u32, AllocError>
         requires lower { IsLowerStatement self.old (length self.old.statements) node }
         requires body { IsBodyLower self.old (length self.old.statements) node }
         ensures { IfOk result (λ place. IsStatementPut node place self.old self.new) }
@@ -98,7 +89,6 @@ impl Nodes {
         if self.tables.statement_count() == u32::MAX {
             return Err(AllocError);
         }
-        self.spots.push_statement(spot)?;
         self.tables.put_statement(node)
     }
 
@@ -110,38 +100,27 @@ impl Nodes {
         if places.len() > (u32::MAX - self.tables.statement_count()) as usize {
             return Err(AllocError);
         }
-        self.spots.push_statement_items(places)?;
         self.tables.put_statement_row(places)
     }
 
     /// Puts a function, and answers its number.
-    pub(crate) fn put_function(
-        &mut self,
-        function: Function,
-        spots: FunctionSpots,
-    ) -> Result<u32, AllocError>
+    pub(crate) fn put_function(&mut self, function: Function) -> Result<u32, AllocError>
         requires parts { IsFunction self.old function }
         ensures { IfOk result (λ number. IsFunctionPut function number self.old self.new) }
     {
         if self.tables.function_count() == u32::MAX {
             return Err(AllocError);
         }
-        self.spots.push_function(spots)?;
         self.tables.put_function(function)
     }
 
     /// Puts a steps block, and answers its number.
-    pub(crate) fn put_steps(
-        &mut self,
-        block: StepsBlock,
-        spots: BlockSpots,
-    ) -> Result<u32, AllocError>
+    pub(crate) fn put_steps(&mut self, block: StepsBlock) -> Result<u32, AllocError>
         ensures { IfOk result (λ number. IsBlockPut block number self.old self.new) }
     {
         if self.tables.steps_count() == u32::MAX {
             return Err(AllocError);
         }
-        self.spots.push_block(spots)?;
         self.tables.put_steps(block)
     }
 }

@@ -3,18 +3,15 @@
 ghost use Rattle.std.specs.Prelude.{◌≡◌, ◌≢◌, drop, IsTrue, false};
 ghost use Rattle.widl_script.specs.Reading.{terminal_ahead, IfAhead};
 
-use crate::spots::Spot;
-use std::alloc::{AllocError, Global};
+use std::alloc::Global;
 use std::marker::Model;
 use widl_lines::{Rule, Terminal, Word, WordForm};
 use widl_predictive::Rule as Grammar;
-use widl_text::Items;
 
 /// The words of a line from one of them on, which contracts see as a list.
 #[derive(Drop)]
 pub(crate) struct Reader<'w, 's> {
     alloc: Global,
-    line: u32,
     words: &'w [Word<'s>],
     next: usize,
 }
@@ -33,13 +30,12 @@ impl<'w, 's> Reader<'w, 's> {
     ghost use Rattle.std.specs.Prelude.{map};
     ghost use Rattle.widl_lines.specs.WordTerms.{lexeme_of};
 
-    /// All words of the line of this number.
-    pub(crate) fn new(alloc: Global, line: u32, words: &'w [Word<'s>]) -> Self
+    /// All words of a line.
+    pub(crate) fn new(alloc: Global, words: &'w [Word<'s>]) -> Self
         ensures { result ≡ map lexeme_of words.now }
     {
         Reader {
             alloc,
-            line,
             words,
             next: 0,
         }
@@ -90,21 +86,6 @@ impl<'w, 's> Reader<'w, 's> {
         }
     }
 
-    /// Where the word ahead stands; column 0 at the end.
-    pub(crate) fn spot(&self) -> Spot
-        ensures { IfAhead self.now (λ w. result.column ≡ w.column) }
-    {
-        let column = if self.next < self.words.len() {
-            self.words[self.next].column
-        } else {
-            0
-        };
-        Spot {
-            line: self.line,
-            column,
-        }
-    }
-
     /// Takes the word ahead.
     pub(crate) fn take(&mut self)
         ensures { self.new ≡ drop 1 self.old }
@@ -112,17 +93,5 @@ impl<'w, 's> Reader<'w, 's> {
         if self.next < self.words.len() {
             self.next += 1;
         }
-    }
-
-    /// Where the words of the line stand.
-    pub(crate) fn word_spots(&self) -> Result<Items<Spot>, AllocError> {
-        let mut spots = Items::new(self.alloc);
-        for word in self.words {
-            spots.push(Spot {
-                line: self.line,
-                column: word.column,
-            })?;
-        }
-        Ok(spots)
     }
 }

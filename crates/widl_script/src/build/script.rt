@@ -8,15 +8,13 @@ ghost use Rattle.widl_script_tree.specs.Tables.{script_tree};
 ghost use Rattle.widl_script.specs.Building.{Sound};
 ghost use Rattle.widl_script.specs.ReadScript.{EndsAs, ReadTo};
 ghost use Rattle.widl_script.specs.SpelledStatements.{IsTreeOf, words_of};
-ghost use Rattle.widl_script.specs.Spots.{HaveSpots};
 
 use crate::build::frames::Builder;
-use crate::spots::Spots;
 use std::alloc::{AllocError, Global};
 use widl_lines::ScriptWords;
 use widl_script_tree::{Row, ScriptTables};
 
-/// The tables of a script, and where its words stand.
+/// The tables of a script.
 ///
 /// What a name or a steps block is for isn't told yet ([`ScriptTables::put_owner`], [`ScriptTables::put_target`]).
 #[derive(Drop)]
@@ -25,15 +23,12 @@ pub struct Built {
     pub tables: ScriptTables,
     /// The statements outside functions.
     pub top: Row,
-    /// Where the words stand that a rule can point at.
-    pub spots: Spots,
 }
 
 /// The builder's tables with the statements outside functions.
 fn finish(builder: Builder) -> Result<Built, AllocError>
     requires { Sound builder }
-    ensures tree { IfOk result (λ built. EndsAs builder built.tables built.top) }
-    ensures spots { IfOk result (λ built. HaveSpots built.tables built.spots) }
+    ensures { IfOk result (λ built. EndsAs builder built.tables built.top) }
 {
     let mut builder = builder;
     let top = builder.nodes.put_statements(&builder.places)?;
@@ -41,7 +36,6 @@ fn finish(builder: Builder) -> Result<Built, AllocError>
     Ok(Built {
         tables: nodes.tables,
         top,
-        spots: nodes.spots,
     })
 }
 
@@ -53,7 +47,6 @@ fn finish(builder: Builder) -> Result<Built, AllocError>
 pub fn build(alloc: Global, words: &ScriptWords<'_>) -> Result<Built, AllocError>
     ensures tree { IfOk result (λ built. IsTreeOf (script_tree (with_top built.tables built.top)) (words_of words.now)) }
     ensures top { IfOk result (λ built. IsLowerRow (length built.tables.statements) built.top) }
-    ensures spots { IfOk result (λ built. HaveSpots built.tables built.spots) }
 {
     let mut builder = Builder::new(alloc);
     let mut rest = words.lines();

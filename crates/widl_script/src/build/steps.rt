@@ -111,7 +111,7 @@ impl<'w, 's> Reader<'w, 's> {
         Ok(StepLine::Append(key, value))
     }
 
-    /// A line of a steps block that is a step: none that opens, turns or closes a block.
+    /// A line of a steps block that says a step.
     pub(crate) fn step_line(&mut self) -> Result<StepLine, AllocError>
         requires { is_block_word (terminal_ahead self.old) ≡ false }
         ensures { IfOk result (λ line. Reads (part rule.StepLine) [] (step_signs line) self.old self.new) }

@@ -5,7 +5,7 @@ ghost use Rattle.widl_lines.specs.declared.grammar.Rule.TheVariants as rule;
 ghost use Rattle.widl_lines.specs.declared.grammar.Terminal.TheVariants as terminal;
 ghost use Rattle.widl_script.specs.SpelledTargets.{overload_signs, target_signs};
 ghost use Rattle.widl_script.specs.Reading.{part, terminal_ahead, Reads};
-ghost use Rattle.widl_script.specs.StepReading.{HoldsPart};
+ghost use Rattle.widl_script.specs.StepReading.{HoldsOperation, HoldsPart};
 
 use crate::build::constants::index_of;
 use crate::build::reader::Reader;
@@ -23,6 +23,19 @@ impl<'w, 's> Reader<'w, 's> {
         let number = index_of(self.text());
         self.take();
         number
+    }
+
+    /// An operation whose name was read, with its `#K`.
+    fn operation(&mut self, owner: Units, name: Units, fixed: bool) -> Target
+        ensures { HoldsOperation owner name fixed result self.old self.new }
+    {
+        let overload = self.overload();
+        Target::Operation {
+            owner,
+            name,
+            fixed,
+            overload,
+        }
     }
 
     /// `constructor#K`.
@@ -47,13 +60,7 @@ impl<'w, 's> Reader<'w, 's> {
             return Ok(self.constructor_part(owner));
         }
         let name = self.target_name()?;
-        let overload = self.overload();
-        Ok(Target::Operation {
-            owner,
-            name,
-            fixed: false,
-            overload,
-        })
+        Ok(self.operation(owner, name, false))
     }
 
     /// `static f#K`, or `static#K`.
@@ -63,22 +70,10 @@ impl<'w, 's> Reader<'w, 's> {
     {
         let word = self.target_name()?;
         if self.is_ahead(Terminal::NumberSign) {
-            let overload = self.overload();
-            return Ok(Target::Operation {
-                owner,
-                name: word,
-                fixed: false,
-                overload,
-            });
+            return Ok(self.operation(owner, word, false));
         }
         let name = self.target_name()?;
-        let overload = self.overload();
-        Ok(Target::Operation {
-            owner,
-            name,
-            fixed: true,
-            overload,
-        })
+        Ok(self.operation(owner, name, true))
     }
 
     /// `get A`, or `get#K`.
@@ -88,13 +83,7 @@ impl<'w, 's> Reader<'w, 's> {
     {
         let word = self.target_name()?;
         if self.is_ahead(Terminal::NumberSign) {
-            let overload = self.overload();
-            return Ok(Target::Operation {
-                owner,
-                name: word,
-                fixed: false,
-                overload,
-            });
+            return Ok(self.operation(owner, word, false));
         }
         let name = self.target_name()?;
         Ok(Target::Getter { owner, name })
@@ -107,13 +96,7 @@ impl<'w, 's> Reader<'w, 's> {
     {
         let word = self.target_name()?;
         if self.is_ahead(Terminal::NumberSign) {
-            let overload = self.overload();
-            return Ok(Target::Operation {
-                owner,
-                name: word,
-                fixed: false,
-                overload,
-            });
+            return Ok(self.operation(owner, word, false));
         }
         let name = self.target_name()?;
         Ok(Target::Setter { owner, name })
@@ -126,13 +109,7 @@ impl<'w, 's> Reader<'w, 's> {
     {
         let word = self.target_name()?;
         if self.is_ahead(Terminal::NumberSign) {
-            let overload = self.overload();
-            return Ok(Target::Operation {
-                owner,
-                name: word,
-                fixed: false,
-                overload,
-            });
+            return Ok(self.operation(owner, word, false));
         }
         Ok(Target::Stringifier { owner })
     }

@@ -3,7 +3,7 @@ use Rattle.widl_script.proofs.build.frames.Builder.open.Goals as goal
 
 pub returns : goal.returns
 returns c = record {
-  frame = record { block = c.args.block; spot = c.args.spot; before = c.replace-before.result };
+  frame = record { block = c.args.block; before = c.replace-before.result };
   block_is = refl;
   before_is = ap (λ v. v.items) c.replace-before.ensures.value;
   frames = c.in_ok-push.ensures.items;

@@ -3,7 +3,6 @@ use Rattle.widl_script_tree.specs.Tables.{Tables}
 use Rattle.widl_script.specs.StatementPuts.{AllStatements, IsStatementRow}
 use Rattle.widl_script.proofs.Parts.{in_three}
 use Rattle.widl_script.proofs.Putting.{statement_row}
-use Rattle.widl_script.proofs.Beside.{kept_beside, statement_row_beside}
 use Rattle.widl_script.proofs.build.nodes.Nodes.put_statements.Goals as goal
 
 pub returns : goal.returns
@@ -12,9 +11,3 @@ returns c =
     let Within : Tables → Type 0 = λ t. AllStatements t c.args.places.now in
     let within = subst Within (sym c.self.view_is) c.requires.lower in
     subst Put c.self.view_is (in_three c.put_statement_row.result _ _ _ _ (λ row first count is. statement_row _ _ _ row.first row.count within first count is) c.put_statement_row.ensures.first c.put_statement_row.ensures.count c.put_statement_row.ensures.tables)
-
-pub invariant_of-self : goal.invariant_of-self
-invariant_of-self c = kept_beside _ _ _ c.self.invariant c.push_statement_items.ensures.kept
-
-pub invariant_of-self-2 : goal.invariant_of-self-2
-invariant_of-self-2 c = statement_row_beside c.put_statement_row.result _ _ _ _ c.args.places.now c.self.invariant c.in_ok-push_statement_items.ensures.ok c.push_statement_items.ensures.kept c.put_statement_row.ensures.tables c.put_statement_row.ensures.err

@@ -3,7 +3,7 @@ use Rattle.widl_script.proofs.LineForms.{names_nothing, names_more, names_over}
 use Rattle.widl_script.proofs.build.reader.Reader.more_params.Goals as goal
 
 pub names-preserved : goal.names-preserved
-names-preserved c = record { grown = widens_then c.names.invariant.grown c.in_ok-name.ensures.grown; lists = names_more _ _ _ _ _ _ _ _ _ _ c.names.invariant.lists (c.is_ahead.ensures.yes c.names-test.true) c.take.ensures c.in_ok-name.ensures.grown c.in_ok-name.ensures.name c.in_ok-push-2.ensures.ok }
+names-preserved c = record { grown = widens_then c.names.invariant.grown c.in_ok-name.ensures.grown; lists = names_more _ _ _ _ _ _ _ _ _ _ c.names.invariant.lists (c.is_ahead.ensures.yes c.names-test.true) c.take.ensures c.in_ok-name.ensures.grown c.in_ok-name.ensures.name c.in_ok-push.ensures.ok }
 
 pub names-init : goal.names-init
 names-init c = record { grown = widens_same _; lists = names_nothing _ _ _ }

@@ -1,10 +1,8 @@
-use Rattle.std.proofs.Common.{refl, sym, ◌∙◌, ap, arith, length, length-drop}
-use Rattle.widl_script.proofs.Parts.{in_ok}
-use Rattle.widl_script.proofs.BuiltSteps.{static_named, static_holds}
+use Rattle.widl_script.proofs.BuiltSteps.{static_named, static_holds, by_operation}
 use Rattle.widl_script.proofs.build.reader.Reader.static_part.Goals as goal
 
 pub returns-then-is_ahead : goal.returns-then-is_ahead
-returns-then-is_ahead c = static_named _ _ _ _ _ _ c.requires c.in_ok-word.ensures (c.is_ahead.ensures.yes c.if-is_ahead.true) c.overload-overload.ensures
+returns-then-is_ahead c = by_operation _ _ _ _ _ _ _ c.operation.ensures (λ k read. static_named _ _ k _ _ _ c.requires c.in_ok-word.ensures (c.is_ahead.ensures.yes c.if-is_ahead.true) read)
 
 pub returns : goal.returns
-returns c = static_holds _ _ _ _ _ _ _ _ c.requires c.in_ok-word.ensures (c.is_ahead.ensures.no c.if-is_ahead.false) c.in_ok-name.ensures c.overload-overload-2.ensures
+returns c = by_operation _ _ _ _ _ _ _ c.operation-2.ensures (λ k read. static_holds _ _ _ k _ _ _ _ c.requires c.in_ok-word.ensures (c.is_ahead.ensures.no c.if-is_ahead.false) c.in_ok-name.ensures read)

@@ -1,10 +1,8 @@
-use Rattle.std.proofs.Common.{refl, sym, ◌∙◌, ap, arith, length, length-drop}
-use Rattle.widl_script.proofs.Parts.{in_ok}
-use Rattle.widl_script.proofs.BuiltSteps.{string_named, stringifier_holds}
+use Rattle.widl_script.proofs.BuiltSteps.{string_named, stringifier_holds, by_operation}
 use Rattle.widl_script.proofs.build.reader.Reader.string_part.Goals as goal
 
 pub returns-then-is_ahead : goal.returns-then-is_ahead
-returns-then-is_ahead c = string_named _ _ _ _ _ _ c.requires c.in_ok-word.ensures (c.is_ahead.ensures.yes c.if-is_ahead.true) c.overload-overload.ensures
+returns-then-is_ahead c = by_operation _ _ _ _ _ _ _ c.operation.ensures (λ k read. string_named _ _ k _ _ _ c.requires c.in_ok-word.ensures (c.is_ahead.ensures.yes c.if-is_ahead.true) read)
 
 pub returns : goal.returns
 returns c = stringifier_holds _ _ _ _ c.requires c.in_ok-word.ensures (c.is_ahead.ensures.no c.if-is_ahead.false)
