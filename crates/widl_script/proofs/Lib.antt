@@ -1,5 +1,4 @@
 mod Undoing
-pub mod StepExamples
 mod Unique
 mod UniqueLines
 mod UniqueSteps
