@@ -1,13 +1,14 @@
 #!/usr/bin/env python3
-"""Measures the words and the check of form of realistic and of hostile scripts, and how fast nodes are put.
+"""Measures the words, the check of form and the tables of realistic and of hostile scripts, and how fast nodes are put.
 
 Run at the top of the repository, after `rt run` in crates/widl_bench has built the program:
 
     python3 bench/script.py
 
 It prints the milliseconds and the bytes of memory a byte for a realistic script of 1 MiB and for 16 of 64 KiB, each alone
-in a run of the program and all in one run, then the time of each hostile script of 1 MiB beside the realistic one's, and the
-time for a million nodes. Times are the least of some runs, without the start of the program, and memory is
+in a run of the program and all in one run, then the time of each hostile script of 1 MiB beside the realistic one's: first
+of the words and their check, then with the tables that are built of them, whose hostile scripts break no rule of form. Then
+it prints the time for a million nodes. Times are the least of some runs, without the start of the program, and memory is
 without that of the start.
 """
 import os
@@ -35,6 +36,19 @@ HOSTILE = {
     "one integer": (b"do ", b"9", b""),
     "escapes": (b'do "', b"\\u0000", b'"'),
     "lines in 32 blocks": (b"if 1 is 1\n" * 32, b"do 1\n", b"end\n" * 32),
+}
+# scripts without a break of form
+TABLES = {
+    "one chain of members": (b"do o", b".a", b""),
+    "one chain of keys": (b"do o", b"[1]", b""),
+    "calls in a row": (b"do o", b"()", b""),
+    "one call of many arguments": (b"do f(1", b",1", b")"),
+    "one array": (b"do array(1", b",1", b")"),
+    "lines in 32 blocks": (b"if 1 is 1\n" * 32, b"do 1\n", b"end\n" * 32),
+    "functions": (b"", b"function f()\nend\n", b""),
+    "one function of many parameters": (b"function f(p", b",p", b")\nend\n"),
+    "steps blocks": (b"", b"steps N.f#0\nend\n", b""),
+    "one steps block": (b"steps N.f#0\n", b"clear\n", b"end\n"),
 }
 LINES = (
     "let {a} = object()",
@@ -67,6 +81,11 @@ def realistic(size, seed):
 def filled(head, body, tail):
     count = (MIB - len(head) - len(tail)) // len(body)
     return head + body * count + tail
+
+
+def different_names():
+    text = b"".join(b"do a%d\n" % number for number in range(MIB))[:MIB]
+    return text[: text.rindex(b"\n") + 1]
 
 
 def row(title, seconds, memory):
@@ -104,6 +123,8 @@ def main():
             return path
 
         measure("script", file, [(title, filled(*parts)) for title, parts in HOSTILE.items()])
+        tables = [(title, filled(*parts)) for title, parts in TABLES.items()]
+        measure("statements", file, [*tables, ("different names", different_names())])
     nodes = least(["nodes"], 20)[0] - least(["script"], 100)[0]
     print(f"1,000,000 nodes: {nodes * 1e3:.1f} ms")
 

@@ -1,12 +1,14 @@
 //! The files that a word is given.
 
 ghost use Rattle.std.specs.Prelude.{◌≤◌, ◌<◌, ◌^◌, IfOk, length};
+ghost use Rattle.widl_text.specs.Limits.{most_file_bytes};
 
 use anyhow::{Result, bail};
 use std::alloc::Global;
 use std::fs;
 use widl_lex::Tokens;
 use widl_lines::{ScriptFault, ScriptWords};
+use widl_text::limits::MOST_FILE_BYTES;
 
 /// The bytes of a file of Web IDL.
 pub fn read(rt: &HostRuntime, name: &str) -> Result<Vec<u8>>
@@ -21,10 +23,10 @@ pub fn read(rt: &HostRuntime, name: &str) -> Result<Vec<u8>>
 
 /// The bytes of a script.
 pub fn read_script(rt: &HostRuntime, name: &str) -> Result<Vec<u8>>
-    ensures { IfOk result (λ file. length file.items ≤ 1048576) }
+    ensures { IfOk result (λ file. length file.items ≤ most_file_bytes) }
 {
     let file = fs::read(rt, name)?;
-    if file.len() > 1_048_576 {
+    if file.len() > MOST_FILE_BYTES {
         bail!("{name} is too long");
     }
     Ok(file)
@@ -42,7 +44,7 @@ pub fn tokens_of<'a>(alloc: Global, name: &str, file: &'a [u8]) -> Result<Tokens
 
 /// The words of a script, none where it breaks a rule of form.
 pub fn words_of<'a>(alloc: Global, name: &str, script: &'a [u8]) -> Result<Option<ScriptWords<'a>>>
-    requires { length script.now ≤ 1048576 }
+    requires { length script.now ≤ most_file_bytes }
 {
     match ScriptWords::read(alloc, script) {
         Ok(words) => Ok(Some(words)),

@@ -1,12 +1,16 @@
 //! Does one part of the work on what it is given, and prints how much that was. Its first argument says which
-//! part: `tokens`, `syntax` and `tree` read files of Web IDL so far, `script` reads scripts so far,
-//! and `nodes` puts a million nodes into the tables of a script. It stands on the crates of these parts and
-//! serves to measure them: the programs in `bench/` run it.
+//! part: `tokens`, `syntax` and `tree` read files of Web IDL so far, `script` and `statements` read scripts so
+//! far, `nodes` puts a million nodes into the tables of a script, and `lines`, `texts` and `text` write lines of
+//! a trace or make a text for one. It stands on the crates of these parts and serves to measure them: the programs in
+//! `bench/` run it.
 #![tactic(auto)]
 
 mod files;
+mod lines;
 mod nodes;
 mod script;
+mod sets;
+mod statements;
 mod syntax;
 mod tokens;
 mod tree;
@@ -21,16 +25,24 @@ enum Word {
     Syntax,
     Tree,
     Script,
+    Statements,
     Nodes,
+    Lines,
+    Texts,
+    Text,
 }
 
 /// How each part is asked for.
-const WORDS: [(&str, Word); 5] = [
+const WORDS: [(&str, Word); 9] = [
     ("tokens", Word::Tokens),
     ("syntax", Word::Syntax),
     ("tree", Word::Tree),
     ("script", Word::Script),
+    ("statements", Word::Statements),
     ("nodes", Word::Nodes),
+    ("lines", Word::Lines),
+    ("texts", Word::Texts),
+    ("text", Word::Text),
 ];
 
 /// The part that a text asks for.
@@ -59,6 +71,10 @@ fn main(rt: HostRuntime) -> Result<()> {
         Word::Syntax => syntax::run(&rt, rest),
         Word::Tree => tree::run(&rt, rest),
         Word::Script => script::run(&rt, rest),
+        Word::Statements => statements::run(&rt, rest),
         Word::Nodes => nodes::run(&rt),
+        Word::Lines => lines::run(&rt),
+        Word::Texts => lines::run_text(&rt, true),
+        Word::Text => lines::run_text(&rt, false),
     }
 }
