@@ -21,8 +21,8 @@ pub fn read(rt: &HostRuntime, name: &str) -> Result<Vec<u8>>
     Ok(file)
 }
 
-/// The bytes of a script.
-pub fn read_script(rt: &HostRuntime, name: &str) -> Result<Vec<u8>>
+/// The bytes of a file that is no longer than a file of Web IDL or a script may be.
+pub fn read_short(rt: &HostRuntime, name: &str) -> Result<Vec<u8>>
     ensures { IfOk result (λ file. length file.items ≤ most_file_bytes) }
 {
     let file = fs::read(rt, name)?;

@@ -1,8 +1,8 @@
 //! Does one part of the work on what it is given, and prints how much that was. Its first argument says which
 //! part: `tokens`, `syntax` and `tree` read files of Web IDL so far, `script` and `statements` read scripts so
-//! far, `nodes` puts a million nodes into the tables of a script, and `lines`, `texts` and `text` write lines of
-//! a trace or make a text for one. It stands on the crates of these parts and serves to measure them: the programs in
-//! `bench/` run it.
+//! far, `whole` reads scripts whole over a set of one file, `nodes` puts a million nodes into the tables of a
+//! script, and `lines`, `texts` and `text` write lines of a trace or make a text for one. It stands on the crates
+//! of these parts and serves to measure them: the programs in `bench/` run it.
 #![tactic(auto)]
 
 mod files;
@@ -14,6 +14,7 @@ mod statements;
 mod syntax;
 mod tokens;
 mod tree;
+mod whole;
 
 use anyhow::{Result, bail};
 use std::env;
@@ -26,6 +27,7 @@ enum Word {
     Tree,
     Script,
     Statements,
+    Whole,
     Nodes,
     Lines,
     Texts,
@@ -33,12 +35,13 @@ enum Word {
 }
 
 /// How each part is asked for.
-const WORDS: [(&str, Word); 9] = [
+const WORDS: [(&str, Word); 10] = [
     ("tokens", Word::Tokens),
     ("syntax", Word::Syntax),
     ("tree", Word::Tree),
     ("script", Word::Script),
     ("statements", Word::Statements),
+    ("whole", Word::Whole),
     ("nodes", Word::Nodes),
     ("lines", Word::Lines),
     ("texts", Word::Texts),
@@ -72,6 +75,7 @@ fn main(rt: HostRuntime) -> Result<()> {
         Word::Tree => tree::run(&rt, rest),
         Word::Script => script::run(&rt, rest),
         Word::Statements => statements::run(&rt, rest),
+        Word::Whole => whole::run(&rt, rest),
         Word::Nodes => nodes::run(&rt),
         Word::Lines => lines::run(&rt),
         Word::Texts => lines::run_text(&rt, true),

@@ -1,6 +1,6 @@
 //! The word `statements`: the tables of scripts are built.
 
-use crate::files::{read_script, words_of};
+use crate::files::{read_short, words_of};
 use anyhow::Result;
 use widl_script::build::build;
 
@@ -11,7 +11,7 @@ pub fn run(rt: &HostRuntime, names: &[String]) -> Result<()> {
     let mut lines = 0usize;
     let mut statements = 0usize;
     for name in names {
-        let script = read_script(rt, name.as_str())?;
+        let script = read_short(rt, name.as_str())?;
         bytes = bytes.saturating_add(script.len());
         if let Some(words) = words_of(rt.alloc(), name.as_str(), script.as_slice())? {
             lines = lines.saturating_add(words.lines().len());

@@ -17,6 +17,7 @@ mod inheritance;
 mod merging;
 mod overloads;
 mod profile;
+mod scripts;
 mod served;
 mod validity;
 

@@ -1,4 +1,19 @@
 mod Undoing
+pub mod OwnerTexts
+pub mod RepeatedWords
+pub mod RepeatedNames
+pub mod BoundWords
+pub mod UnknownWords
+pub mod LeastBreaks
+pub mod OwnerNumbers
+pub mod FirstBlocks
+pub mod OverloadTargets
+pub mod WholeOutcome
+pub mod StepExamples
+pub mod FirstPlaces
+pub mod Surrounding
+pub mod RuleExamples
+pub mod OneOutcome
 mod Unique
 mod UniqueLines
 mod UniqueSteps
@@ -19,3 +34,14 @@ pub mod TurnedLines
 pub mod OpenedLines
 pub mod ClosedLines
 pub mod WholeScript
+pub mod FormedLines
+pub mod LineWalks
+pub mod Lookups
+pub mod UsedPlaces
+pub mod Takes
+pub mod RepeatedTargets
+pub mod StepWalks
+pub mod SameTypes
+pub mod TypeFits
+pub mod Finding
+pub mod Misfits

@@ -12,9 +12,10 @@ use Rattle.widl_lines.specs.TextBreaks.{Line, PlacedLine, placed, IsScript, Text
 use Rattle.widl_lines.specs.Words.{Lexeme}
 use Rattle.widl_script_tree.specs.declared.row.Row.{Row}
 use Rattle.widl_script_tree.specs.Growth.{Grown}
-use Rattle.widl_script_tree.specs.Puts.{no_tables, with_top}
+use Rattle.widl_script_tree.specs.Puts.{no_tables, finished}
 use Rattle.widl_script_tree.specs.Parts.{IsName}
-use Rattle.widl_script_tree.specs.Tables.{Tables, script_tree, function_tree, statements_tree}
+use Rattle.widl_idl.specs.declared.callee.Owner.{Owner}
+use Rattle.widl_script_tree.specs.Tables.{CalleeOverload, Tables, script_tree, function_tree, statements_tree}
 use Rattle.widl_script_tree.proofs.Growing.{extends_same}
 use Rattle.widl_script.specs.declared.build.frames.Frame.{Frame}
 use Rattle.widl_script.specs.declared.build.frames.Builder.{Builder}
@@ -28,7 +29,7 @@ use Rattle.widl_script.proofs.Growing.{grown_then}
 use Rattle.widl_script.proofs.PlainLines.{Unbroken, unbroken, none_open, lines_unbroken}
 
 -- the placed lines have the words of the lines
-words_placed : (blocks : List Block) (lines : List Line) → words_of (placed blocks lines) ≡ map (λ line. line.words) lines
+pub words_placed : (blocks : List Block) (lines : List Line) → words_of (placed blocks lines) ≡ map (λ line. line.words) lines
 words_placed blocks [] = refl
 words_placed blocks (line ∷ lines) = ap (λ x. line.words ∷ x) (words_placed (blocks_after line.words blocks) lines)
 
@@ -95,17 +96,17 @@ no_frames : (stack : List Frame) → kinds_of stack ≡ [] → stack ≡ []
 no_frames [] e = refl
 no_frames (frame ∷ stack) e = absurd (let bad : kinds_of (frame ∷ stack) ≡ [] = e in cc)
 
-grown_top : (t : Tables) (top : Row) → Grown t (with_top t top)
-grown_top t top = record { expressions = extends_same t.expressions; statements = extends_same t.statements; functions = extends_same t.functions; blocks = extends_same t.blocks; names = extends_same t.names }
+grown_top : (t : Tables) (top : Row) (owners : List (ℕ × Owner)) (targets : List (CalleeOverload × ℕ)) → Grown t (finished t top owners targets)
+grown_top t top owners targets = record { expressions = extends_same t.expressions; statements = extends_same t.statements; functions = extends_same t.functions; blocks = extends_same t.blocks; names = extends_same t.names }
 
-pub all_read : (lines : List PlacedLine) (b : Builder) (rest : List PlacedLine) (t : Tables) (top : Row) → rest ≡ [] → ReadTo lines b rest → EndsAs b t top → IsTreeOf (script_tree (with_top t top)) (words_of lines)
+pub all_read : (lines : List PlacedLine) (b : Builder) (rest : List PlacedLine) (t : Tables) (top : Row) → rest ≡ [] → ReadTo lines b rest → EndsAs b t top → (owners : List (ℕ × Owner)) (targets : List (CalleeOverload × ℕ)) → IsTreeOf (script_tree (finished t top owners targets)) (words_of lines)
 unfolding script_tree
-all_read lines b rest t top is h ends =
+all_read lines b rest t top is h ends owners targets =
     let done : ReadTo lines b [] = subst (λ (x : List PlacedLine). ReadTo lines b x) is h in
     let over : TextBreak done.last (kinds_of (stack_of b)) [] None = subst (λ (x : List Line). TextBreak done.last (kinds_of (stack_of b)) x None) (no_lines done.left done.same) done.unbroken in
     let empty : stack_of b ≡ [] = no_frames (stack_of b) (none_open over) in
-    let u : Tables = with_top t top in
-    let g : Grown t u = grown_top t top in
+    let u : Tables = finished t top owners targets in
+    let g : Grown t u = grown_top t top owners targets in
     let stood : Stood (words_of lines) u b.nodes [] b.places.items b.names [] = subst (λ (x : List Frame). Stood (words_of lines) u b.nodes x b.places.items b.names []) empty (done.stands u (grown_then ends.grown g)).standing in
     let row : statements_tree u top ≡ statements_at u b.places.items = ends.trees u g in
     record {

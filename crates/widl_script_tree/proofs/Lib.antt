@@ -5,5 +5,5 @@ pub mod NewNames
 pub mod Wholes
 pub mod Rest
 mod RealNodes
-mod SameOverload
+pub mod SameOverload
 mod Examples

@@ -1,8 +1,6 @@
 -- What each call of the tables puts.
-use Rattle.std.specs.Prelude.{ℕ, List, [], ◌∷◌, ◌++◌, Option, length, map, bytes_eq, nat_eq}
-use Rattle.indexmap.specs.IndexMap.{insert_entry}
+use Rattle.std.specs.Prelude.{ℕ, List, [], ◌∷◌, ◌++◌, map, bytes_eq}
 use Rattle.indexmap.specs.IndexSet.{insert_key}
-use Rattle.widl_idl.specs.declared.callee.Callee.{Callee}
 use Rattle.widl_idl.specs.declared.callee.Owner.{Owner}
 use Rattle.widl_script_tree.specs.declared.row.Row.{Row}
 use Rattle.widl_script_tree.specs.declared.expression.Expression.{Expression}
@@ -12,7 +10,7 @@ use Rattle.widl_script_tree.specs.declared.statement.Statement.TheVariants as li
 use Rattle.widl_script_tree.specs.declared.function.Function.{Function}
 use Rattle.widl_script_tree.specs.declared.steps.StepsBlock.{StepsBlock}
 use Rattle.widl_script_tree.specs.Rows.{no_row}
-use Rattle.widl_script_tree.specs.Tables.{Tables, same_overload}
+use Rattle.widl_script_tree.specs.Tables.{CalleeOverload, Tables}
 
 abbrev pub no_tables : Tables
 no_tables = record { expressions = []; statements = []; functions = []; blocks = []; names = []; owners = []; targets = []; top = no_row }
@@ -40,11 +38,6 @@ with_block t block = record t { blocks = t.blocks ++ block ∷ [] }
 abbrev pub with_name : Tables → List ℕ → Tables
 with_name t text = record t { names = insert_key bytes_eq t.names text }
 
-abbrev pub with_owner : Tables → ℕ → Owner → Tables
-with_owner t name owner = record t { owners = insert_entry nat_eq t.owners name owner }
-
-abbrev pub with_target : Tables → Callee → Option ℕ → ℕ → Tables
-with_target t callee overload number = record t { targets = insert_entry same_overload t.targets (callee, overload) number }
-
-abbrev pub with_top : Tables → Row → Tables
-with_top t row = record t { top = row }
+-- a script: the tables with the statements outside functions, the owners of names and the blocks for callees
+abbrev pub finished : Tables → Row → List (ℕ × Owner) → List (CalleeOverload × ℕ) → Tables
+finished t top owners targets = record t { owners = owners; targets = targets; top = top }

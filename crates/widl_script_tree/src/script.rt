@@ -79,17 +79,7 @@ impl Script {
         ensures tree { statement_tree self.now place ≡ opened_statement self.now (statement_tree self.now) result.now }
         ensures real { IsRealStatement result.now }
     {
-        let mut node = self.tables.statement(place);
-        let mut at = place;
-        'through: loop {
-            match node {
-                Statement::Item(lower) => {
-                    at = *lower;
-                    node = self.tables.statement(at);
-                }
-                _ => return node,
-            }
-        }
+        self.tables.real_statement(place)
     }
 
     /// The function of a number; past the end one without a body.

@@ -4,7 +4,8 @@ ghost use Rattle.std.specs.Prelude.{◌≡◌, ◌<◌, ◌≤◌, ◌+◌, All,
 ghost use Rattle.std.specs.Option.{option_copied};
 ghost use Rattle.widl_script_tree.specs.Parts.{IsFunction, IsLower, IsLowerItem, IsLowerRow, IsLowerStatement, IsWhole};
 ghost use Rattle.widl_script_tree.specs.Tables.{expression_at, expression_tree, function_at, is_local_in, key_at, opened, opened_statement, owner_at, statement_at, statement_tree, steps_at};
-ghost use Rattle.widl_script_tree.specs.Puts.{no_tables, with_block, with_expression, with_function, with_items, with_name, with_owner, with_statement, with_statement_items, with_target, with_top};
+ghost use Rattle.widl_script_tree.specs.Real.{IsRealStatement};
+ghost use Rattle.widl_script_tree.specs.Puts.{finished, no_tables, with_block, with_expression, with_function, with_items, with_name, with_statement, with_statement_items};
 
 use crate::expression::Expression;
 use crate::function::Function;
@@ -248,45 +249,24 @@ impl ScriptTables {
         Ok(number as u32)
     }
 
-    /// Says which interface or namespace has the name of this number.
+    /// The script of these tables.
     ///
-    /// # Errors
-    ///
-    /// `AllocError` where there is no memory.
-    pub fn put_owner(&mut self, name: u32, owner: Owner) -> Result<(), AllocError>
-        ensures tables { OnOk result (self.new ≡ with_owner self.old name owner) }
-        ensures err { OnErr result (self.new ≡ self.old) }
-    {
-        self.owners.insert(name, owner)?;
-        Ok(())
-    }
-
-    /// Says which steps block is for a callee and, where it is an operation or a constructor, its
-    /// overload.
-    ///
-    /// # Errors
-    ///
-    /// `AllocError` where there is no memory.
-    pub fn put_target(
-        &mut self,
-        callee: Callee,
-        overload: Option<u32>,
-        number: u32,
-    ) -> Result<(), AllocError>
-        ensures tables { OnOk result (self.new ≡ with_target self.old callee overload number) }
-        ensures err { OnErr result (self.new ≡ self.old) }
-    {
-        self.targets.insert((callee, overload), number)?;
-        Ok(())
-    }
-
-    /// The script of these tables, with the statements outside functions.
-    pub fn finish(self, top: Row) -> Script
+    /// `top` has the statements outside functions, `owners` the interfaces and namespaces of names, by the
+    /// names' numbers, and `targets` the numbers of the steps blocks for callees, where they are operations or
+    /// constructors with their overloads.
+    pub fn finish(
+        self,
+        top: Row,
+        owners: IndexMap<u32, Owner>,
+        targets: IndexMap<(Callee, Option<u32>), u32>,
+    ) -> Script
         requires { IsLowerRow (length self.statements) top }
-        ensures { result ≡ with_top self top }
+        ensures { result ≡ finished self top owners.entries targets.entries }
     {
         let mut tables = self;
         tables.top = top;
+        tables.owners = owners;
+        tables.targets = targets;
         Script::of(tables)
     }
 
@@ -318,6 +298,24 @@ impl ScriptTables {
     {
         self.is_whole();
         self.statement_here(place)
+    }
+
+    /// The statement at a place, which is no item. A `Do` of nothing past the end.
+    pub fn real_statement(&self, place: u32) -> &Statement
+        ensures tree { statement_tree self.now place ≡ opened_statement self.now (statement_tree self.now) result.now }
+        ensures real { IsRealStatement result.now }
+    {
+        let mut node = self.statement(place);
+        let mut at = place;
+        'through: loop {
+            match node {
+                Statement::Item(lower) => {
+                    at = *lower;
+                    node = self.statement(at);
+                }
+                _ => return node,
+            }
+        }
     }
 
     fn statement_here(&self, place: u32) -> &Statement

@@ -10,6 +10,7 @@ use crate::script::Script;
 use crate::statement::Statement;
 use crate::steps::{Source, StepLine, StepsBlock, Target};
 use crate::tables::ScriptTables;
+use indexmap::IndexMap;
 use std::alloc::{AllocError, Global};
 use std::process::Abort;
 use widl_idl::{Callee, Owner, Part};
@@ -53,19 +54,31 @@ fn do_alone(rt: &impl Abort, tables: &mut ScriptTables, value: u32) -> Result<Ro
     tables.put_statement_row(&[place])
 }
 
-/// The script with these statements outside functions.
-fn finished(rt: &impl Abort, tables: ScriptTables, top: Row) -> Script {
+/// The numbers of steps blocks, by what they are for.
+type Targets = IndexMap<(Callee, Option<u32>), u32>;
+
+/// The script with these statements outside functions and these steps blocks, whose first name is a
+/// namespace's.
+fn finished(
+    rt: &impl Abort,
+    alloc: Global,
+    tables: ScriptTables,
+    top: Row,
+    targets: Targets,
+) -> Result<Script, AllocError> {
     assert!(rt; u64::from(top.first) + u64::from(top.count) <= u64::from(tables.statement_count()));
-    tables.finish(top)
+    let mut owners = IndexMap::new(alloc);
+    owners.insert(0, Owner::Space(7))?;
+    Ok(tables.finish(top, owners, targets))
 }
 
-/// The names `N`, `f`, `o` and `a`, of which the first is of a namespace.
+/// The names `N`, `f`, `o` and `a`.
 fn put_names(rt: &impl Abort, alloc: Global, tables: &mut ScriptTables) -> Result<(), AllocError> {
     let rows = [("N", 0), ("f", 1), ("o", 2), ("a", 3), ("f", 1)];
     for (text, number) in rows {
         assert_eq!(rt; name(rt, tables, Units::of_str(alloc, text)?)?, number);
     }
-    tables.put_owner(0, Owner::Space(7))
+    Ok(())
 }
 
 /// A function with the parameter `p`.
@@ -129,18 +142,19 @@ fn put_blocks(
     alloc: Global,
     tables: &mut ScriptTables,
     callee: Callee,
-) -> Result<(), AllocError> {
+) -> Result<Targets, AllocError> {
+    let mut targets = IndexMap::new(alloc);
     for overload in 0..100_000 {
         assert!(rt; tables.steps_count() < u32::MAX);
         let number = tables.put_steps(block(alloc, overload)?)?;
-        tables.put_target(callee, Some(overload), number)?;
+        targets.insert((callee, Some(overload)), number)?;
     }
-    Ok(())
+    Ok(targets)
 }
 
 /// Whether the block of this overload returns the argument of its number.
-fn returns_its_number(tables: &ScriptTables, callee: &Callee, overload: u32) -> bool {
-    match tables.steps_of(callee, Some(overload)) {
+fn returns_its_number(script: &Script, callee: &Callee, overload: u32) -> bool {
+    match script.steps_of(callee, Some(overload)) {
         Some(lines) => match lines.as_slice() {
             [StepLine::Return(Source::Arg(number))] => *number == overload,
             _ => false,
@@ -156,10 +170,12 @@ fn finds_the_block_of_an_overload(rt: HostRuntime) -> Result<(), AllocError> {
         owner: Owner::Space(0),
         part: Part::Op(3),
     };
-    put_blocks(&rt, rt.alloc(), &mut tables, callee)?;
-    assert!(rt; returns_its_number(&tables, &callee, 99_999));
-    assert!(rt; tables.steps_of(&callee, None).is_none());
-    assert!(rt; tables.steps_of(&callee, Some(100_000)).is_none());
+    let targets = put_blocks(&rt, rt.alloc(), &mut tables, callee)?;
+    let top = Row { first: 0, count: 0 };
+    let script = finished(&rt, rt.alloc(), tables, top, targets)?;
+    assert!(rt; returns_its_number(&script, &callee, 99_999));
+    assert!(rt; script.steps_of(&callee, None).is_none());
+    assert!(rt; script.steps_of(&callee, Some(100_000)).is_none());
     Ok(())
 }
 
@@ -177,7 +193,7 @@ fn put_chain(rt: &impl Abort, alloc: Global, tables: &mut ScriptTables) -> Resul
 fn puts_a_long_chain(rt: HostRuntime) -> Result<(), AllocError> {
     let mut tables = ScriptTables::new(rt.alloc());
     let top = put_chain(&rt, rt.alloc(), &mut tables)?;
-    let script = finished(&rt, tables, top);
+    let script = finished(&rt, rt.alloc(), tables, top, IndexMap::new(rt.alloc()))?;
     assert!(rt; *script.statement(top.first) == Statement::Do(500_000));
     Ok(())
 }
@@ -345,7 +361,7 @@ fn has_no_blocks(script: &Script, callee: &Callee) -> bool {
 fn reads_a_script(rt: HostRuntime) -> Result<(), AllocError> {
     let mut tables = ScriptTables::new(rt.alloc());
     let top = put_sample(&rt, rt.alloc(), &mut tables)?;
-    let script = finished(&rt, tables, top);
+    let script = finished(&rt, rt.alloc(), tables, top, IndexMap::new(rt.alloc()))?;
     assert!(rt; has_expressions(&script));
     assert!(rt; has_items(&script));
     assert!(rt; has_statements(&script));

@@ -7,7 +7,7 @@ use std::alloc::{AllocError, Global};
 use std::process::Abort;
 use std::test::Fail;
 use widl_front::{Texts, Verdict, judge};
-use widl_overload::is_served;
+use widl_overload::{Accepted, is_served};
 use widl_text::limits::MOST_FILE_BYTES;
 
 /// One text alone.
@@ -19,15 +19,25 @@ fn alone(alloc: Global, bytes: &[u8]) -> Result<Texts, AllocError>
     Ok(texts)
 }
 
-/// Whether a run is supported over the set of one file, if that is accepted.
+/// The set of one file, if it is accepted.
 #[tactic(auto, using(crate::proofs::OneText::alone_short))]
-fn is_supported(alloc: Global, file: &[u8]) -> Result<Option<bool>, AllocError>
+pub fn accepted(alloc: Global, file: &[u8]) -> Result<Option<Accepted>, AllocError>
     requires { length file.now ≤ most_file_bytes }
 {
     let texts = alone(alloc, file)?;
     match judge(alloc, &texts)? {
-        Verdict::Accepted(accepted) => Ok(Some(is_served(&accepted))),
+        Verdict::Accepted(list) => Ok(Some(list)),
         Verdict::Fault(_) | Verdict::Broken(_) => Ok(None),
+    }
+}
+
+/// Whether a run is supported over the set of one file, if that is accepted.
+fn is_supported(alloc: Global, file: &[u8]) -> Result<Option<bool>, AllocError>
+    requires { length file.now ≤ most_file_bytes }
+{
+    match accepted(alloc, file)? {
+        Some(list) => Ok(Some(is_served(&list))),
+        None => Ok(None),
     }
 }
 

@@ -1,10 +1,11 @@
 //! The tables of a whole script.
 
-ghost use Rattle.std.specs.Prelude.{IfOk, OnOk, length};
+ghost use Rattle.std.specs.Prelude.{IfOk, List, length, ℕ};
+ghost use Rattle.widl_idl.specs.declared.callee.Owner.{Owner};
 ghost use Rattle.widl_lines.specs.LineTerms.{line_of};
 ghost use Rattle.widl_script_tree.specs.Parts.{IsLowerRow};
-ghost use Rattle.widl_script_tree.specs.Puts.{with_top};
-ghost use Rattle.widl_script_tree.specs.Tables.{script_tree};
+ghost use Rattle.widl_script_tree.specs.Puts.{finished};
+ghost use Rattle.widl_script_tree.specs.Tables.{CalleeOverload, script_tree};
 ghost use Rattle.widl_script.specs.Building.{Sound};
 ghost use Rattle.widl_script.specs.ReadScript.{EndsAs, ReadTo};
 ghost use Rattle.widl_script.specs.SpelledStatements.{IsTreeOf, words_of};
@@ -16,7 +17,7 @@ use widl_script_tree::{Row, ScriptTables};
 
 /// The tables of a script.
 ///
-/// What a name or a steps block is for isn't told yet ([`ScriptTables::put_owner`], [`ScriptTables::put_target`]).
+/// What a name or a steps block is for isn't told yet ([`ScriptTables::finish`]).
 #[derive(Drop)]
 pub struct Built {
     /// The tables.
@@ -39,13 +40,13 @@ fn finish(builder: Builder) -> Result<Built, AllocError>
     })
 }
 
-/// The tables of the words of a script.
+/// The tables of the words of a script, whoever the owners and the targets are that [`ScriptTables::finish`] is told.
 ///
 /// # Errors
 ///
 /// `AllocError` where there is no memory.
 pub fn build(alloc: Global, words: &ScriptWords<'_>) -> Result<Built, AllocError>
-    ensures tree { IfOk result (λ built. IsTreeOf (script_tree (with_top built.tables built.top)) (words_of words.now)) }
+    ensures tree { IfOk result (λ built. (owners : List (ℕ × Owner)) (targets : List (CalleeOverload × ℕ)) → IsTreeOf (script_tree (finished built.tables built.top owners targets)) (words_of words.now)) }
     ensures top { IfOk result (λ built. IsLowerRow (length built.tables.statements) built.top) }
 {
     let mut builder = Builder::new(alloc);

@@ -11,4 +11,4 @@ pub lines-preserved : goal.lines-preserved
 lines-preserved c = read_after _ _ _ c.lines.rest.now c.line-item.result c.in-len1-up.len_at_least c.line-item.is c.lines.invariant c.in_ok-read_line.ensures.sound c.in_ok-read_line.ensures.grown c.in_ok-read_line.ensures.read
 
 pub returns-clause-tree : goal.returns-clause-tree
-returns-clause-tree c = in_ok c.finish.result _ _ (λ built h. all_read _ _ _ _ _ (no_more _ c.in_default.len_below) c.lines.invariant h) c.finish.ensures
+returns-clause-tree c = in_ok c.finish.result _ _ (λ built h owners targets. all_read _ _ _ _ _ (no_more _ c.in_default.len_below) c.lines.invariant h owners targets) c.finish.ensures

@@ -1,0 +1,49 @@
+//! The word `whole`: scripts are read over the set of one file of Web IDL.
+
+ghost use Rattle.std.specs.Prelude.{◌≤◌, length};
+ghost use Rattle.widl_idl.specs.DefinitionTerms.{defs_term};
+ghost use Rattle.widl_script.specs.Scripts.{HasRules};
+ghost use Rattle.widl_text.specs.Limits.{most_file_bytes};
+
+use crate::files::read_short;
+use crate::sets::set_of;
+use anyhow::{Result, bail};
+use std::alloc::Global;
+use widl_lines::ScriptFault;
+use widl_overload::Accepted;
+use widl_script::{has_rules, read_script};
+
+/// Whether a script breaks no rule.
+fn is_unbroken(alloc: Global, script: &[u8], list: &Accepted) -> Result<bool>
+    requires short { length script.now ≤ most_file_bytes }
+    requires rules { HasRules (defs_term list.now.defs) }
+{
+    match read_script(alloc, script, list) {
+        Ok(_) => Ok(true),
+        Err(ScriptFault::Refused(_)) => Ok(false),
+        Err(ScriptFault::Memory) => bail!("out of memory"),
+    }
+}
+
+/// Prints how many bytes the scripts of all names but the first have, and how many of them break no rule over the
+/// set of the first.
+pub fn run(rt: &HostRuntime, args: &[String]) -> Result<()> {
+    let [file, names @ ..] = args else {
+        bail!("a file of Web IDL is wanted, and then scripts");
+    };
+    let list = set_of(rt, file.as_str())?;
+    let mut bytes = 0usize;
+    let mut unbroken = 0usize;
+    for name in names {
+        let script = read_short(rt, name.as_str())?;
+        bytes = bytes.saturating_add(script.len());
+        if !has_rules(&list) {
+            bail!("scripts are not read over this set yet");
+        }
+        if is_unbroken(rt.alloc(), script.as_slice(), &list)? {
+            unbroken = unbroken.saturating_add(1);
+        }
+    }
+    println!(rt; "{bytes} bytes, {unbroken} without a break")?;
+    Ok(())
+}

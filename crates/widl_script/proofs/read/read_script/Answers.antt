@@ -1,0 +1,21 @@
+use Rattle.std.proofs.Common.{◌≡◌, subst}
+use Rattle.std.specs.Prelude.{IfErr, IfOk}
+use Rattle.widl_idl.specs.declared.defs.Defs.{Defs}
+use Rattle.widl_idl.specs.DefinitionTerms.{defs_term}
+use Rattle.widl_script.specs.Outcomes.{IsRefusal}
+use Rattle.widl_script.specs.Scripts.{IsReadAs}
+use Rattle.widl_script.proofs.WholeOutcome.{complete_of, exact_of}
+use Rattle.widl_script.proofs.read.read_script.Goals as goal
+
+pub returns-clause-complete : goal.returns-clause-complete
+returns-clause-complete c =
+    let bytes = c.args.bytes.now in
+    complete_of bytes (defs_term c.args.list.now.defs) c.read_over.result (subst (λ (d : Defs). IfErr c.read_over.result (IsRefusal bytes (defs_term d))) c.defs.ensures.defs c.read_over.ensures.refused)
+
+pub returns-clause-exact : goal.returns-clause-exact
+returns-clause-exact c =
+    let bytes = c.args.bytes.now in
+    let list = defs_term c.args.list.now.defs in
+    exact_of bytes list c.read_over.result (c.one_first_break.ensures bytes list) (c.scripts_are_unbroken.ensures bytes list)
+    (subst (λ (d : Defs). IfOk c.read_over.result (IsReadAs bytes (defs_term d))) c.defs.ensures.defs c.read_over.ensures.ok)
+    (subst (λ (d : Defs). IfErr c.read_over.result (IsRefusal bytes (defs_term d))) c.defs.ensures.defs c.read_over.ensures.refused)

@@ -1,0 +1,23 @@
+use Rattle.std.proofs.Common.{◌≡◌, ◌+◌, ◌∙◌, arith, ap, sym, length, subst, option_map, take, flat_map}
+use Rattle.std.proofs.lemmas.List.{length-map}
+use Rattle.std.proofs.lemmas.Option.{slice_get-map}
+use Rattle.widl_script.specs.RepeatedParameters.{repeated_parameters_in}
+use Rattle.widl_script.specs.Standings.{standings}
+use Rattle.widl_script.specs.Surroundings.{plain_line, plain_lines}
+use Rattle.widl_script.proofs.FirstPlaces.{Firsts, next_first, whole_first}
+use Rattle.widl_script.proofs.Surrounding.{at_place}
+use Rattle.widl_script.proofs.rules.repeated_parameters.first_repeated_parameter.Goals as goal
+
+pub lines-preserved : goal.lines-preserved
+lines-preserved c =
+    let raw = c.args.lines.now in
+    let k = c.lines.line-index in
+    subst (λ r. Firsts (flat_map repeated_parameters_in (take (k + 1) (standings (plain_lines raw)))) r) (sym c.first_of-first.ensures)
+    (next_first repeated_parameters_in (plain_lines raw) k (plain_line c.line-item.result) c.lines.first c.in_ok-repeated.repeated
+    (slice_get-map plain_line raw k ∙ ap (option_map plain_line) (at_place raw k c.line-item.result c.lines-test.true c.line-item.is)) c.lines.invariant c.in_ok-repeated.ensures)
+
+pub returns : goal.returns
+returns c =
+    let lines = plain_lines c.args.lines.now in
+    let end : c.lines.line-index ≡ length lines = omega (arith, c.lines-test.false, c.lines.auto.line-index-end) ∙ sym (length-map c.args.lines.now plain_line) in
+    whole_first repeated_parameters_in lines c.lines.line-index c.lines.first end c.lines.invariant

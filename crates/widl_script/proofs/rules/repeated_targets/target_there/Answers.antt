@@ -1,0 +1,14 @@
+use Rattle.std.proofs.Common.{subst}
+use Rattle.widl_script.specs.Lookups.{IsOpening}
+use Rattle.widl_script.proofs.RepeatedTargets.{closed_there, known_there, missing_there}
+use Rattle.widl_script.proofs.rules.repeated_targets.target_there.Goals as goal
+
+pub returns-in-Some-overload : goal.returns-in-Some-overload
+returns-in-Some-overload c = λ list line h.
+    known_there list line c.in-Some.opening _ c.operation_target.result c.in-Some-overload.is c.operation_target.ensures.target (subst (IsOpening list line) c.in-Some.is h)
+
+pub returns-in-None-overload : goal.returns-in-None-overload
+returns-in-None-overload c = λ list line h. missing_there list line c.in-Some.opening c.in-None-overload.is (subst (IsOpening list line) c.in-Some.is h)
+
+pub returns-in-None : goal.returns-in-None
+returns-in-None c = λ list line h. closed_there list line (subst (IsOpening list line) c.in-None.is h)

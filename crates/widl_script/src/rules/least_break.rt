@@ -1,0 +1,59 @@
+//! The first rule on names, places and steps that a script breaks.
+
+ghost use Rattle.std.specs.Prelude.{◌≡◌, [], length, IfOk, None};
+ghost use Rattle.widl_first.specs.First.{IsFirst};
+ghost use Rattle.widl_idl.specs.DefinitionTerms.{defs_term};
+ghost use Rattle.widl_lines.specs.TextBreaks.{TextBreak};
+ghost use Rattle.widl_script.specs.BrokenRules.{BreaksNames};
+ghost use Rattle.widl_script.specs.LeastBreak.{place_key, IsLeastBreak};
+ghost use Rattle.widl_script.specs.Scripts.{HasRules};
+ghost use Rattle.widl_script.specs.Standings.{standings};
+ghost use Rattle.widl_script.specs.Surroundings.{plain_lines, AreAround};
+
+use crate::rules::blocks::first_block_break;
+use crate::rules::places::first_of;
+use crate::rules::placing::first_misplaced_word;
+use crate::rules::repeated_functions::first_repeated_function;
+use crate::rules::repeated_parameters::first_repeated_parameter;
+use crate::rules::standings::{Around, surroundings};
+use crate::rules::unknown_names::first_unknown_name;
+use std::alloc::{AllocError, Global};
+use widl_idl::Defs;
+use widl_lines::{LineWords, ScriptPlace};
+
+/// The first of the rules on names and places, 5, 7 and 8, that lines break.
+fn first_break_of_names(
+    alloc: Global,
+    lines: &[LineWords<'_>],
+    all: &[Around],
+    list: &Defs,
+) -> Result<Option<ScriptPlace>, AllocError>
+    requires each { AreAround (plain_lines lines.now) all.now }
+    requires count { length all.now ≡ length lines.now }
+    ensures { IfOk result (IsFirst place_key (BreaksNames (defs_term list.now) (standings (plain_lines lines.now)))) }
+{
+    let unknown = first_unknown_name(alloc, lines, all, list)?;
+    let misplaced = first_misplaced_word(lines, all);
+    let function = first_repeated_function(alloc, lines, list)?;
+    let parameter = first_repeated_parameter(alloc, lines)?;
+    let first = first_of(unknown, misplaced);
+    let first = first_of(first, function);
+    Ok(first_of(first, parameter))
+}
+
+/// The first rule on names, places and steps that is broken by lines that break no rule of form, by line, column and
+/// rule.
+pub(crate) fn least_break(
+    alloc: Global,
+    list: &Defs,
+    lines: &[LineWords<'_>],
+) -> Result<Option<ScriptPlace>, AllocError>
+    requires rules { HasRules (defs_term list.now) }
+    requires formed { TextBreak 1 [] (plain_lines lines.now) None }
+    ensures { IfOk result (IsLeastBreak (defs_term list.now) (plain_lines lines.now)) }
+{
+    let around = surroundings(alloc, lines)?;
+    let names = first_break_of_names(alloc, lines, &around, list)?;
+    let blocks = first_block_break(alloc, list, lines, &around)?;
+    Ok(first_of(names, blocks))
+}
