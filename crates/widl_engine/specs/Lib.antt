@@ -1,0 +1,14 @@
+pub mod Frames
+pub mod Tested
+pub mod ReadOver
+pub mod Place
+pub mod Shown
+pub mod ArgumentCounts
+pub mod Added
+pub mod Machine
+pub mod Fits
+pub mod Running
+pub mod Output
+pub mod Stepping
+pub mod Outcomes
+pub mod Stops

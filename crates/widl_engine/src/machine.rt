@@ -1,0 +1,151 @@
+//! A machine that stops between two charges.
+
+ghost use Rattle.std.specs.Prelude.{◌≡◌, ◌≤◌};
+ghost use Rattle.widl_runs.specs.Jobs.{Program};
+ghost use Rattle.widl_engine.specs.Frames.{program_of};
+ghost use Rattle.widl_engine.specs.Machine.{MachineFits, still};
+ghost use Rattle.widl_engine.specs.Output.{output};
+ghost use Rattle.widl_engine.specs.ReadOver.{IsReadOver};
+ghost use Rattle.widl_engine.specs.Running.{IsFresh};
+ghost use Rattle.widl_engine.specs.Stepping.{SteppedFaults, Steps, stepped_of};
+
+use crate::bindings::Bindings;
+use crate::charges::{Charge, Unit};
+use crate::contexts::Place;
+use crate::frames::Frame;
+use crate::moves::Move;
+use crate::paying::{emit, owed_for};
+use std::alloc::Global;
+use widl_runs::{Completion, Stop};
+use widl_script_tree::Script;
+use widl_store::Store;
+use widl_tables::Tables;
+use widl_trace::{Sink, Writer};
+
+/// What a machine still has to do, and what it has taken.
+#[derive(Drop)]
+pub struct Machine {
+    /// The charge that is due.
+    pub due: Charge,
+    /// What is done with the ends of jobs, the next one last.
+    pub frames: Vec<Frame>,
+    /// Names, symbols and contexts.
+    pub place: Place,
+    /// The units that were taken.
+    pub taken: u32,
+    /// The units of the budget.
+    pub budget: u32,
+}
+
+/// What one move that takes no unit leads to.
+#[derive(Drop)]
+pub enum Turn {
+    /// To another move.
+    More(Move),
+    /// To a charge.
+    Rests,
+    /// To the end of the script.
+    Ended(Completion),
+    /// To a stop.
+    Stopped(Stop),
+    /// To nothing: there was no memory.
+    Memory,
+}
+
+/// What all moves up to the next charge lead to.
+#[derive(Drop)]
+pub enum Moved {
+    /// To a charge.
+    Going,
+    /// To the end of the script.
+    Ended(Completion),
+    /// To a stop.
+    Stopped(Stop),
+    /// To nothing: there was no memory.
+    Memory,
+}
+
+/// How a machine has come to its end.
+#[derive(Drop)]
+pub enum Way {
+    /// The script has ended.
+    Ended(Completion),
+    /// The run was stopped.
+    Stopped(Stop),
+    /// The sink failed.
+    WriteFault,
+    /// There was no memory.
+    Memory,
+}
+
+/// What a step leads to.
+#[derive(Drop)]
+pub enum Stepped {
+    /// To the next charge.
+    Going,
+    /// To nothing: the units that are left don't pay for the charge that is due.
+    Unpaid,
+    /// To the end.
+    Over(Way),
+}
+
+/// The first symbol of a script: the lower numbers are those of the well-known symbols.
+const FIRST_SYMBOL: u32 = 3;
+
+/// A machine that has done nothing.
+pub(crate) fn fresh(alloc: Global, budget: u32) -> Machine
+    ensures { IsFresh result budget }
+{
+    Machine {
+        due: Charge::Unit(Unit::Symbol),
+        frames: Vec::new(alloc),
+        place: Place {
+            globals: Bindings::new(alloc),
+            next_symbol: FIRST_SYMBOL,
+            here: None,
+            outer: Vec::new(alloc),
+        },
+        taken: 0,
+        budget,
+    }
+}
+
+/// The step of a charge that was taken.
+fn step_of(moved: Moved) -> Stepped
+    ensures { result ≡ stepped_of moved }
+{
+    match moved {
+        Moved::Going => Stepped::Going,
+        Moved::Ended(completion) => Stepped::Over(Way::Ended(completion)),
+        Moved::Stopped(stop) => Stepped::Over(Way::Stopped(stop)),
+        Moved::Memory => Stepped::Over(Way::Memory),
+    }
+}
+
+impl Machine {
+    /// Takes the charge that is due, with its line, and makes all moves up to the next one.
+    pub(crate) fn step<K: Sink>(
+        &mut self,
+        alloc: Global,
+        tables: &Tables,
+        script: &Script,
+        store: &mut Store,
+        writer: &mut Writer,
+        out: &mut K,
+    ) -> Stepped
+        requires read { let p : Program = program_of tables.now script.now in IsReadOver p.list script.now }
+        requires fits { let p : Program = program_of tables.now script.now in MachineFits p script.now store.old (still p script.now self.old) self.old }
+        requires paid { self.old.taken ≤ self.old.budget }
+        ensures steps { Steps (program_of tables.now script.now) script.now store.old self.old store.new self.new (output (K.held out.old) writer.old) (output (K.held out.new) writer.new) result }
+        ensures faults { SteppedFaults (K.faults out.old) (K.faults out.new) result }
+    {
+        match owed_for(alloc, tables, &self.due, self.budget - self.taken) {
+            Err(_) => Stepped::Over(Way::Memory),
+            Ok(None) => Stepped::Unpaid,
+            Ok(Some(owed)) => match emit(&owed.line, writer, out) {
+                Err(_) => Stepped::Over(Way::WriteFault),
+                Ok(()) => step_of(self.take(alloc, tables, script, store, owed.units)),
+            },
+        }
+    }
+}
