@@ -1,0 +1,190 @@
+-- Each task of a call ends in some conversation, and so it does after each answer that fits and each end of a task that it goes through.
+use Rattle.std.proofs.Common.{ℕ, Bool, List, [], ◌∷◌, Option, None, Some, refl}
+use Rattle.std.specs.Prelude.{nat_eq, slice_get}
+use Rattle.widl_dialog.specs.Dialog.{End, Say, Steps}
+use Rattle.widl_dialog.specs.Conversation.{Finishes}
+use Rattle.widl_dialog.specs.Rename.{rename}
+use Rattle.widl_dialog.proofs.Renaming.{finishes_rename, good_rename}
+use Rattle.widl_dialog.proofs.Wholes.{fine_say, fine_steps, asks_go_on}
+use Rattle.widl_idl.specs.declared.callee.Callee.{Callee}
+use Rattle.widl_idl.specs.declared.callee.Owner.{Owner}
+use Rattle.widl_idl.specs.declared.callee.Owner.TheVariants as owners
+use Rattle.widl_idl.specs.declared.literal.Literal.{Literal}
+use Rattle.widl_idl.specs.DefinitionTerms.{DefsTerm}
+use Rattle.widl_idl.specs.Terms.{TypeTerm, AnyType, UndefinedType, BooleanType, IntegerType, StringType, EnumerationType, InterfaceType, CallbackFunctionType, CallbackInterfaceType, DictionaryType, ObjectType, SequenceType, RecordType, PromiseType, NullableType, UnionType}
+use Rattle.widl_value.specs.declared.object.ObjRef.{ObjRef}
+use Rattle.widl_value.specs.declared.value.Value.{Value}
+use Rattle.widl_value.specs.declared.value.Value.TheVariants as values
+use Rattle.widl_value.specs.IdlTerms.{IdlTerm, UndefinedValue, NullValue, MissingValue, BooleanValue, IntegerValue, StringValue, EnumerationValue, ObjectValue, AnyValue, SequenceValue, RecordValue, DictionaryValue, PromiseValue}
+use Rattle.widl_store.specs.declared.inner.Builtin.{Builtin}
+use Rattle.widl_store.specs.declared.inner.Builtin.TheVariants as builtins
+use Rattle.widl_script_tree.specs.declared.steps.Source.{Source}
+use Rattle.widl_script_tree.specs.declared.steps.Source.TheVariants as sources
+use Rattle.widl_script_tree.specs.declared.steps.StepLine.{StepLine}
+use Rattle.widl_script_tree.specs.declared.steps.StepLine.TheVariants as steps
+use Rattle.widl_script_tree.specs.Trees.{ScriptTree}
+use Rattle.widl_convert.specs.declared.answer.KindName.TheVariants as kinds
+use Rattle.widl_convert.specs.AskTerms.{UnitAsk, KindAsk, DoneAnswer, KindAnswer, Fits}
+use Rattle.widl_convert.specs.Laws.{AsksAreTalked}
+use Rattle.widl_convert.specs.Rules.{rule}
+use Rattle.widl_convert.specs.Tasks.{Task, Resolve, Default, Out, TaskEnd, Gives, Plain, Picks, Throw, Rethrow, Profile}
+use Rattle.widl_convert.proofs.Finishing.{IsFine, fine, fine_if, fine_ask, fine_given, fine_rule}
+use Rattle.widl_calls.specs.BuiltCalls.{BuiltCalls}
+use Rattle.widl_calls.specs.CallRules.{call_rule, intrinsic, function}
+use Rattle.widl_calls.specs.CallTasks.{CallTask, Of, Function, Lines, CallTalk}
+use Rattle.widl_calls.specs.ObjectFunctions.{object_to_string, object_value_of, with_tag, by_kind}
+use Rattle.widl_calls.specs.Operations.{result_type, lines_of, returns_promise, steps_of, chosen, owned_operation}
+use Rattle.widl_calls.specs.StepLines.{argument_value, return_line, line, default_result, lines}
+
+module _ (built : BuiltCalls) (list : DefsTerm) (script : ScriptTree) where
+  abbrev tasks : CallTask → CallTalk
+  tasks = call_rule built list script
+
+  abbrev Is : CallTalk → Type 0
+  Is d = IsFine tasks d
+
+  an_end : (r : TaskEnd) → Is (End r)
+  an_end r = fine tasks r
+
+  -- a conversion within a call
+  fine_of : (t : Task) → Is (rename Of (rule built.conversions list t))
+  fine_of t = record {
+    ends = finishes_rename Of (rule built.conversions list) tasks Fits (λ j. refl) (rule built.conversions list t) (fine_rule built.conversions list t).ends;
+    good = good_rename Of (rule built.conversions list) tasks Fits (λ j. refl) (rule built.conversions list t) (fine_rule built.conversions list t).good;
+  }
+
+  through : (j : CallTask) (k : TaskEnd → CallTalk) → Finishes tasks Fits (tasks j) → ((r : TaskEnd) → Is (k r)) → Is (Steps j k)
+  through j k x all = fine_steps tasks Fits j k x all
+
+  converts : (t : Task) → Is (Steps (Of t) End)
+  converts t = through (Of t) End (fine_of t).ends an_end
+
+  -- 1. The lines of a steps block
+
+  fine_argument : (w : Option IdlTerm) → Is (argument_value w)
+  fine_argument None = an_end _
+  fine_argument (Some MissingValue) = an_end _
+  fine_argument (Some UndefinedValue) = an_end _
+  fine_argument (Some NullValue) = an_end _
+  fine_argument (Some (BooleanValue b)) = an_end _
+  fine_argument (Some (IntegerValue n)) = an_end _
+  fine_argument (Some (StringValue units)) = an_end _
+  fine_argument (Some (EnumerationValue n place)) = an_end _
+  fine_argument (Some (ObjectValue o)) = an_end _
+  fine_argument (Some (AnyValue v)) = an_end _
+  fine_argument (Some (SequenceValue _)) = an_end _
+  fine_argument (Some (RecordValue _)) = an_end _
+  fine_argument (Some (DictionaryValue n _)) = an_end _
+  fine_argument (Some (PromiseValue o)) = an_end _
+
+  fine_return : (t : TypeTerm) (ws : List IdlTerm) (source : Source) → Is (return_line t ws source)
+  fine_return t ws (sources.Arg number) = fine_argument (slice_get ws number)
+  fine_return t ws sources.This = an_end _
+  fine_return t ws (sources.Slot name) = an_end _
+  fine_return t ws (sources.Literal l) = converts (Default t (Some l))
+
+  fine_line : (t : TypeTerm) (ws : List IdlTerm) (l : StepLine) → Is (line t ws l)
+  fine_line t ws (steps.Return source) = fine_return t ws source
+  fine_line t ws (steps.ReturnInvoke invoke) = an_end _
+  fine_line t ws (steps.SetSlot name source) = an_end _
+  fine_line t ws (steps.Append key value) = an_end _
+  fine_line t ws steps.Clear = an_end _
+  fine_line t ws (steps.Throw v) = an_end _
+  fine_line t ws (steps.Invoke invoke) = an_end _
+
+  fine_default : (t : TypeTerm) → Is (default_result t)
+  fine_default AnyType = an_end _
+  fine_default UndefinedType = an_end _
+  fine_default BooleanType = an_end _
+  fine_default (IntegerType kind mode) = an_end _
+  fine_default (StringType kind null_empty) = an_end _
+  fine_default (EnumerationType n) = an_end _
+  fine_default (InterfaceType n) = an_end _
+  fine_default (CallbackFunctionType n) = an_end _
+  fine_default (CallbackInterfaceType n) = an_end _
+  fine_default (DictionaryType n) = an_end _
+  fine_default ObjectType = an_end _
+  fine_default (SequenceType t) = an_end _
+  fine_default (RecordType key t) = an_end _
+  fine_default (PromiseType t) = an_end _
+  fine_default (NullableType t) = an_end _
+  fine_default (UnionType ts) = an_end _
+
+  fine_lines : (t : TypeTerm) (ws : List IdlTerm) (ls : List StepLine) → Is (lines t ws ls)
+  fine_lines t ws [] = fine_default t
+  fine_lines t ws (l ∷ more) = fine_say tasks Fits UnitAsk _ DoneAnswer tt (λ a f. fine_line t ws l)
+
+  -- 2. Operations
+
+  fine_steps_of : (c : Callee) (e : ℕ) (ws : List IdlTerm) → Is (steps_of list script c e ws)
+  fine_steps_of c e ws =
+      through (Lines (result_type list c e) ws (lines_of list script c e)) _ (fine_lines _ ws (lines_of list script c e)).ends
+      (fine_given tasks _ (λ w. converts (Out (result_type list c e) w)))
+
+  fine_chosen : (c : Callee) (r : TaskEnd) → Is (chosen list script c r)
+  fine_chosen c (Picks e ws) = fine_say tasks Fits _ _ DoneAnswer tt (λ a f. fine_steps_of c e ws)
+  fine_chosen c (Gives w) = an_end _
+  fine_chosen c (Plain v) = an_end _
+  fine_chosen c (Throw reason) = an_end _
+  fine_chosen c (Rethrow v) = an_end _
+  fine_chosen c (Profile n) = an_end _
+
+  fine_operation : (c : Callee) (args : List Value) (owner : Owner) → Is (owned_operation list script c args owner)
+  fine_operation c args (owners.Space n) = fine_if tasks (returns_promise list c) _ _ (an_end _) (through (Of (Resolve c args)) _ (fine_of (Resolve c args)).ends (fine_chosen c))
+  fine_operation c args (owners.Iface n) = an_end _
+
+  -- 3. Functions of objects
+
+  fine_kind : (o : ObjRef) → Is (Say (KindAsk o) by_kind)
+  fine_kind o = fine_say tasks Fits (KindAsk o) by_kind (KindAnswer kinds.Other) tt (λ a f. an_end _)
+
+  fine_tag : (o : ObjRef) (v : Value) → Is (with_tag o v)
+  fine_tag o (values.Str tag) = an_end _
+  fine_tag o values.Undefined = fine_kind o
+  fine_tag o values.Null = fine_kind o
+  fine_tag o (values.Bool b) = fine_kind o
+  fine_tag o (values.Num n) = fine_kind o
+  fine_tag o (values.Sym n) = fine_kind o
+  fine_tag o (values.Obj p) = fine_kind o
+
+  fine_to_string : (v : Value) → Is (object_to_string v)
+  fine_to_string values.Undefined = an_end _
+  fine_to_string values.Null = an_end _
+  fine_to_string (values.Obj o) = fine_ask tasks _ (with_tag o) tt (fine_tag o)
+  fine_to_string (values.Bool b) = an_end _
+  fine_to_string (values.Num n) = an_end _
+  fine_to_string (values.Str units) = an_end _
+  fine_to_string (values.Sym n) = an_end _
+
+  fine_value_of : (v : Value) → Is (object_value_of v)
+  fine_value_of values.Undefined = an_end _
+  fine_value_of values.Null = an_end _
+  fine_value_of (values.Obj o) = an_end _
+  fine_value_of (values.Bool b) = an_end _
+  fine_value_of (values.Num n) = an_end _
+  fine_value_of (values.Str units) = an_end _
+  fine_value_of (values.Sym n) = an_end _
+
+  fine_intrinsic : (n : ℕ) (this : Value) → Is (intrinsic n this)
+  fine_intrinsic n this =
+      fine_if tasks (nat_eq n 8) _ _ (fine_to_string this)
+      (fine_if tasks (nat_eq n 9) _ _ (fine_value_of this)
+      (fine_if tasks (nat_eq n 15) _ _ (an_end _)
+      (fine_if tasks (nat_eq n 16) _ _ (an_end _)
+      (fine_if tasks (nat_eq n 17) _ _ (an_end _) (an_end _)))))
+
+  fine_function : (what : Builtin) (this : Value) (args : List Value) → Is (function list script what this args)
+  fine_function (builtins.Intrinsic n) this args = fine_intrinsic n this
+  fine_function (builtins.Callee c) this args = fine_operation c args c.owner
+  fine_function (builtins.InterfaceObject n) this args = an_end _
+  fine_function (builtins.Pairs n what) this args = an_end _
+
+  -- 4. All tasks
+
+  pub fine_call_rule : (t : CallTask) → IsFine (call_rule built list script) (call_rule built list script t)
+  fine_call_rule (Of t) = fine_of t
+  fine_call_rule (Function f what this args construct) = fine_if tasks (built.functions what) _ _ (fine_function what this args) (an_end _)
+  fine_call_rule (Lines t ws ls) = fine_lines t ws ls
+
+  pub all_talked : AsksAreTalked (call_rule built list script)
+  all_talked = asks_go_on (call_rule built list script) Fits (λ j. (fine_call_rule j).good)

@@ -1,0 +1,3 @@
+-- Worked conversations of calls.
+pub mod OperationTalks
+pub mod ObjectTalks

@@ -1,0 +1,129 @@
+-- Worked conversations: operations and their steps.
+use Rattle.std.specs.Prelude.{List, [], ◌∷◌, None, Some, false, codes, pos, refl}
+use Rattle.widl_dialog.specs.Conversation.{Asks, Ends, Next}
+use Rattle.widl_idl.specs.declared.argument.Optionality.TheVariants.{Required, Optional}
+use Rattle.widl_idl.specs.declared.int_kind.IntKind.TheVariants.{Long}
+use Rattle.widl_idl.specs.declared.int_kind.Mode.TheVariants.{Wrap}
+use Rattle.widl_idl.specs.declared.literal.Literal.TheVariants as literals
+use Rattle.widl_idl.specs.declared.text_kind.TextKind.TheVariants as texts
+use Rattle.widl_idl.specs.DefinitionTerms.{DefsTerm}
+use Rattle.widl_idl.specs.Terms.{TypeTerm, AnyType, UndefinedType, BooleanType, IntegerType, StringType, ObjectType}
+use Rattle.widl_value.specs.declared.value.Value.{Value}
+use Rattle.widl_value.specs.declared.value.Value.TheVariants as values
+use Rattle.widl_value.specs.IdlTerms.{IdlTerm, MissingValue, StringValue}
+use Rattle.widl_value.specs.Rounding.{near_of, step_of}
+use Rattle.widl_store.specs.declared.inner.Builtin.TheVariants as builtins
+use Rattle.widl_script_tree.specs.declared.steps.Source.TheVariants as sources
+use Rattle.widl_script_tree.specs.declared.steps.StepLine.{StepLine}
+use Rattle.widl_script_tree.specs.declared.steps.StepLine.TheVariants as steps
+use Rattle.widl_script_tree.specs.declared.steps.Target.TheVariants as targets
+use Rattle.widl_script_tree.specs.Trees.{ScriptTree, no_statements, then_more, StepsT}
+use Rattle.widl_trace.specs.declared.code.Code.TheVariants as code
+use Rattle.widl_trace.specs.EventTerms.{OperationEvent}
+use Rattle.widl_convert.specs.AskTerms.{AskTerm, AnswerTerm, NoteAsk, UnitAsk, DoneAnswer}
+use Rattle.widl_convert.specs.Laws.{Said, IsNext}
+use Rattle.widl_convert.specs.Tasks.{TaskEnd, Plain, Throw, Rethrow}
+use Rattle.widl_convert.proofs.Worked.{number, integer, plain, function, argument, overload, with_overloads, f}
+use Rattle.widl_calls.specs.BuiltCalls.{calls_built_today}
+use Rattle.widl_calls.specs.CallRules.{call_rule}
+use Rattle.widl_calls.specs.CallTasks.{CallTask, Function}
+
+abbrev long : TypeTerm
+long = IntegerType Long Wrap
+
+-- a script with a steps block of this line for `N.f#0`, and one without
+abbrev with_line : StepLine → ScriptTree
+with_line l = record { functions = []; top = then_more (StepsT (targets.Operation (codes "N") (codes "f") false 0) (l ∷ [])) no_statements }
+
+abbrev no_steps : ScriptTree
+no_steps = record { functions = []; top = no_statements }
+
+-- the call of the operation's function, #19, with the namespace object for `this`
+abbrev call_f : List Value → CallTask
+call_f args = Function (function 19) (builtins.Callee f) (values.Obj (plain 18)) args false
+
+abbrev Calls : DefsTerm → ScriptTree → List Value → Said → Next AskTerm TaskEnd → Type 0
+Calls list script args said next = IsNext (call_rule calls_built_today list script) (call_f args) said next
+
+abbrev noted : List IdlTerm → AskTerm × AnswerTerm
+noted ws = (NoteAsk (OperationEvent f (Some 0) ws), DoneAnswer)
+
+abbrev unit : AskTerm × AnswerTerm
+unit = (UnitAsk, DoneAnswer)
+
+-- 1. `DOMString f(DOMString s)` with `return arg 0`: a unit for the line, and its result
+
+abbrev text : TypeTerm
+text = StringType texts.Dom false
+
+abbrev echo : DefsTerm
+echo = with_overloads (overload text (argument text Required None ∷ []) ∷ [])
+
+abbrev return_first : ScriptTree
+return_first = with_line (steps.Return (sources.Arg 0))
+
+is_noted : Calls echo return_first (values.Null ∷ []) [] (Asks (NoteAsk (OperationEvent f (Some 0) (StringValue (codes "null") ∷ []))))
+is_noted = (40, refl)
+
+takes_unit : Calls echo return_first (values.Null ∷ []) (noted (StringValue (codes "null") ∷ []) ∷ []) (Asks UnitAsk)
+takes_unit = (40, (refl, tt, refl))
+
+returns_first : Calls echo return_first (values.Null ∷ []) (noted (StringValue (codes "null") ∷ []) ∷ unit ∷ []) (Ends (Plain (values.Str (codes "null"))))
+returns_first = (40, (refl, tt, (refl, tt, refl)))
+
+-- 2. Too few arguments, and a value that can't be converted: nothing is noted
+
+no_arguments : Calls echo return_first [] [] (Ends (Throw code.NoOverload))
+no_arguments = (40, refl)
+
+symbol_argument : Calls echo return_first (values.Sym 3 ∷ []) [] (Ends (Throw code.Symbol))
+symbol_argument = (40, refl)
+
+-- 3. `throw 7`
+
+throws : Calls echo (with_line (steps.Throw (number 7))) (values.Null ∷ []) (noted (StringValue (codes "null") ∷ []) ∷ unit ∷ []) (Ends (Rethrow (number 7)))
+throws = (40, (refl, tt, (refl, tt, refl)))
+
+-- 4. `long f(optional long a)` with `return arg 0`, without an argument: what is missing has no value
+
+abbrev optional : DefsTerm
+optional = with_overloads (overload long (argument long Optional None ∷ []) ∷ [])
+
+no_value : Calls optional return_first [] (noted (MissingValue ∷ []) ∷ unit ∷ []) (Ends (Throw code.NoValue))
+no_value = (40, (refl, tt, (refl, tt, refl)))
+
+some_value : Calls optional return_first (number 3 ∷ []) (noted (integer 3 ∷ []) ∷ unit ∷ []) (Ends (Plain (number 3)))
+unfolding near_of step_of lib.Count.count_leading_zeros
+some_value = (40, (refl, tt, (refl, tt, refl)))
+
+-- 5. `return literal 5`
+
+returns_literal : Calls optional (with_line (steps.Return (sources.Literal (literals.Int (pos 5))))) [] (noted (MissingValue ∷ []) ∷ unit ∷ []) (Ends (Plain (number 5)))
+unfolding near_of step_of lib.Count.count_leading_zeros
+returns_literal = (40, (refl, tt, (refl, tt, refl)))
+
+-- 6. Without steps the result is the default of its type, where it has one
+
+default_long : Calls optional no_steps [] (noted (MissingValue ∷ []) ∷ []) (Ends (Plain (number 0)))
+unfolding near_of step_of lib.Count.count_leading_zeros
+default_long = (40, (refl, tt, refl))
+
+abbrev giving : TypeTerm → DefsTerm
+giving t = with_overloads (overload t [] ∷ [])
+
+default_undefined : Calls (giving UndefinedType) no_steps [] (noted [] ∷ []) (Ends (Plain values.Undefined))
+default_undefined = (40, (refl, tt, refl))
+
+default_any : Calls (giving AnyType) no_steps [] (noted [] ∷ []) (Ends (Plain values.Undefined))
+default_any = (40, (refl, tt, refl))
+
+default_boolean : Calls (giving BooleanType) no_steps [] (noted [] ∷ []) (Ends (Plain (values.Bool false)))
+default_boolean = (40, (refl, tt, refl))
+
+no_default : Calls (giving ObjectType) no_steps [] (noted [] ∷ []) (Ends (Throw code.NoDefault))
+no_default = (40, (refl, tt, refl))
+
+-- 7. A block for another overload isn't this one's
+
+other_overload : Calls (giving AnyType) (record { functions = []; top = then_more (StepsT (targets.Operation (codes "N") (codes "f") false 1) (steps.Throw values.Null ∷ [])) no_statements }) [] (noted [] ∷ []) (Ends (Plain values.Undefined))
+other_overload = (40, (refl, tt, refl))

@@ -1,0 +1,2 @@
+pub mod CallFinishing
+mod CallTalks

@@ -1,0 +1,57 @@
+-- The functions of Object.prototype.
+-- Source: ECMA-262, Object.prototype.toString, Object.prototype.valueOf.
+use Rattle.std.specs.Prelude.{ℕ, List, ◌++◌, codes}
+use Rattle.widl_dialog.specs.Dialog.{Say}
+use Rattle.widl_text.specs.declared.key.Key.TheVariants as keys
+use Rattle.widl_value.specs.declared.object.ObjRef.{ObjRef}
+use Rattle.widl_value.specs.declared.value.Value.{Value}
+use Rattle.widl_value.specs.declared.value.Value.TheVariants as values
+use Rattle.widl_trace.specs.declared.code.Code.TheVariants as code
+use Rattle.widl_convert.specs.declared.answer.KindName.{KindName}
+use Rattle.widl_convert.specs.declared.answer.KindName.TheVariants as kinds
+use Rattle.widl_convert.specs.AskTerms.{GetAsk, KindAsk, AnswerTerm, KindAnswer}
+use Rattle.widl_convert.specs.Words.{returns, fails, normal, primitive_this}
+use Rattle.widl_calls.specs.CallTasks.{CallTalk}
+
+-- the symbol `@toStringTag`
+abbrev pub to_string_tag_symbol : ℕ
+to_string_tag_symbol = 2
+
+-- 1. Object.prototype.toString
+
+abbrev pub kind_tag : KindName → List ℕ
+kind_tag kinds.Array = codes "Array"
+kind_tag kinds.Function = codes "Function"
+kind_tag kinds.Error = codes "Error"
+kind_tag kinds.Promise = codes "Object"
+kind_tag kinds.Other = codes "Object"
+
+abbrev pub tagged : List ℕ → CallTalk
+tagged tag = returns (values.Str (codes "[object " ++ tag ++ codes "]"))
+
+-- no other answer fits
+abbrev pub kind_in : AnswerTerm → KindName
+kind_in (KindAnswer kind) = kind
+kind_in _ = kinds.Other
+
+abbrev pub by_kind : AnswerTerm → CallTalk
+by_kind a = tagged (kind_tag (kind_in a))
+
+-- a tag that is no text gives way to that of the object's kind, which is asked for only then
+abbrev pub with_tag : ObjRef → Value → CallTalk
+with_tag o (values.Str tag) = tagged tag
+with_tag o _ = Say (KindAsk o) by_kind
+
+abbrev pub object_to_string : Value → CallTalk
+object_to_string values.Undefined = tagged (codes "Undefined")
+object_to_string values.Null = tagged (codes "Null")
+object_to_string (values.Obj o) = Say (GetAsk o (keys.Sym to_string_tag_symbol)) (normal (with_tag o))
+object_to_string _ = primitive_this
+
+-- 2. Object.prototype.valueOf
+
+abbrev pub object_value_of : Value → CallTalk
+object_value_of values.Undefined = fails code.This
+object_value_of values.Null = fails code.This
+object_value_of (values.Obj o) = returns (values.Obj o)
+object_value_of _ = primitive_this

@@ -1,0 +1,4 @@
+pub mod OneNexts
+pub mod Finishing
+pub mod Worked
+mod Talks

@@ -1,0 +1,45 @@
+-- Worked conversations: IDL values to script, and default values.
+use Rattle.std.specs.Prelude.{[], ◌∷◌, None, Some, codes, refl}
+use Rattle.widl_dialog.specs.Conversation.{Ends}
+use Rattle.widl_idl.specs.declared.int_kind.IntKind.TheVariants.{ULongLong}
+use Rattle.widl_idl.specs.declared.int_kind.Mode.TheVariants.{Wrap}
+use Rattle.widl_idl.specs.declared.literal.Literal.TheVariants as literals
+use Rattle.widl_idl.specs.Terms.{AnyType, IntegerType, EnumerationType, ObjectType, SequenceType, NullableType}
+use Rattle.widl_value.specs.declared.value.Value.TheVariants as values
+use Rattle.widl_value.specs.IdlTerms.{NullValue, MissingValue, EnumerationValue, ObjectValue, AnyValue, SequenceValue, no_values}
+use Rattle.widl_value.specs.Rounding.{near_of, step_of}
+use Rattle.widl_convert.specs.Tasks.{Out, Default, Gives, Plain, Profile}
+use Rattle.widl_convert.proofs.Worked.{number, integer, plain, nothing_defined, with_values, Says}
+
+-- to script
+number_is_nearest : Says nothing_defined (Out (IntegerType ULongLong Wrap) (integer 18446744073709551615)) [] (Ends (Plain (number 18446744073709551616)))
+unfolding near_of step_of lib.Count.count_leading_zeros
+number_is_nearest = (10, refl)
+
+value_is_text : Says (with_values (codes "on" ∷ codes "off" ∷ [])) (Out (EnumerationType 0) (EnumerationValue 0 1)) [] (Ends (Plain (values.Str (codes "off"))))
+value_is_text = (10, refl)
+
+missing_is_undefined : Says nothing_defined (Out AnyType MissingValue) [] (Ends (Plain values.Undefined))
+missing_is_undefined = (10, refl)
+
+object_is_itself : Says nothing_defined (Out ObjectType (ObjectValue (plain 1))) [] (Ends (Plain (values.Obj (plain 1))))
+object_is_itself = (10, refl)
+
+anything_is_itself : Says nothing_defined (Out AnyType (AnyValue (values.Sym 3))) [] (Ends (Plain (values.Sym 3)))
+anything_is_itself = (10, refl)
+
+no_array : Says nothing_defined (Out (SequenceType AnyType) (SequenceValue no_values)) [] (Ends (Profile 99))
+no_array = (10, refl)
+
+-- default values
+without_default : Says nothing_defined (Default AnyType None) [] (Ends (Gives MissingValue))
+without_default = (10, refl)
+
+null_of_any : Says nothing_defined (Default AnyType (Some literals.Null)) [] (Ends (Gives (AnyValue values.Null)))
+null_of_any = (10, refl)
+
+null_of_nullable : Says nothing_defined (Default (NullableType ObjectType) (Some literals.Null)) [] (Ends (Gives NullValue))
+null_of_nullable = (10, refl)
+
+text_of_enumeration : Says (with_values (codes "on" ∷ codes "off" ∷ [])) (Default (NullableType (EnumerationType 0)) (Some (literals.Text (codes "off")))) [] (Ends (Gives (EnumerationValue 0 1)))
+text_of_enumeration = (10, refl)

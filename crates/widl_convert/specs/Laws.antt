@@ -1,0 +1,39 @@
+-- The laws of conversations, for these tasks and those of the crates above. The functions of `laws` have them as contracts.
+-- Source: this program's own.
+use Rattle.std.specs.Prelude.{◌≡◌, List, ◌++◌}
+use Rattle.widl_dialog.specs.Conversation.{Next, Ends, Comes}
+use Rattle.widl_dialog.specs.Laws.{AsksGoOn, PartsAsk, PartsJoin, WholesSplit}
+use Rattle.widl_convert.specs.AskTerms.{AskTerm, AnswerTerm, Fits}
+use Rattle.widl_convert.specs.Tasks.{TaskEnd, TalkOf}
+
+-- asks with their answers
+abbrev pub Said : Type 0
+Said = List (AskTerm × AnswerTerm)
+
+module _ {Job : Type 0} (rule : Job → TalkOf Job) where
+  -- what comes next in a task's conversation, after these asks and answers
+  abbrev pub IsNext : Job → Said → Next AskTerm TaskEnd → Type 0
+  IsNext task said next = Comes rule Fits (rule task) said next
+
+  -- a whole conversation of a task
+  abbrev pub IsTalk : Job → Said → TaskEnd → Type 0
+  IsTalk task talk end = IsNext task talk (Ends end)
+
+  pub record HasOneNext (task : Job) (said : Said) : Type 0 where
+    pub next : Next AskTerm TaskEnd
+    pub comes : IsNext task said next
+    pub one : (other : Next AskTerm TaskEnd) → IsNext task said other → other ≡ next
+
+  -- exactly one thing comes next after what begins a whole conversation
+  abbrev pub BeginningsHaveOneNext : Type 0
+  BeginningsHaveOneNext = (task : Job) (said more : Said) (end : TaskEnd) → IsTalk task (said ++ more) end → HasOneNext task said
+
+  -- an ask comes next exactly where some whole conversation goes on with it, whichever answer it gets that fits
+  abbrev pub AsksAreTalked : Type 0
+  AsksAreTalked = (task : Job) → AsksGoOn rule Fits task
+
+  -- a part's conversation followed by the rest's is the whole's, and the whole's is one of these; what a part asks, the whole asks
+  pub record PartsMakeWholes : Type 0 where
+    pub join : PartsJoin rule Fits
+    pub split : WholesSplit rule Fits
+    pub ask : PartsAsk rule Fits

@@ -1,0 +1,11 @@
+pub mod AskTerms
+pub mod Tasks
+pub mod Words
+pub mod Built
+pub mod Primitives
+pub mod Scalars
+pub mod Resolution
+pub mod Defaults
+pub mod Results
+pub mod Rules
+pub mod Laws

@@ -1,0 +1,22 @@
+//! The laws of conversions. Each function does nothing: its contract is the law, for each list of
+//! definitions and whatever is built.
+
+ghost use Rattle.widl_idl.specs.DefinitionTerms.{DefsTerm};
+ghost use Rattle.widl_convert.specs.Built.{Built};
+ghost use Rattle.widl_convert.specs.Laws.{AsksAreTalked, BeginningsHaveOneNext, PartsMakeWholes};
+ghost use Rattle.widl_convert.specs.Rules.{rule};
+
+/// Exactly one thing comes next after what begins a whole conversation.
+pub fn has_one_next()
+    ensures { (built : Built) (list : DefsTerm) → BeginningsHaveOneNext (rule built list) }
+{}
+
+/// An ask comes next exactly where some whole conversation goes on with it.
+pub fn asks_are_talked()
+    ensures { (built : Built) (list : DefsTerm) → AsksAreTalked (rule built list) }
+{}
+
+/// The conversation of a whole is those of its parts, one after another.
+pub fn parts_make_wholes()
+    ensures { (built : Built) (list : DefsTerm) → PartsMakeWholes (rule built list) }
+{}
