@@ -12,7 +12,7 @@ use Rattle.std.proofs.lemmas.Option.{slice_get-get_or}
 use Rattle.std.specs.Option.{option_map}
 use Rattle.widl_text.specs.declared.key.Key.{Key}
 use Rattle.widl_store.specs.declared.property.Prop.{Prop}
-use Rattle.widl_store.specs.declared.numbered_map.Held.{Held}
+use Rattle.widl_store.specs.Created.{Created}
 use Rattle.widl_store.specs.Leaving.{Leaves}
 use Rattle.widl_store.specs.Objects.{same_key, replaced, without_prop}
 use Rattle.widl_store.specs.Order.{Entry, gathered, shown, in_order, changed, Numbered}
@@ -80,7 +80,7 @@ pub distinct_tail : (x : Entry) (es : List Entry) → IsDistinct same_key (keys_
 unfolding IsDistinct
 distinct_tail x es d = d.1
 
-pub written_changes : (key : Key) (prop : Prop) (es : List Entry) (h : Held) → IsDistinct same_key (keys_of es) → lookup (same_key key) es ≡ Some h → set_value (same_key key) es (record { number = h.number; prop = prop }) ≡ map (changed key prop) es
+pub written_changes : (key : Key) (prop : Prop) (es : List Entry) (h : Created) → IsDistinct same_key (keys_of es) → lookup (same_key key) es ≡ Some h → set_value (same_key key) es (record { number = h.number; prop = prop }) ≡ map (changed key prop) es
 written_changes key prop [] h d e = absurd (let bad : None ≡ Some h = e in cc)
 written_changes key prop (x ∷ es) h d e = go (same_key key x.0) refl (written_changes key prop es h (distinct_tail x es d))
   where
@@ -160,7 +160,7 @@ removed key i es fs (Some x) at_i is moved gone =
 pub all_kept : (n : ℕ) (es : List Entry) → AllBelow n es → EachOnce es → IsKept n es
 all_kept n es below once = record { below = below; once = once }
 
-pub new_entry : (key : Key) (held : Held) (es : List Entry) → lookup (same_key key) es ≡ None → insert_entry same_key es key held ≡ es ++ (key, held) ∷ []
+pub new_entry : (key : Key) (held : Created) (es : List Entry) → lookup (same_key key) es ≡ None → insert_entry same_key es key held ≡ es ++ (key, held) ∷ []
 new_entry key held [] e = refl
 new_entry key held (x ∷ es) e = go (same_key key x.0) refl (new_entry key held es)
   where
@@ -172,7 +172,7 @@ new_entry key held (x ∷ es) e = go (same_key key x.0) refl (new_entry key held
 pub absent_entry : (key : Key) (n : ℕ) (es : List Entry) → Numbered n es → lookup (same_key key) (in_order n es) ≡ None → lookup (same_key key) es ≡ None
 absent_entry key n es numbered none = go (lookup (same_key key) es) refl
   where
-    go : (o : Option Held) → lookup (same_key key) es ≡ o → o ≡ None
+    go : (o : Option Created) → lookup (same_key key) es ≡ o → o ≡ None
     go None e = refl
     go (Some h) e = absurd (let bad : None ≡ Some h.prop = sym none ∙ found_in_order key n es numbered.below numbered.once (keys_once es numbered.keys) ∙ ap (option_map (λ h. h.prop)) e in cc)
 

@@ -10,7 +10,7 @@ use Rattle.std.proofs.lemmas.Option.{slice_get-get_or, slice_get_within, get_or_
 use Rattle.std.specs.Option.{option_map}
 use Rattle.std.proofs.lemmas.Bool.{cases_lt}
 use Rattle.widl_text.specs.declared.key.Key.{Key}
-use Rattle.widl_store.specs.declared.numbered_map.Held.{Held}
+use Rattle.widl_store.specs.Created.{Created}
 use Rattle.widl_store.specs.Leaving.{Leaves}
 use Rattle.widl_store.specs.Objects.{same_key, is_other}
 use Rattle.widl_store.specs.Order.{Entry, at, listed, gathered, shown, in_order}
@@ -33,7 +33,7 @@ pub pair_is : (x y : Entry) → x.0 ≡ y.0 → x.1 ≡ y.1 → x ≡ y
 pair_is x y e f = λ i. (e i, f i)
 
 -- the entry that a key finds
-pub finds : (key : Key) (es : List Entry) (h : Held) → lookup (same_key key) es ≡ Some h → Contains es (key, h)
+pub finds : (key : Key) (es : List Entry) (h : Created) → lookup (same_key key) es ≡ Some h → Contains es (key, h)
 finds key [] h e = absurd (let bad : None ≡ Some h = e in cc)
 finds key (x ∷ es) h e = go (same_key key x.0) refl (finds key es h)
   where
@@ -52,7 +52,7 @@ lookup_append key (x ∷ xs) ys e = go (same_key key x.0) refl (lookup_append ke
     go true t rest = absurd (let bad : Some x.1 ≡ None = ap (λ b. if b then Some x.1 else lookup (same_key key) xs) (sym t) ∙ e in cc)
     go false t rest = ap (λ b. if b then Some x.1 else lookup (same_key key) (xs ++ ys)) t ∙ rest (ap (λ b. if b then Some x.1 else lookup (same_key key) xs) (sym t) ∙ e)
 
-pub lookup_before : (key : Key) (xs ys : List Entry) (h : Held) → lookup (same_key key) xs ≡ Some h → lookup (same_key key) (xs ++ ys) ≡ Some h
+pub lookup_before : (key : Key) (xs ys : List Entry) (h : Created) → lookup (same_key key) xs ≡ Some h → lookup (same_key key) (xs ++ ys) ≡ Some h
 lookup_before key [] ys h e = absurd (let bad : None ≡ Some h = e in cc)
 lookup_before key (x ∷ xs) ys h e = go (same_key key x.0) refl (lookup_before key xs ys h)
   where
@@ -76,7 +76,7 @@ gathered_none key (suc n) es none =
     ∙ listed_none key n es (λ e. none n e (omega arith))
 
 -- and one that one of them has
-pub gathered_some : (key : Key) (n : ℕ) (es : List Entry) (h : Held) → same_key key key ≡ true → ((k : ℕ) (e : Entry) → at k es ≡ Some e → same_key key e.0 ≡ true → k ≡ h.number) → at h.number es ≡ Some (key, h) → h.number < n → lookup (same_key key) (gathered n es) ≡ Some h
+pub gathered_some : (key : Key) (n : ℕ) (es : List Entry) (h : Created) → same_key key key ≡ true → ((k : ℕ) (e : Entry) → at k es ≡ Some e → same_key key e.0 ≡ true → k ≡ h.number) → at h.number es ≡ Some (key, h) → h.number < n → lookup (same_key key) (gathered n es) ≡ Some h
 unfolding gathered
 gathered_some key zero es h self one there lt = absurd (omega arith)
 gathered_some key (suc n) es h self one there lt = go (cases_lt h.number n) (gathered_some key n es h self one there)
@@ -107,7 +107,7 @@ lookup_shown key (e ∷ es) = go (same_key key e.0) (lookup_shown key es)
 pub found_in_order : (key : Key) (n : ℕ) (es : List Entry) → AllBelow n es → EachOnce es → ((e : Entry) → Contains es e → lookup (same_key e.0) es ≡ Some e.1) → lookup (same_key key) (in_order n es) ≡ option_map (λ h. h.prop) (lookup (same_key key) es)
 found_in_order key n es below once keys = lookup_shown key (gathered n es) ∙ ap (option_map (λ h. h.prop)) (go (lookup (same_key key) es) refl)
   where
-    go : (o : Option Held) → lookup (same_key key) es ≡ o → lookup (same_key key) (gathered n es) ≡ lookup (same_key key) es
+    go : (o : Option Created) → lookup (same_key key) es ≡ o → lookup (same_key key) (gathered n es) ≡ lookup (same_key key) es
     go None e = gathered_none key n es (λ k f lt h. lookup_in key es f (at_in k es f h).0 e) ∙ sym e
     go (Some h) e =
         let there = finds key es h e in

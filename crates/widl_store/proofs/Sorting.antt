@@ -9,7 +9,7 @@ use Rattle.std.proofs.lemmas.List.Sorted.{IsPermutation-sym, IsPermutation-map, 
 use Rattle.std.proofs.lemmas.Bool.{cases_lt}
 use Rattle.widl_text.specs.declared.key.Key.{Key}
 use Rattle.widl_store.specs.declared.property.Prop.{Prop}
-use Rattle.widl_store.specs.declared.numbered_map.Held.{Held}
+use Rattle.widl_store.specs.Created.{Created}
 use Rattle.widl_store.specs.Leaving.{Leaves}
 use Rattle.widl_store.specs.Objects.{same_key}
 use Rattle.widl_store.specs.Order.{Entry, at, listed, gathered, shown, in_order, Numbered}
@@ -116,14 +116,14 @@ in_ok (Ok a) P Q f h = f a h
 in_ok (Err e) P Q f h = tt
 
 -- entries by reference, in the order of their numbers
-pub keys_of_pairs : (pairs : List (Bor Key × Bor Held)) → keys_of (map deref_pair pairs) ≡ map (λ e. e.0.now) pairs
+pub keys_of_pairs : (pairs : List (Bor Key × Bor Created)) → keys_of (map deref_pair pairs) ≡ map (λ e. e.0.now) pairs
 keys_of_pairs [] = refl
 keys_of_pairs (p ∷ ps) = ap (λ x. p.0.now ∷ x) (keys_of_pairs ps)
 
 abbrev pub number_in : Entry → ℕ
 number_in e = e.1.number
 
-pub ascending_pairs : (pairs : List (Bor Key × Bor Held)) → IsNonDecreasingBy (λ e. e.1.now.number) pairs → IsNonDecreasingBy number_in (map deref_pair pairs)
+pub ascending_pairs : (pairs : List (Bor Key × Bor Created)) → IsNonDecreasingBy (λ e. e.1.now.number) pairs → IsNonDecreasingBy number_in (map deref_pair pairs)
 ascending_pairs [] h i j d le lt = absurd (omega arith)
 ascending_pairs (p ∷ ps) h i j d le lt =
     let long : j < length (p ∷ ps) = subst (λ n. j < n) (length-map (p ∷ ps) deref_pair) lt in
@@ -131,14 +131,14 @@ ascending_pairs (p ∷ ps) h i j d le lt =
     let second : get_or (map deref_pair (p ∷ ps)) j d ≡ deref_pair (get_or (p ∷ ps) j p) = get_or-map deref_pair (p ∷ ps) j p d long in
     omega (arith, ap number_in first, ap number_in second, h i j p le long)
 
-pub pairs_moved : (es : List Entry) (pairs sorted : List (Bor Key × Bor Held)) → map deref_pair pairs ≡ es → IsPermutation pairs sorted → IsPermutation es (map deref_pair sorted)
+pub pairs_moved : (es : List Entry) (pairs sorted : List (Bor Key × Bor Created)) → map deref_pair pairs ≡ es → IsPermutation pairs sorted → IsPermutation es (map deref_pair sorted)
 pairs_moved es pairs sorted is moved = subst (λ (l : List Entry). IsPermutation l (map deref_pair sorted)) is (IsPermutation-map deref_pair pairs sorted moved)
 
-pub pairs_in_order : (n : ℕ) (es : List Entry) (pairs sorted : List (Bor Key × Bor Held)) → Numbered n es → map deref_pair pairs ≡ es → IsPermutation pairs sorted → IsNonDecreasingBy (λ e. e.1.now.number) sorted → map (λ e. e.0.now) sorted ≡ keys_of (in_order n es)
+pub pairs_in_order : (n : ℕ) (es : List Entry) (pairs sorted : List (Bor Key × Bor Created)) → Numbered n es → map deref_pair pairs ≡ es → IsPermutation pairs sorted → IsNonDecreasingBy (λ e. e.1.now.number) sorted → map (λ e. e.0.now) sorted ≡ keys_of (in_order n es)
 pairs_in_order n es pairs sorted numbered is moved ascending =
     sym (keys_of_pairs sorted) ∙ keys_sorted n es (map deref_pair sorted) (in_order n es) numbered.below numbered.once numbered.keys refl (pairs_moved es pairs sorted is moved) (ascending_pairs sorted ascending)
 
-pub pairs_distinct : (n : ℕ) (es : List Entry) (pairs sorted : List (Bor Key × Bor Held)) → Numbered n es → map deref_pair pairs ≡ es → IsPermutation pairs sorted → IsDistinct same_key (map (λ e. e.0.now) sorted)
+pub pairs_distinct : (n : ℕ) (es : List Entry) (pairs sorted : List (Bor Key × Bor Created)) → Numbered n es → map deref_pair pairs ≡ es → IsPermutation pairs sorted → IsDistinct same_key (map (λ e. e.0.now) sorted)
 pairs_distinct n es pairs sorted numbered is moved =
     subst (IsDistinct same_key) (keys_of_pairs sorted)
     (subst (IsDistinct same_key) (sym (keys_of_map (map deref_pair sorted)))

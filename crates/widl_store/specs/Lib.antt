@@ -5,6 +5,7 @@ pub mod Found
 pub mod Effects
 pub mod OwnKeys
 pub mod Sound
+pub mod Created
 pub mod Order
 pub mod Labels
 pub mod PropertyForms

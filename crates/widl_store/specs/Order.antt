@@ -3,12 +3,12 @@ use Rattle.std.specs.Prelude.{◌≡◌, ℕ, zero, suc, ◌<◌, nat_eq, if◌t
 use Rattle.std.specs.List.{IsDistinct}
 use Rattle.std.specs.Map.{keys_of}
 use Rattle.widl_store.specs.declared.property.Prop.{Prop}
-use Rattle.widl_store.specs.declared.numbered_map.Held.{Held}
+use Rattle.widl_store.specs.Created.{Created}
 use Rattle.widl_store.specs.Objects.{same_key}
 use Rattle.widl_text.specs.declared.key.Key.{Key}
 
 abbrev pub Entry : Type 0
-Entry = Key × Held
+Entry = Key × Created
 
 -- the first entry of a number
 abbrev pub at : ℕ → List Entry → Option Entry

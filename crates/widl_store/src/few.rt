@@ -3,7 +3,8 @@
 ghost use Rattle.std.specs.Prelude.{◌≡◌, ◌<◌, ◌∷◌, [], ◌++◌, IfOk, IfNone, IfSome, None, OnErr, OnOk, length, map, slice_index_or, true};
 ghost use Rattle.std.specs.List.{remove};
 ghost use Rattle.std.specs.Map.{keys_of};
-ghost use Rattle.std.specs.Option.{option_copied};
+ghost use Rattle.std.specs.Option.{option_map};
+ghost use Rattle.widl_store.specs.Created.{prop_of};
 ghost use Rattle.widl_store.specs.declared.property.Prop as props;
 ghost use Rattle.widl_store.specs.Objects.{prop_at, replaced, same_key, without_prop};
 ghost use Rattle.widl_store.specs.PropertyForms.{HasEachOnce};
@@ -11,18 +12,18 @@ ghost use Rattle.widl_text.specs.declared.key.Key as keys;
 
 use crate::label::Label;
 use crate::numbered_map::NumberedMap;
-use crate::property::Prop;
+use crate::property::{Prop, PropRef};
 use std::alloc::{AllocError, Global};
 use widl_text::Key;
 
 /// The property at the key.
-pub(crate) fn get_few<'a>(entries: &'a [(Label, Prop)], key: &Key) -> Option<&'a Prop>
+pub(crate) fn get_few<'a>(entries: &'a [(Label, Prop)], key: &Key) -> Option<PropRef<'a>>
     requires { HasEachOnce entries.now }
-    ensures { option_copied result ≡ prop_at entries.now key.now }
+    ensures { option_map prop_of result ≡ prop_at entries.now key.now }
 {
     match place_of(entries, key) {
         None => None,
-        Some(place) => Some(&entries[place].1),
+        Some(place) => Some(entries[place].1.parts()),
     }
 }
 

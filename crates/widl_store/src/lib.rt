@@ -9,6 +9,7 @@ mod effects;
 mod few;
 mod found;
 mod functions;
+mod held;
 mod homes;
 mod initial_store;
 #[cfg(test)]

@@ -6,26 +6,19 @@ ghost use Rattle.std.specs.List.{IsDistinct};
 ghost use Rattle.std.specs.List.Sorted.{IsPermutation, IsNonDecreasingBy};
 ghost use Rattle.std.specs.Map.{keys_of};
 ghost use Rattle.std.specs.Map.Iter.{deref_pair};
-ghost use Rattle.std.specs.Option.{option_copied};
+ghost use Rattle.std.specs.Option.{option_map};
 ghost use Rattle.indexmap.specs.IndexMap.{insert_entry, IsUnique};
+ghost use Rattle.widl_store.specs.Created.{prop_of};
 ghost use Rattle.widl_store.specs.Leaving.{Leaves};
 ghost use Rattle.widl_store.specs.Objects.{prop_at, replaced, same_key, without_prop};
 ghost use Rattle.widl_store.specs.Order.{changed};
 
-use crate::property::Prop;
+use crate::held::Held;
+use crate::property::{Prop, PropRef};
 use indexmap::IndexMap;
 use std::alloc::{AllocError, Global};
 use std::marker::Model;
 use widl_text::Key;
-
-/// A property, and the number that it was given when it was created.
-#[derive(Drop)]
-pub struct Held {
-    /// How many properties were created before it.
-    pub number: u64,
-    /// The property.
-    pub prop: Prop,
-}
 
 /// Properties by their keys, with an index.
 ///
@@ -62,11 +55,11 @@ impl NumberedMap {
     }
 
     /// The property at the key.
-    pub(crate) fn get(&self, key: &Key) -> Option<&Prop>
-        ensures { option_copied result ≡ prop_at self.now key.now }
+    pub(crate) fn get(&self, key: &Key) -> Option<PropRef<'_>>
+        ensures { option_map prop_of result ≡ prop_at self.now key.now }
     {
         match self.entries.get(key) {
-            Some(held) => Some(&held.prop),
+            Some(held) => Some(held.parts()),
             None => None,
         }
     }
@@ -82,7 +75,9 @@ impl NumberedMap {
     ///
     /// # Errors
     ///
-    /// `AllocError` where there is no memory; the properties are unchanged.
+    /// `AllocError` where there is no memory; the properties are unchanged. So it is where 2^64 - 1 properties
+    /// were created before, since no number is given twice; no caller could show that there were fewer, and
+    /// no run lives long enough to create them.
     pub(crate) fn create(&mut self, key: Key, prop: Prop) -> Result<(), AllocError>
         requires { prop_at self.old key ≡ None }
         ensures ok { OnOk result (self.new ≡ self.old ++ (key, prop) ∷ []) }
@@ -92,7 +87,7 @@ impl NumberedMap {
         let Some(next) = number.checked_add(1) else {
             return Err(AllocError);
         };
-        insert_in(&mut self.entries, key, Held { number, prop })?;
+        insert_in(&mut self.entries, key, Held::new(number, prop))?;
         self.next = next;
         Ok(())
     }
@@ -125,7 +120,7 @@ fn set_in(entries: &mut IndexMap<Key, Held>, key: &Key, prop: Prop)
     ensures unique { IsUnique same_key entries.new }
 {
     if let Some(held) = entries.get_mut(key) {
-        held.prop = prop;
+        *held = Held::new(held.number(), prop);
     }
 }
 
@@ -171,7 +166,7 @@ fn by_number<'a>(entries: Vec<(&'a Key, &'a Held)>) -> Vec<(&'a Key, &'a Held)>
     ensures ascending { IsNonDecreasingBy (λ e. e.1.now.number) result.items }
 {
     let mut entries = entries;
-    entries.sort_unstable_by_key(|entry| entry.1.number);
+    entries.sort_unstable_by_key(|entry| entry.1.number());
     entries
 }
 

@@ -3,7 +3,8 @@
 ghost use Rattle.std.specs.Prelude.{◌≡◌, ℕ, [], ◌∷◌, ◌+◌, IfOk, OnErr, OnOk, None, false, true, if◌then◌else◌, map};
 ghost use Rattle.std.specs.List.{IsDistinct};
 ghost use Rattle.std.specs.Map.{keys_of};
-ghost use Rattle.std.specs.Option.{option_copied};
+ghost use Rattle.std.specs.Option.{option_map};
+ghost use Rattle.widl_store.specs.Created.{prop_of};
 ghost use Rattle.widl_store.specs.Effects.{is_above, is_fixed_in, new_object, placed, raised, with_part, with_props};
 ghost use Rattle.widl_store.specs.Inners.{inner_term, is_array, kind_of};
 ghost use Rattle.widl_store.specs.Objects.{length_flags, length_key, length_prop, prop_at, same_key, with_prop, without_prop};
@@ -11,7 +12,7 @@ ghost use Rattle.widl_store.specs.Sound.{SoundAt};
 ghost use Rattle.widl_text.specs.Index.{index_of};
 
 use crate::inner::Inner;
-use crate::property::Prop;
+use crate::property::{Prop, PropRef};
 use crate::property_map::PropertyMap;
 use std::alloc::{AllocError, Global};
 use std::marker::Model;
@@ -102,8 +103,8 @@ impl Object {
     }
 
     /// Its own property at the key.
-    pub(crate) fn own(&self, key: &Key) -> Option<&Prop>
-        ensures { option_copied result ≡ prop_at self.now.props key.now }
+    pub(crate) fn own(&self, key: &Key) -> Option<PropRef<'_>>
+        ensures { option_map prop_of result ≡ prop_at self.now.props key.now }
     {
         self.props.get(key)
     }
@@ -282,11 +283,11 @@ fn length_prop(length: u64) -> Prop
 }
 
 /// Whether the property is a length above the index.
-fn is_above(prop: &Prop, index: u32) -> bool
-    ensures { result ≡ is_above prop.now index }
+fn is_above(prop: PropRef<'_>, index: u32) -> bool
+    ensures { result ≡ is_above (prop_of prop.entry) index }
 {
     match prop {
-        Prop::Plain {
+        PropRef::Plain {
             value: Value::Num(Number::Whole(length)),
             ..
         } => i128::from(index) < *length,

@@ -3,19 +3,24 @@
 ghost use Rattle.std.specs.Prelude.{◌≡◌, [], ◌∷◌, ◌++◌, IfOk, IfSome, OnErr, OnOk, None, map};
 ghost use Rattle.std.specs.List.{IsDistinct};
 ghost use Rattle.std.specs.Map.{keys_of};
-ghost use Rattle.std.specs.Option.{option_copied};
+ghost use Rattle.std.specs.Option.{option_map};
+ghost use Rattle.widl_store.specs.Created.{prop_of};
 ghost use Rattle.widl_store.specs.Objects.{prop_at, replaced, same_key, with_prop, without_prop};
 ghost use Rattle.widl_store.specs.PropertyForms.{IsHeldOnce, props_in};
 
 use crate::few::{get_few, keys_of_few, numbered, push_few, remove_few, set_few};
 use crate::label::Label;
 use crate::numbered_map::NumberedMap;
-use crate::property::Prop;
+use crate::property::{Prop, PropRef};
 use std::alloc::{AllocError, Global};
 use std::marker::Model;
 use widl_text::Key;
 
-/// How many properties are held without an index: a walk over so few takes no longer than a look-up.
+/// How many properties are held without an index.
+///
+/// A walk over eight takes some 100 ns longer than a look-up by an index. But a map makes room for nine entries
+/// at its first one, and most objects have fewer: a function has two. So there is an index only where it fills
+/// that room.
 const MOST_FEW: usize = 8;
 
 /// Properties by their keys.
@@ -57,8 +62,8 @@ impl PropertyMap {
     }
 
     /// The property at the key.
-    pub(crate) fn get(&self, key: &Key) -> Option<&Prop>
-        ensures { option_copied result ≡ prop_at self.now key.now }
+    pub(crate) fn get(&self, key: &Key) -> Option<PropRef<'_>>
+        ensures { option_map prop_of result ≡ prop_at self.now key.now }
     {
         get_in(&self.form, key)
     }
@@ -128,9 +133,9 @@ impl PropertyMap {
     }
 }
 
-fn get_in<'a>(form: &'a Form, key: &Key) -> Option<&'a Prop>
+fn get_in<'a>(form: &'a Form, key: &Key) -> Option<PropRef<'a>>
     requires { IsHeldOnce form.now }
-    ensures { option_copied result ≡ prop_at (props_in form.now) key.now }
+    ensures { option_map prop_of result ≡ prop_at (props_in form.now) key.now }
 {
     match form {
         Form::Few(entries) => get_few(entries.as_slice(), key),

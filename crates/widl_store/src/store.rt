@@ -1,7 +1,8 @@
 //! The objects of a run by their numbers.
 
 ghost use Rattle.std.specs.Prelude.{◌≡◌, ◌≢◌, ◌<◌, ◌-◌, ◌^◌, ◌∷◌, [], ◌++◌, length, slice_get, None, Some, Ok, Err, OnOk, OnErr, IfOk, IfSome, false, true};
-ghost use Rattle.std.specs.Option.{option_copied, option_map};
+ghost use Rattle.std.specs.Option.{option_map};
+ghost use Rattle.widl_store.specs.Created.{prop_of};
 ghost use Rattle.widl_store.specs.Effects.{added, define_of, defined, delete_of, deleted, is_fixed, new_object, put_answer, put_in, put_of, with_inner};
 ghost use Rattle.widl_store.specs.Found.{Shows, found_at, own_flags};
 ghost use Rattle.widl_store.specs.Inners.{has_shape, inner_term, kind_of};
@@ -18,7 +19,7 @@ use crate::inner::Inner;
 use crate::meets::Meets;
 use crate::object::{LENGTH_FLAGS, Object};
 use crate::own_keys::own_keys;
-use crate::property::Prop;
+use crate::property::{Prop, PropRef};
 use std::alloc::{AllocError, Global};
 use std::marker::Model;
 use widl_text::{Items, Key, Units};
@@ -82,14 +83,14 @@ impl Store {
     {
         match self.property(obj.id, key) {
             None => Found::Nothing,
-            Some(Prop::Plain { value, .. }) => Found::Held(value),
-            Some(Prop::Accessor { get: None, .. }) => Found::NoGetter,
+            Some(PropRef::Plain { value, .. }) => Found::Held(value),
+            Some(PropRef::Accessor { get: None, .. }) => Found::NoGetter,
             Some(
-                Prop::Accessor {
+                PropRef::Accessor {
                     get: Some(getter),
                     ..
                 },
-            ) => Found::Getter(*getter),
+            ) => Found::Getter(getter),
         }
     }
 
@@ -101,8 +102,8 @@ impl Store {
     {
         match object_at(&self.objects, obj.id as usize).own(key) {
             None => None,
-            Some(Prop::Plain { flags, .. }) => Some(*flags),
-            Some(Prop::Accessor { flags, .. }) => Some(*flags),
+            Some(PropRef::Plain { flags, .. }) => Some(flags),
+            Some(PropRef::Accessor { flags, .. }) => Some(flags),
         }
     }
 
@@ -309,27 +310,27 @@ impl Store {
     {
         match self.property(id, key) {
             None => Meets::Way,
-            Some(Prop::Plain { flags, .. }) => {
+            Some(PropRef::Plain { flags, .. }) => {
                 if flags.writable {
                     Meets::Way
                 } else {
-                    Meets::ReadOnly(*flags)
+                    Meets::ReadOnly(flags)
                 }
             }
-            Some(Prop::Accessor { set: None, .. }) => Meets::NoSetter,
+            Some(PropRef::Accessor { set: None, .. }) => Meets::NoSetter,
             Some(
-                Prop::Accessor {
+                PropRef::Accessor {
                     set: Some(setter),
                     ..
                 },
-            ) => Meets::Setter(*setter),
+            ) => Meets::Setter(setter),
         }
     }
 
     /// The property that the key finds on the object and its chain of prototypes.
-    fn property(&self, id: u32, key: &Key) -> Option<&Prop>
+    fn property(&self, id: u32, key: &Key) -> Option<PropRef<'_>>
         requires { id < length self.now.objects }
-        ensures { option_copied result ≡ found_at self.now.objects id key.now }
+        ensures { option_map prop_of result ≡ found_at self.now.objects id key.now }
     {
         let mut at = id;
         loop {

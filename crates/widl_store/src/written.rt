@@ -2,7 +2,7 @@
 
 use crate::inner::{Builtin, Inner};
 use crate::object::Object;
-use crate::property::Prop;
+use crate::property::PropRef;
 use crate::store::Store;
 use std::alloc::{AllocError, Global};
 use widl_idl::{Callee, Owner, Part};
@@ -46,15 +46,15 @@ fn write_flags(text: &mut String, flags: Flags) -> Result<(), AllocError> {
     text.push_str(if flags.configurable { "c" } else { "-" })
 }
 
-fn write_prop(text: &mut String, prop: &Prop) -> Result<(), AllocError> {
+fn write_prop(text: &mut String, prop: PropRef<'_>) -> Result<(), AllocError> {
     match prop {
-        Prop::Plain { value, flags } => {
+        PropRef::Plain { value, flags } => {
             write_value(text, value)?;
-            write_flags(text, *flags)
+            write_flags(text, flags)
         }
-        Prop::Accessor { flags, .. } => {
+        PropRef::Accessor { flags, .. } => {
             text.push_str("accessor")?;
-            write_flags(text, *flags)
+            write_flags(text, flags)
         }
     }
 }
