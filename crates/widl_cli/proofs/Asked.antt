@@ -4,7 +4,8 @@ use Rattle.std.specs.Prelude.{◌⊎◌, ◌≢◌, Option}
 use Rattle.widl_sink.specs.Growth.{GrewByPrefix}
 use Rattle.widl_cli.specs.Causes.{fault_of}
 use Rattle.widl_cli.specs.Answers.{Answers}
-use Rattle.widl_cli.specs.Outputs.{Output, Writes, WritesPart, IsRequestOutput, IsOutput}
+use Rattle.widl_cli.specs.Output.{Output}
+use Rattle.widl_cli.specs.Outputs.{Writes, WritesPart, IsRequestOutput, IsOutput}
 use Rattle.widl_cli.specs.Readings.{read_in_order}
 use Rattle.widl_cli.specs.Requests.{request_of, names_of}
 use Rattle.widl_cli.specs.declared.request.Request.{Request}
@@ -27,6 +28,12 @@ writes_asked words request told a b result is p = record { output = p.output; is
 pub part_asked : (words : List (List ℕ)) (request : Option Request) (told : List (List ℕ × List ℕ)) (a b : Option (List ℕ)) → request ≡ request_of words
     → WritesPart (IsAsked words request told) a b → WritesPart (IsOutput words told) a b
 part_asked words request told a b is p = record { output = p.output; is = asked words request told p.output is p.is; part = p.part }
+
+-- nothing or a prefix of the output
+pub same_or_part : (words : List (List ℕ)) (request : Option Request) (told : List (List ℕ × List ℕ)) (a b : Option (List ℕ)) → request ≡ request_of words
+    → (b ≡ a) ⊎ WritesPart (IsAsked words request told) a b → (b ≡ a) ⊎ WritesPart (IsOutput words told) a b
+same_or_part words request told a b is (inl p) = inl p
+same_or_part words request told a b is (inr p) = inr (part_asked words request told a b is p)
 
 -- a prefix of the output or of the line of a fault
 pub either_asked : (words : List (List ℕ)) (request : Option Request) (told : List (List ℕ × List ℕ)) (a b : Option (List ℕ)) (started : ℕ) → request ≡ request_of words

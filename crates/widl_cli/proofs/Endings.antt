@@ -1,6 +1,6 @@
 -- Lemmas on how a call ends.
-use Rattle.std.proofs.Common.{◌≡◌, ℕ, ◌+◌, ◌-◌, ◌<◌, ◌≤◌, List, [], ◌∷◌, length, drop, refl, sym, ap, ◌∙◌, subst, arith, inl, inr, cond, true, false}
-use Rattle.std.specs.Prelude.{◌≢◌, ◌⊎◌, ◌==◌, ◌&&◌, Option, Some, None, nat_lt, codes}
+use Rattle.std.proofs.Common.{◌≡◌, ℕ, ◌+◌, ◌-◌, ◌<◌, ◌≤◌, List, [], ◌∷◌, drop, refl, sym, ap, ◌∙◌, subst, arith, inl, inr, cond, true, false}
+use Rattle.std.specs.Prelude.{◌≢◌, ◌⊎◌, Option, Some, nat_lt}
 use Rattle.std.specs.Io.KnownBytes.{append_known}
 use Rattle.widl_sink.specs.Growth.{GrewByPrefix}
 use Rattle.widl_sink.specs.Lines.{ended}
@@ -20,8 +20,12 @@ use Rattle.widl_cli.specs.declared.status.Status.TheVariants as ends
 use Rattle.widl_front.specs.declared.verdict.Verdict.{Verdict}
 use Rattle.widl_front.specs.declared.verdict.Verdict.TheVariants.{Fault, Broken, Accepted}
 use Rattle.widl_cli.specs.Causes.{Outside, Ends, CountsStarts, last_fault}
-use Rattle.widl_cli.specs.Answers.{Answers, Answered, unread_output}
-use Rattle.widl_cli.specs.Outputs.{Output, accepted_output, plan_output, run_output, sets_output, verdict_output, IsCommandOutput, IsVerdictOutput, IsReadingOutput, fault_line}
+use Rattle.widl_cli.specs.Answers.{Answers, AnswersOr, AnswersPartly, Answered, unread_output}
+use Rattle.widl_idl.specs.DefinitionTerms.{DefsTerm, defs_term}
+use Rattle.widl_runs.specs.Traces.{Ending, EndsDone, EndsStopped, EndsUncaught}
+use Rattle.widl_cli.specs.Output.{Output}
+use Rattle.widl_cli.specs.Outputs.{IsOutputOf, IsRunOutput, by_engine, by_first_form, accepted_output, first_form_output, plan_output, sets_output, IsCommandOutput, IsVerdictOutput, IsReadingOutput, fault_line}
+use Rattle.widl_cli.specs.ScriptOutputs.{IsScriptOutput, breaks_rule, runs_whole, status_of}
 use Rattle.widl_cli.specs.Readings.{Reading, StopsFor, IsMemory}
 use Rattle.widl_cli.specs.Runs.{end_of}
 use Rattle.widl_front.specs.Texts.{named}
@@ -52,28 +56,45 @@ plain_plan budget Unsupported = tt
 plain_plan budget NotScript = tt
 plain_plan budget (Run steps) = plain_end budget steps
 
-plain_run : (budget : ℕ) (script : List ℕ) (fragments : List (List ℕ)) (set : MergedSet) → IsPlain (run_output budget script fragments set).status
-unfolding run_output
-plain_run budget script fragments set = plain_plan budget (plan_of (named fragments 0) script)
+plain_as : (output real : Output) → output ≡ real → IsPlain real.status → IsPlain output.status
+plain_as output real is plain = subst (λ o. IsPlain o.status) (sym is) plain
 
-plain_verdict : (verdict : Verdict) (others : MergedSet → Output) → ((set : MergedSet) → IsPlain (others set).status) → IsPlain (verdict_output verdict others).status
-plain_verdict (Fault finding) others plain = tt
-plain_verdict (Broken refusal) others plain = tt
-plain_verdict (Accepted set) others plain = plain set
+plain_first : (budget : ℕ) (script : List ℕ) (fragments : List (List ℕ)) → IsPlain (first_form_output budget script fragments).status
+plain_first budget script [] = tt
+plain_first budget script (fragment ∷ []) = plain_plan budget (plan_of fragment script)
+plain_first budget script (fragment ∷ other ∷ fragments) = tt
 
-plain_fragments : (fragments : List (List ℕ)) (others : MergedSet → Output) (output : Output) → ((set : MergedSet) → IsPlain (others set).status) → IsVerdictOutput fragments others output → IsPlain output.status
-plain_fragments fragments others output plain p = subst (λ o. IsPlain o.status) (sym p.output_is) (plain_verdict p.verdict others plain)
+pub plain_ending : (end : Ending) → IsPlain (status_of end)
+plain_ending EndsDone = tt
+plain_ending EndsUncaught = tt
+plain_ending (EndsStopped stop) = tt
+
+plain_script : (list : DefsTerm) (script : List ℕ) (budget : ℕ) (output : Output) → IsScriptOutput list script budget output → IsPlain output.status
+plain_script list script budget output (breaks_rule p) = plain_as output _ p.output_is tt
+plain_script list script budget output (runs_whole p) = plain_as output _ p.output_is (plain_ending p.end)
+
+plain_run : (budget : ℕ) (script : List ℕ) (fragments : List (List ℕ)) (set : MergedSet) (output : Output) → IsRunOutput budget script fragments set output → IsPlain output.status
+plain_run budget script fragments set output (by_engine served p) = plain_script (defs_term set.defs) script budget output p
+plain_run budget script fragments set output (by_first_form other is) = plain_as output _ is (plain_first budget script fragments)
+
+plain_verdict : (verdict : Verdict) (Others : MergedSet → Output → Type 0) (output : Output) → ((set : MergedSet) (o : Output) → Others set o → IsPlain o.status) → IsOutputOf verdict Others output → IsPlain output.status
+plain_verdict (Fault finding) Others output plain is = plain_as output _ is tt
+plain_verdict (Broken refusal) Others output plain is = plain_as output _ is tt
+plain_verdict (Accepted set) Others output plain is = plain set output is
+
+plain_fragments : (fragments : List (List ℕ)) (Others : MergedSet → Output → Type 0) (output : Output) → ((set : MergedSet) (o : Output) → Others set o → IsPlain o.status) → IsVerdictOutput fragments Others output → IsPlain output.status
+plain_fragments fragments Others output plain p = plain_verdict p.verdict Others output plain p.output_is
 
 pub plain_command : (command : Command) (texts : List (List ℕ)) (output : Output) → IsCommandOutput command texts output → IsPlain output.status
-plain_command Check texts output p = plain_fragments texts accepted_output output (λ set. tt) p
-plain_command Sets texts output p = plain_fragments texts sets_output output (λ set. tt) p
-plain_command (commands.Run budget) texts output p = plain_fragments (drop 1 texts) (run_output budget (named texts 0) (drop 1 texts)) output (plain_run budget (named texts 0) (drop 1 texts)) p
+plain_command Check texts output p = plain_fragments texts (λ set o. o ≡ accepted_output set) output (λ set o is. plain_as o _ is tt) p
+plain_command Sets texts output p = plain_fragments texts (λ set o. o ≡ sets_output set) output (λ set o is. plain_as o _ is tt) p
+plain_command (commands.Run budget) texts output p = plain_fragments (drop 1 texts) (IsRunOutput budget (named texts 0) (drop 1 texts)) output (plain_run budget (named texts 0) (drop 1 texts)) p
 
 pub never : (bad result : Status) → (IsPlain bad → ⊥) → IsPlain result → result ≡ bad → ⊥
 never bad result h p e = h (subst IsPlain e p)
 
 -- a plain output is answered plainly, or the write failed or memory was short
-pub answered_plain : (output : Output) (a b : Option (List ℕ)) (f h : ℕ) (result bad : Status) → Answers output a b f h result → IsPlain output.status
+pub answered_plain : {Short : Type 0} (output : Output) (a b : Option (List ℕ)) (f h : ℕ) (result bad : Status) → AnswersOr Short output a b f h result → IsPlain output.status
     → (bad ≡ ends.Memory → ⊥) → (bad ≡ ends.WriteFault → ⊥) → (IsPlain bad → ⊥) → result ≡ bad → ⊥
 answered_plain output a b f h result bad p plain m w n e =
     n (subst IsPlain (sym (p.status (λ q. m (sym e ∙ q)) (λ q. w (sym e ∙ q))) ∙ e) plain)
@@ -83,7 +104,7 @@ write_or_not ends.WriteFault = inl refl
 write_or_not status = inr (λ e. (cc))
 
 -- where the sink's count grew, the write fault is answered
-pub wrote_always : (output : Output) (a b : Option (List ℕ)) (f h : ℕ) (result : Status) → Answers output a b f h result → f < h → result ≡ ends.WriteFault
+pub wrote_always : {Short : Type 0} (output : Output) (a b : Option (List ℕ)) (f h : ℕ) (result : Status) → AnswersOr Short output a b f h result → f < h → result ≡ ends.WriteFault
 wrote_always output a b f h result p grew =
     elim (write_or_not result) as (λ _. result ≡ ends.WriteFault) [ inl e ↦ e | inr n ↦ absurd (omega (arith, grew, p.kept n)) ]
 
@@ -99,11 +120,13 @@ status_not e q n = n (sym e ∙ q)
 
 -- ---- memory was short, and nothing was written
 
-pub memory_ends : (files : Option (List (List ℕ × List ℕ))) (IsIt : List (List ℕ × List ℕ) → Output → Type 0) (names : List (List ℕ)) (old new : Outside) (result : Status)
-    → result ≡ ends.Memory → new.held ≡ old.held → new.sink_faults ≡ old.sink_faults → Ends files IsIt names old new result
-memory_ends files IsIt names old new result is held kept = record {
+pub memory_ends : (AtOnce : Type 0) (files : Option (List (List ℕ × List ℕ))) (IsIt : List (List ℕ × List ℕ) → Output → Type 0) (names : List (List ℕ)) (old new : Outside) (result : Status)
+    → result ≡ ends.Memory → new.held ≡ old.held → new.sink_faults ≡ old.sink_faults → Ends AtOnce files IsIt names old new result
+memory_ends AtOnce files IsIt names old new result is held kept = record {
   written = λ told files_are m r w. absurd (m is);
-  short = λ e. held;
+  short = λ now e. held;
+  short_part = λ told files_are e. inl held;
+  short_fault = λ grew e. held;
   torn = λ told files_are calm e. absurd (status_not is e (λ q. (cc)));
   torn_fault = λ told files_are counts e. absurd (status_not is e (λ q. (cc)));
   fault_written = λ counts e. absurd (status_not is e (λ q. (cc)));
@@ -119,13 +142,15 @@ memory_ends files IsIt names old new result is held kept = record {
 
 -- ---- all files were read
 
-one_ends : (files : Option (List (List ℕ × List ℕ))) (IsIt : List (List ℕ × List ℕ) → Output → Type 0) (names : List (List ℕ)) (old new : Outside) (result : Status) (real : Output)
-    → Answers real old.held new.held old.sink_faults new.sink_faults result → IsPlain real.status
+one_ends : (AtOnce : Type 0) (files : Option (List (List ℕ × List ℕ))) (IsIt : List (List ℕ × List ℕ) → Output → Type 0) (names : List (List ℕ)) (old new : Outside) (result : Status) (real : Output)
+    → AnswersPartly real old.held new.held old.sink_faults new.sink_faults result → (AtOnce → result ≡ ends.Memory → new.held ≡ old.held) → IsPlain real.status
     → ((told : List (List ℕ × List ℕ)) → files ≡ Some told → IsIt told real)
-    → new.faults ≡ old.faults → new.misses ≡ old.misses → new.given ≤ most_file_bytes → Ends files IsIt names old new result
-one_ends files IsIt names old new result real p plain same faults misses given = record {
+    → new.faults ≡ old.faults → new.misses ≡ old.misses → new.given ≤ most_file_bytes → Ends AtOnce files IsIt names old new result
+one_ends AtOnce files IsIt names old new result real p at_once plain same faults misses given = record {
   written = λ told is m r w. record { output = real; is = same told is; status = p.status m w; bytes = p.wrote m w };
-  short = p.short;
+  short = at_once;
+  short_part = λ told is e. inr (record { output = real; is = same told is; part = p.short e });
+  short_fault = λ grew e. absurd (omega (arith, grew, faults));
   torn = λ told is calm e. record { output = real; is = same told is; part = p.torn e };
   torn_fault = λ told is counts e. inl (record { output = real; is = same told is; part = p.torn e });
   fault_written = λ counts e. absurd (answered_plain real _ _ _ _ result ends.ReadFault p plain (λ q. (cc)) (λ q. (cc)) (λ q. q) e);
@@ -139,13 +164,13 @@ one_ends files IsIt names old new result real p plain same faults misses given =
   long_always = λ long. absurd (omega (arith, long, given));
 }
 
-pub read_ends : (files : Option (List (List ℕ × List ℕ))) (IsIt : List (List ℕ × List ℕ) → Output → Type 0) (names : List (List ℕ)) (old new : Outside) (result : Status) (IsReal : Output → Type 0)
-    → Answered IsReal old.held new.held old.sink_faults new.sink_faults result → ((output : Output) → IsReal output → IsPlain output.status)
+pub read_ends : (AtOnce : Type 0) (files : Option (List (List ℕ × List ℕ))) (IsIt : List (List ℕ × List ℕ) → Output → Type 0) (names : List (List ℕ)) (old new : Outside) (result : Status) (IsReal : Output → Type 0)
+    → Answered IsReal old.held new.held old.sink_faults new.sink_faults result → (AtOnce → result ≡ ends.Memory → new.held ≡ old.held) → ((output : Output) → IsReal output → IsPlain output.status)
     → ((told : List (List ℕ × List ℕ)) → files ≡ Some told → (output : Output) → IsReal output → IsIt told output)
-    → new.faults ≡ old.faults → new.misses ≡ old.misses → new.given ≤ most_file_bytes → Ends files IsIt names old new result
-read_ends files IsIt names old new result IsReal (inl p) plain same faults misses given = memory_ends files IsIt names old new result p.0 p.1 p.2
-read_ends files IsIt names old new result IsReal (inr p) plain same faults misses given =
-    one_ends files IsIt names old new result p.0 p.2 (plain p.0 p.1) (λ told is. same told is p.0 p.1) faults misses given
+    → new.faults ≡ old.faults → new.misses ≡ old.misses → new.given ≤ most_file_bytes → Ends AtOnce files IsIt names old new result
+read_ends AtOnce files IsIt names old new result IsReal (inl p) at_once plain same faults misses given = memory_ends AtOnce files IsIt names old new result p.0 p.1 p.2
+read_ends AtOnce files IsIt names old new result IsReal (inr p) at_once plain same faults misses given =
+    one_ends AtOnce files IsIt names old new result p.0 p.2 at_once (plain p.0 p.1) (λ told is. same told is p.0 p.1) faults misses given
 
 -- a call that reads files and then answers them never answers usage
 pub never_usage : (IsReal : Output → Type 0) (a b : Option (List ℕ)) (f h : ℕ) (result : Status) → Answered IsReal a b f h result → ((output : Output) → IsReal output → IsPlain output.status)
@@ -168,15 +193,17 @@ pub record Stopped (files : Option (List (List ℕ × List ℕ))) (reading : Lis
 fault_at : (names : List (List ℕ)) (old new : Outside) (name : List ℕ) → named names (new.starts - old.starts - 1) ≡ name → ended (fault_line name) ≡ last_fault names old new
 fault_at names old new name is = ap (λ n. ended (fault_line n)) (sym is)
 
-pub stopped_ends : (files : Option (List (List ℕ × List ℕ))) (P : List (List ℕ) → Output → Type 0) (reading : List (List ℕ × List ℕ) → Reading) (names : List (List ℕ)) (old new : Outside)
+pub stopped_ends : (AtOnce : Type 0) (files : Option (List (List ℕ × List ℕ))) (P : List (List ℕ) → Output → Type 0) (reading : List (List ℕ × List ℕ) → Reading) (names : List (List ℕ)) (old new : Outside)
     (name : List ℕ) (cause : FetchError) (result : Status) → Stopped files reading names old new name cause
     → Answers (unread_output cause name) old.held new.held old.sink_faults new.sink_faults result → (IsMemory cause → result ≡ ends.Memory)
-    → Ends files (λ told. IsReadingOutput P (reading told)) names old new result
-stopped_ends files P reading names old new name (Memory e) result s p memory =
-    memory_ends files _ names old new result (memory tt) (p.short (memory tt)) (p.kept (λ w. status_not (memory tt) w (λ q. (cc))))
-stopped_ends files P reading names old new name Failed result s p memory = record {
+    → Ends AtOnce files (λ told. IsReadingOutput P (reading told)) names old new result
+stopped_ends AtOnce files P reading names old new name (Memory e) result s p memory =
+    memory_ends AtOnce files _ names old new result (memory tt) (p.short (memory tt)) (p.kept (λ w. status_not (memory tt) w (λ q. (cc))))
+stopped_ends AtOnce files P reading names old new name Failed result s p memory = record {
   written = λ told is m r w. absurd (r (p.status m w));
-  short = p.short;
+  short = λ now e. p.short e;
+  short_part = λ told is e. inl (p.short e);
+  short_fault = λ grew e. p.short e;
   torn = λ told is calm e. absurd (calm (s.faults.rose refl));
   torn_fault = λ told is counts e. inr (subst (GrewByPrefix old.held new.held) (fault_at names old new name (s.named counts)) (p.torn e));
   fault_written = λ counts e. subst (λ l. new.held ≡ append_known old.held l) (fault_at names old new name (s.named counts)) (p.wrote (λ q. status_not e q (λ u. (cc))) (λ q. status_not e q (λ u. (cc))));
@@ -189,9 +216,11 @@ stopped_ends files P reading names old new name Failed result s p memory = recor
   miss_always = λ grew. absurd (omega (arith, grew, s.misses.kept (λ e. (cc))));
   long_always = λ long. absurd (omega (arith, long, s.not_failed refl));
 }
-stopped_ends files P reading names old new name Missing result s p memory = record {
+stopped_ends AtOnce files P reading names old new name Missing result s p memory = record {
   written = λ told is m r w. record { output = unread_output Missing name; is = missing_is told is; status = p.status m w; bytes = p.wrote m w };
-  short = p.short;
+  short = λ now e. p.short e;
+  short_part = λ told is e. inl (p.short e);
+  short_fault = λ grew e. p.short e;
   torn = λ told is calm e. record { output = unread_output Missing name; is = missing_is told is; part = p.torn e };
   torn_fault = λ told is counts e. inl (record { output = unread_output Missing name; is = missing_is told is; part = p.torn e });
   fault_written = λ counts e. absurd (status_not e (p.status (λ q. status_not e q (λ u. (cc))) (λ q. status_not e q (λ u. (cc)))) (λ u. (cc)));
@@ -207,9 +236,11 @@ stopped_ends files P reading names old new name Missing result s p memory = reco
   where
     missing_is : (told : List (List ℕ × List ℕ)) → files ≡ Some told → IsReadingOutput P (reading told) (unread_output Missing name)
     missing_is told is = subst (λ r. IsReadingOutput P r (unread_output Missing name)) (sym (s.stops told is)) refl
-stopped_ends files P reading names old new name TooLong result s p memory = record {
+stopped_ends AtOnce files P reading names old new name TooLong result s p memory = record {
   written = λ told is m r w. record { output = unread_output TooLong name; is = long_is told is; status = p.status m w; bytes = p.wrote m w };
-  short = p.short;
+  short = λ now e. p.short e;
+  short_part = λ told is e. inl (p.short e);
+  short_fault = λ grew e. p.short e;
   torn = λ told is calm e. record { output = unread_output TooLong name; is = long_is told is; part = p.torn e };
   torn_fault = λ told is counts e. inl (record { output = unread_output TooLong name; is = long_is told is; part = p.torn e });
   fault_written = λ counts e. absurd (status_not e (p.status (λ q. status_not e q (λ u. (cc))) (λ q. status_not e q (λ u. (cc)))) (λ u. (cc)));

@@ -106,7 +106,7 @@ one_start_more before middle now i first from is next =
     let e : i + 1 - first ≡ suc (i - first) = omega arith in next ∙ ap next_count is ∙ ap (starts_after before) (sym e)
 
 -- the file that was started last, of those whose names begin at a place
-last_named : (words : List (List ℕ)) (first before now place : ℕ) → first ≤ place → place < length words → length words ≤ 66 → before < 18446744073709551000
+last_named : (words : List (List ℕ)) (first before now place : ℕ) → first ≤ place → place < length words → length words ≤ 67 → before < 18446744073709551000
     → now ≡ starts_after before (place - first + 1) → named (drop first words) (now - before - 1) ≡ named words place
 last_named words first before now place from within most small is =
     let counted : starts_after before (place - first + 1) ≡ before + (place - first + 1) = starts_counted before (place - first + 1) (omega arith) in
@@ -115,7 +115,7 @@ last_named words first before now place from within most small is =
     ap (named (drop first words)) at ∙ get_or-drop first words (place - first) [] ∙ ap (named words) place_is
 
 -- the same, by another word for the first place
-pub last_named_from : (words : List (List ℕ)) (first n before now place : ℕ) → n ≡ first → n ≤ place → place < length words → length words ≤ 66 → before < 18446744073709551000
+pub last_named_from : (words : List (List ℕ)) (first n before now place : ℕ) → n ≡ first → n ≤ place → place < length words → length words ≤ 67 → before < 18446744073709551000
     → now ≡ starts_after before (place - n + 1) → named (drop first words) (now - before - 1) ≡ named words place
 last_named_from words first n before now place same from within most small is =
     subst (λ k. named (drop k words) (now - before - 1) ≡ named words place) same (last_named words n before now place from within most small is)

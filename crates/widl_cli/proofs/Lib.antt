@@ -1,3 +1,4 @@
+mod Answered
 mod Asked
 mod Budgets
 mod Endings
@@ -6,3 +7,6 @@ mod Names
 mod OneOutput
 mod Runs
 mod OneText
+mod PlainSteps
+mod ReadScripts
+mod ScriptRuns

@@ -1,12 +1,16 @@
 -- For proofs alone. What private functions say of the answers that they write.
-use Rattle.std.specs.Prelude.{◌≡◌, ◌≢◌, ◌⊎◌, ℕ, ◌≤◌, List, [], Option}
+use Rattle.std.specs.Prelude.{◌≡◌, ◌≢◌, ◌⊎◌, ℕ, ◌≤◌, List, [], Option, length}
+use Rattle.widl_text.specs.Limits.{most_file_bytes}
+use Rattle.widl_cli.specs.Requests.{IsWithin}
+use Rattle.widl_cli.specs.declared.request.Command.TheVariants as commands
 use Rattle.std.specs.Io.KnownBytes.{append_known}
 use Rattle.widl_sink.specs.Causes.{Rose}
 use Rattle.widl_sink.specs.Growth.{GrewByPrefix}
 use Rattle.widl_folder.specs.declared.whole_file.FetchError.{FetchError}
 use Rattle.widl_folder.specs.declared.whole_file.FetchError.TheVariants.{Memory, Missing, Failed, TooLong}
 use Rattle.widl_idl.specs.MergedSets.{MergedSet}
-use Rattle.widl_cli.specs.Outputs.{Output, accepted_output, fault_line, last, long_line, missing_line, run_output, sets_output}
+use Rattle.widl_cli.specs.Output.{Output, last}
+use Rattle.widl_cli.specs.Outputs.{IsRunOutput, accepted_output, fault_line, long_line, missing_line, sets_output}
 use Rattle.widl_cli.specs.declared.status.Status.{Status}
 use Rattle.widl_cli.specs.declared.status.Status.TheVariants as ends
 use Rattle.widl_cli.specs.declared.task.Task.{Task}
@@ -19,23 +23,43 @@ unread_output Missing name = last (missing_line name) ends.Missing
 unread_output Failed name = last (fault_line name) ends.ReadFault
 unread_output TooLong name = last (long_line name) ends.TooLong
 
--- the output was written whole, or a write failed or memory was short
-pub record Answers (output : Output) (old new : Option (List ℕ)) (before now : ℕ) (result : Status) : Type 0 where
+-- the output was written whole, or a write failed, or memory was short and this is known then
+pub record AnswersOr (Short : Type 0) (output : Output) (old new : Option (List ℕ)) (before now : ℕ) (result : Status) : Type 0 where
   pub later : before ≤ now
   pub status : result ≢ ends.Memory → result ≢ ends.WriteFault → result ≡ output.status
   pub wrote : result ≢ ends.Memory → result ≢ ends.WriteFault → new ≡ append_known old output.bytes
   pub rose : result ≡ ends.WriteFault → Rose before now
   pub kept : result ≢ ends.WriteFault → now ≡ before
   pub torn : result ≡ ends.WriteFault → GrewByPrefix old new output.bytes
-  pub short : result ≡ ends.Memory → new ≡ old
+  pub short : result ≡ ends.Memory → Short
+
+-- where memory was short, nothing was written
+abbrev pub Answers : (output : Output) → (old new : Option (List ℕ)) → (before now : ℕ) → (result : Status) → Type 0
+Answers output old new before now result = AnswersOr (new ≡ old) output old new before now result
+
+-- where memory was short, a part was written
+abbrev pub AnswersPartly : (output : Output) → (old new : Option (List ℕ)) → (before now : ℕ) → (result : Status) → Type 0
+AnswersPartly output old new before now result = AnswersOr (GrewByPrefix old new output.bytes) output old new before now result
 
 -- what a task writes for an accepted set of these fragments
-abbrev pub task_output : Task → List (List ℕ) → MergedSet → Output
-task_output tasks.Check fragments = accepted_output
-task_output tasks.Sets fragments = sets_output
-task_output (tasks.Run budget script) fragments = run_output budget script.items fragments
+abbrev pub IsTaskOutput : Task → List (List ℕ) → MergedSet → Output → Type 0
+IsTaskOutput tasks.Check fragments set output = output ≡ accepted_output set
+IsTaskOutput tasks.Sets fragments set output = output ≡ sets_output set
+IsTaskOutput (tasks.Run budget script) fragments set output = IsRunOutput budget script.items fragments set output
 
--- the same for some output, or memory was short before there was one
+-- an output like this was written, whole or in part, or memory was short before there was one
 abbrev pub Answered : (Output → Type 0) → (old new : Option (List ℕ)) → (before now : ℕ) → Status → Type 0
 Answered IsIt old new before now result =
-    ((result ≡ ends.Memory) × (new ≡ old) × (now ≡ before)) ⊎ ((output : Output) × IsIt output × Answers output old new before now result)
+    ((result ≡ ends.Memory) × (new ≡ old) × (now ≡ before)) ⊎ ((output : Output) × IsIt output × AnswersPartly output old new before now result)
+
+-- the script and the budget are within the limits
+abbrev pub CanDo : Task → Type 0
+CanDo tasks.Check = Unit {0}
+CanDo tasks.Sets = Unit {0}
+CanDo (tasks.Run budget script) = (length script.items ≤ most_file_bytes) × IsWithin (commands.Run budget)
+
+-- `check` and `sets` write nothing before all is known
+abbrev pub DoesAtOnce : Task → Type 0
+DoesAtOnce tasks.Check = Unit {0}
+DoesAtOnce tasks.Sets = Unit {0}
+DoesAtOnce (tasks.Run budget script) = ⊥

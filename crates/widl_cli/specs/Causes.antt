@@ -4,7 +4,8 @@ use Rattle.std.specs.Io.KnownBytes.{append_known}
 use Rattle.widl_sink.specs.Causes.{Rose}
 use Rattle.widl_sink.specs.Growth.{GrewByPrefix}
 use Rattle.widl_sink.specs.Lines.{ended}
-use Rattle.widl_cli.specs.Outputs.{Output, Writes, WritesPart, fault_line}
+use Rattle.widl_cli.specs.Output.{Output}
+use Rattle.widl_cli.specs.Outputs.{Writes, WritesPart, fault_line}
 use Rattle.widl_text.specs.Limits.{most_file_bytes}
 use Rattle.widl_front.specs.Texts.{named}
 use Rattle.widl_cli.specs.declared.status.Status.{Status}
@@ -30,11 +31,13 @@ last_fault names old new = fault_of names (new.starts - old.starts)
 abbrev pub CountsStarts : Outside → Type 0
 CountsStarts old = old.starts < 18446744073709551000
 
--- how a call ended that read the named files and then wrote an output that they determine
-pub record Ends (files : Option (List (List ℕ × List ℕ))) (IsIt : List (List ℕ × List ℕ) → Output → Type 0) (names : List (List ℕ)) (old new : Outside) (result : Status) : Type 0 where
+-- how a call ended that read the named files and then wrote an output that they determine, where this is so at once or bit by bit
+pub record Ends (AtOnce : Type 0) (files : Option (List (List ℕ × List ℕ))) (IsIt : List (List ℕ × List ℕ) → Output → Type 0) (names : List (List ℕ)) (old new : Outside) (result : Status) : Type 0 where
   pub written : (told : List (List ℕ × List ℕ)) → files ≡ Some told → result ≢ ends.Memory → result ≢ ends.ReadFault → result ≢ ends.WriteFault
       → Writes (IsIt told) old.held new.held result
-  pub short : result ≡ ends.Memory → new.held ≡ old.held
+  pub short : AtOnce → result ≡ ends.Memory → new.held ≡ old.held
+  pub short_part : (told : List (List ℕ × List ℕ)) → files ≡ Some told → result ≡ ends.Memory → (new.held ≡ old.held) ⊎ WritesPart (IsIt told) old.held new.held
+  pub short_fault : old.faults < new.faults → result ≡ ends.Memory → new.held ≡ old.held
   pub torn : (told : List (List ℕ × List ℕ)) → files ≡ Some told → (Rose old.faults new.faults → ⊥) → result ≡ ends.WriteFault
       → WritesPart (IsIt told) old.held new.held
   pub torn_fault : (told : List (List ℕ × List ℕ)) → files ≡ Some told → CountsStarts old → result ≡ ends.WriteFault

@@ -1,17 +1,20 @@
 -- What is written for the arguments of a command line over given files, and the status.
-use Rattle.std.specs.Prelude.{◌≡◌, ℕ, List, ◌++◌, drop, Option, Some, None, codes}
+use Rattle.std.specs.Prelude.{◌≡◌, ℕ, List, [], ◌∷◌, ◌++◌, drop, Option, Some, None, codes}
 use Rattle.std.specs.Io.KnownBytes.{append_known}
 use Rattle.widl_sink.specs.Growth.{GrewByPrefix}
-use Rattle.widl_sink.specs.Lines.{ended}
 use Rattle.widl_first_form.specs.Plans.{plan_of}
 use Rattle.widl_first_form.specs.declared.planned.Plan as plans
 use Rattle.widl_first_form.specs.declared.planned.Plan.TheVariants as plan
+use Rattle.widl_idl.specs.DefinitionTerms.{defs_term}
 use Rattle.widl_idl.specs.MergedSets.{MergedSet}
+use Rattle.widl_overload.specs.Served.{IsServed}
 use Rattle.widl_sets.specs.Listing.{all_lines}
 use Rattle.widl_front.specs.Findings.{finding_line}
 use Rattle.widl_cli.specs.Readings.{Reading, AllRead, MissingFile, LongFile, read_in_order}
 use Rattle.widl_front.specs.Texts.{named}
+use Rattle.widl_cli.specs.Output.{Output, last}
 use Rattle.widl_cli.specs.Requests.{request_of, names_of}
+use Rattle.widl_cli.specs.ScriptOutputs.{IsScriptOutput}
 use Rattle.widl_cli.specs.Runs.{written, end_of}
 use Rattle.widl_cli.specs.declared.help.TheConstants.{HELP, VERSION}
 use Rattle.widl_cli.specs.declared.request.Request as requests
@@ -23,15 +26,6 @@ use Rattle.widl_cli.specs.declared.status.Status.TheVariants as ends
 use Rattle.widl_front.specs.declared.verdict.Verdict.{Verdict}
 use Rattle.widl_front.specs.declared.verdict.Verdict.TheVariants.{Fault, Broken, Accepted}
 use Rattle.widl_front.specs.Verdicts.{IsVerdict, refusal_line}
-
--- the bytes and the status
-pub record Output : Type 0 where
-  pub bytes : List ℕ
-  pub status : Status
-
--- one last line
-abbrev pub last : List ℕ → Status → Output
-last line status = record { bytes = ended line; status = status }
 
 -- what is written for a plan: the refusal of the fragment or of the script, or the trace
 abbrev pub plan_output : ℕ → plans.Plan → Output
@@ -55,27 +49,33 @@ accepted_output set = last (codes "accepted") ends.Done
 abbrev pub sets_output : MergedSet → Output
 sets_output set = record { bytes = all_lines set.defs; status = ends.Done }
 
--- what is written for an accepted set by `run` with a budget, a script and fragments; the first form of scripts looks at the first fragment's bytes
-unfoldable pub run_output : ℕ → List ℕ → List (List ℕ) → MergedSet → Output
-run_output budget script fragments set = plan_output budget (plan_of (named fragments 0) script)
+-- the first form looks at the bytes of one fragment
+abbrev pub first_form_output : ℕ → List ℕ → List (List ℕ) → Output
+first_form_output budget script (fragment ∷ []) = plan_output budget (plan_of fragment script)
+first_form_output budget script fragments = last (codes "refused later 0 0") ends.Refused
+
+-- what is written for an accepted set by `run` with a budget, a script and fragments: the engine comes first
+pub data IsRunOutput (budget : ℕ) (script : List ℕ) (fragments : List (List ℕ)) (set : MergedSet) (output : Output) : Type 0 where
+  by_engine : IsServed (defs_term set.defs) → IsScriptOutput (defs_term set.defs) script budget output → IsRunOutput budget script fragments set output
+  by_first_form : (IsServed (defs_term set.defs) → ⊥) → output ≡ first_form_output budget script fragments → IsRunOutput budget script fragments set output
 
 -- what is found is named; of an accepted set other things are written
-abbrev pub verdict_output : Verdict → (MergedSet → Output) → Output
-verdict_output (Fault finding) others = last (finding_line finding) ends.Refused
-verdict_output (Broken refusal) others = last (refusal_line refusal) ends.Refused
-verdict_output (Accepted set) others = others set
+abbrev pub IsOutputOf : Verdict → (MergedSet → Output → Type 0) → Output → Type 0
+IsOutputOf (Fault finding) Others output = output ≡ last (finding_line finding) ends.Refused
+IsOutputOf (Broken refusal) Others output = output ≡ last (refusal_line refusal) ends.Refused
+IsOutputOf (Accepted set) Others output = Others set output
 
 -- what is written for fragments, with what is written for each accepted set
-pub record IsVerdictOutput (fragments : List (List ℕ)) (others : MergedSet → Output) (output : Output) : Type 0 where
+pub record IsVerdictOutput (fragments : List (List ℕ)) (Others : MergedSet → Output → Type 0) (output : Output) : Type 0 where
   pub verdict : Verdict
   pub verdict_is : IsVerdict fragments verdict
-  pub output_is : output ≡ verdict_output verdict others
+  pub output_is : IsOutputOf verdict Others output
 
 -- the fragments are all texts; for `run` the first text is the script, and the others are the fragments
 abbrev pub IsCommandOutput : Command → List (List ℕ) → Output → Type 0
-IsCommandOutput Check texts output = IsVerdictOutput texts accepted_output output
-IsCommandOutput Sets texts output = IsVerdictOutput texts sets_output output
-IsCommandOutput (Run budget) texts output = IsVerdictOutput (drop 1 texts) (run_output budget (named texts 0) (drop 1 texts)) output
+IsCommandOutput Check texts output = IsVerdictOutput texts (λ set o. o ≡ accepted_output set) output
+IsCommandOutput Sets texts output = IsVerdictOutput texts (λ set o. o ≡ sets_output set) output
+IsCommandOutput (Run budget) texts output = IsVerdictOutput (drop 1 texts) (IsRunOutput budget (named texts 0) (drop 1 texts)) output
 
 -- the first file that isn't there or is too long is named
 abbrev pub IsReadingOutput : (List (List ℕ) → Output → Type 0) → Reading → Output → Type 0

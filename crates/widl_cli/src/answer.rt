@@ -2,16 +2,18 @@
 
 ghost use Rattle.std.specs.Prelude.{◌≡◌, ◌≢◌, ◌<◌, ◌≤◌, ◌++◌, IfOk, OnOk, OnErr, codes, length};
 ghost use Rattle.std.specs.Io.KnownBytes.{append_known};
-ghost use Rattle.widl_text.specs.Limits.{most_files};
+ghost use Rattle.widl_text.specs.Limits.{most_file_bytes, most_files};
 ghost use Rattle.widl_sink.specs.Causes.{HasCause};
 ghost use Rattle.widl_sink.specs.Growth.{GrewByPrefix};
 ghost use Rattle.widl_sink.specs.Lines.{ended};
 ghost use Rattle.widl_front.specs.Findings.{finding_line};
 ghost use Rattle.widl_front.specs.Texts.{AreShort};
 ghost use Rattle.widl_front.specs.Verdicts.{refusal_line};
-ghost use Rattle.widl_cli.specs.Answers.{Answered, Answers, task_output, unread_output};
-ghost use Rattle.widl_cli.specs.Outputs.{plan_output, run_output, sets_output, last, IsCommandOutput, IsVerdictOutput};
+ghost use Rattle.widl_cli.specs.Answers.{Answered, Answers, CanDo, DoesAtOnce, IsTaskOutput, unread_output};
+ghost use Rattle.widl_cli.specs.Output.{last};
+ghost use Rattle.widl_cli.specs.Outputs.{first_form_output, plan_output, sets_output, IsCommandOutput, IsRunOutput, IsVerdictOutput};
 ghost use Rattle.widl_cli.specs.Readings.{IsMemory};
+ghost use Rattle.widl_cli.specs.Requests.{HasTexts, IsWithin, WritesAtOnce};
 ghost use Rattle.widl_cli.specs.declared.request.Command.TheVariants as commands;
 ghost use Rattle.widl_cli.specs.declared.status.Status.TheVariants as ends;
 ghost use Rattle.widl_first_form.specs.declared.planned.Plan.TheVariants as plans;
@@ -20,6 +22,7 @@ ghost use Rattle.widl_folder.specs.declared.whole_file.FetchError.TheVariants as
 use crate::Status;
 use crate::perform::perform_steps;
 use crate::request::Command;
+use crate::running::run_script;
 use crate::task::Task;
 use std::alloc::{AllocError, Global};
 use std::mem;
@@ -27,17 +30,18 @@ use widl_first_form::{Plan, Steps, make_plan};
 use widl_folder::FetchError;
 use widl_front::{Finding, Texts, Verdict, judge, line_of_finding, line_of_refusal};
 use widl_idl::Refusal;
-use widl_overload::Accepted;
+use widl_overload::{Accepted, is_served};
 use widl_sets::set_lines;
 use widl_sink::{Line, Sink, WriteFailed, Writer, write_all};
 
 /// Answers a command over the texts of its files: for a run the first text is the script, and the others are
 /// the fragments; for the other commands all are fragments.
 pub fn answer_texts<K: Sink>(alloc: Global, command: Command, texts: Texts, out: &mut K) -> Status
-    requires some { 0 < length texts }
-    requires few { length texts ≤ most_files }
+    requires texts { HasTexts command (length texts) }
     requires short { AreShort texts }
-    ensures { Answered (IsCommandOutput command texts) (K.held out.old) (K.held out.new) (K.faults out.old) (K.faults out.new) result }
+    requires within { IsWithin command }
+    ensures answered { Answered (IsCommandOutput command texts) (K.held out.old) (K.held out.new) (K.faults out.old) (K.faults out.new) result }
+    ensures at_once { WritesAtOnce command → result ≡ Status.Memory → K.held out.new ≡ K.held out.old }
 {
     match command {
         Command::Check => answer_fragments(alloc, &Task::Check, &texts, out),
@@ -48,9 +52,9 @@ pub fn answer_texts<K: Sink>(alloc: Global, command: Command, texts: Texts, out:
 
 /// Takes the script off the texts, and runs it over the others.
 fn answer_run<K: Sink>(alloc: Global, budget: u64, texts: Texts, out: &mut K) -> Status
-    requires some { 0 < length texts }
-    requires few { length texts ≤ most_files }
+    requires texts { HasTexts (commands.Run budget) (length texts) }
     requires short { AreShort texts }
+    requires within { IsWithin (commands.Run budget) }
     ensures { Answered (IsCommandOutput (commands.Run budget) texts) (K.held out.old) (K.held out.new) (K.faults out.old) (K.faults out.new) result }
 {
     let mut fragments = texts;
@@ -62,7 +66,9 @@ fn answer_run<K: Sink>(alloc: Global, budget: u64, texts: Texts, out: &mut K) ->
 fn answer_fragments<K: Sink>(alloc: Global, task: &Task, fragments: &Texts, out: &mut K) -> Status
     requires few { length fragments.now ≤ most_files }
     requires short { AreShort fragments.now }
-    ensures { Answered (IsVerdictOutput fragments.now (task_output task.now fragments.now)) (K.held out.old) (K.held out.new) (K.faults out.old) (K.faults out.new) result }
+    requires task { CanDo task.now }
+    ensures answered { Answered (IsVerdictOutput fragments.now (IsTaskOutput task.now fragments.now)) (K.held out.old) (K.held out.new) (K.faults out.old) (K.faults out.new) result }
+    ensures at_once { DoesAtOnce task.now → result ≡ Status.Memory → K.held out.new ≡ K.held out.old }
 {
     match judge(alloc, fragments) {
         Err(AllocError) => Status::Memory,
@@ -80,7 +86,9 @@ fn do_task<K: Sink>(
     accepted: Accepted,
     out: &mut K,
 ) -> Status
-    ensures { Answers (task_output task.now fragments.now accepted) (K.held out.old) (K.held out.new) (K.faults out.old) (K.faults out.new) result }
+    requires { CanDo task.now }
+    ensures answered { Answered (IsTaskOutput task.now fragments.now accepted) (K.held out.old) (K.held out.new) (K.faults out.old) (K.faults out.new) result }
+    ensures at_once { DoesAtOnce task.now → result ≡ Status.Memory → K.held out.new ≡ K.held out.old }
 {
     match task {
         Task::Check => {
@@ -88,7 +96,9 @@ fn do_task<K: Sink>(
             answer_accepted(alloc, out)
         }
         Task::Sets => answer_lines(alloc, &accepted, out),
-        Task::Run(budget, script) => run_script(alloc, *budget, script, fragments, &accepted, out),
+        Task::Run(budget, script) => answer_script(
+            alloc, *budget, script, fragments, accepted, out,
+        ),
     }
 }
 
@@ -145,19 +155,40 @@ fn write_lines<K: Sink>(lines: &[u8], out: &mut K) -> Status
     }
 }
 
-/// Runs a script over an accepted set of fragments: the first form of scripts looks at the first fragment's
-/// bytes.
-#[tactic(auto, unfolding(crate::specs::Outputs::run_output))]
-fn run_script<K: Sink>(
+/// Runs a script over an accepted set of fragments: by the engine where that serves the set, and else by the
+/// first form, which has one fragment.
+fn answer_script<K: Sink>(
     alloc: Global,
     budget: u64,
     script: &[u8],
     fragments: &Texts,
-    accepted: &Accepted,
+    accepted: Accepted,
     out: &mut K,
 ) -> Status
-    ensures { Answers (run_output budget script.now fragments.now accepted.now) (K.held out.old) (K.held out.new) (K.faults out.old) (K.faults out.new) result }
+    requires short { length script.now ≤ most_file_bytes }
+    requires within { IsWithin (commands.Run budget) }
+    ensures { Answered (IsRunOutput budget script.now fragments.now accepted) (K.held out.old) (K.held out.new) (K.faults out.old) (K.faults out.new) result }
 {
+    if is_served(&accepted) {
+        run_script(alloc, budget, script, accepted, out)
+    } else {
+        run_first_form(alloc, budget, script, fragments, out)
+    }
+}
+
+/// Runs a script of the first form, which looks at the fragment's bytes.
+fn run_first_form<K: Sink>(
+    alloc: Global,
+    budget: u64,
+    script: &[u8],
+    fragments: &Texts,
+    out: &mut K,
+) -> Status
+    ensures { Answers (first_form_output budget script.now fragments.now) (K.held out.old) (K.held out.new) (K.faults out.old) (K.faults out.new) result }
+{
+    if fragments.len() != 1 {
+        return last_line(alloc, b"refused later 0 0", b"", Status::Refused, out);
+    }
     match make_plan(alloc, fragments.named(0), script) {
         Err(AllocError) => Status::Memory,
         Ok(Plan::Unsupported) => last_line(alloc, b"refused later 0 0", b"", Status::Refused, out),

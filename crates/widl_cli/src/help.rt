@@ -6,7 +6,7 @@ pub const HELP: &[u8] =
 
   widl check FILE..            checks whether 1 to 64 fragments are a valid set
   widl sets FILE..             writes the effective overload sets of 1 to 64 fragments
-  widl run BUDGET SCRIPT IDL   runs a script over a fragment; BUDGET is 1 to 2000000 units
+  widl run BUDGET SCRIPT FILE..  runs a script over 1 to 64 fragments; BUDGET is 1 to 2000000 units
   widl --help                  writes this text
   widl --version               writes the version
 

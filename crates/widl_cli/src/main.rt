@@ -12,6 +12,8 @@ pub mod laws;
 mod perform;
 mod reader;
 mod request;
+mod running;
+mod script_line;
 mod status;
 mod sure;
 mod task;

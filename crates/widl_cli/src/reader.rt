@@ -1,7 +1,8 @@
 //! Reading the arguments of a command line.
 
-ghost use Rattle.std.specs.Prelude.{◌≡◌, ℕ, ◌<◌, ◌≤◌, IfSome, IfNone, length};
-ghost use Rattle.widl_cli.specs.Requests.{request_of, option_of, budget_of, IsBudget, HasFiles};
+ghost use Rattle.std.specs.Prelude.{◌≡◌, ℕ, ◌<◌, ◌≤◌, IfSome, IfNone, MatchOption, length};
+ghost use Rattle.widl_cli.specs.Requests.{request_of, option_of, budget_of, IsBudget, IsWithin, HasFiles, HasNames};
+ghost use Rattle.widl_cli.specs.declared.request.Request.TheVariants.{OverFiles};
 
 use crate::Words;
 use crate::request::{Command, Request};
@@ -29,22 +30,25 @@ fn read_command(words: &Words) -> Option<Request>
     ensures files { IfSome result (λ request. HasFiles request (length words.now)) }
 {
     let command = words.at(0).as_str();
-    let few = words.len() <= MOST_FILES + 1;
     if command == "check" {
-        if few {
-            Some(Request::OverFiles(Command::Check))
-        } else {
-            None
-        }
+        over_files(words, Command::Check)
     } else if command == "sets" {
-        if few {
-            Some(Request::OverFiles(Command::Sets))
-        } else {
-            None
-        }
-    } else if command == "run" && words.len() == 4 {
+        over_files(words, Command::Sets)
+    } else if command == "run" {
         let budget = read_budget(words.at(1).as_str())?;
-        Some(Request::OverFiles(Command::Run(budget)))
+        over_files(words, Command::Run(budget))
+    } else {
+        None
+    }
+}
+
+/// A command over the files that the arguments name, where they are as many as it can have.
+fn over_files(words: &Words, command: Command) -> Option<Request>
+    ensures request { MatchOption result (HasNames command (length words.now) → ⊥) (λ request. (request ≡ OverFiles command) × HasNames command (length words.now)) }
+{
+    let fewest = command.first_fragment();
+    if words.len() > fewest && words.len() <= fewest + MOST_FILES {
+        Some(Request::OverFiles(command))
     } else {
         None
     }

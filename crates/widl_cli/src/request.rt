@@ -1,7 +1,7 @@
 //! What the arguments of a command line ask for.
 
 ghost use Rattle.std.specs.Prelude.{◌≡◌};
-ghost use Rattle.widl_cli.specs.Requests.{first_name};
+ghost use Rattle.widl_cli.specs.Requests.{first_fragment, first_name};
 
 /// What the arguments of a command line ask for, by their form.
 #[derive(Clone, Copy, Debug, PartialEq, Eq)]
@@ -21,7 +21,7 @@ pub enum Command {
     Check,
     /// `sets`, then 1 to 64 file names: the effective overload sets of the files.
     Sets,
-    /// `run BUDGET SCRIPT IDL`: a run of the script over the fragment, with a budget in units.
+    /// `run BUDGET SCRIPT FILE..`, with 1 to 64 files: a run of the script over the files, with a budget in units.
     Run(u64),
 }
 
@@ -33,6 +33,16 @@ impl Command {
         match self {
             Command::Check | Command::Sets => 1,
             Command::Run(_) => 2,
+        }
+    }
+
+    /// The place of the first fragment's name among the arguments.
+    pub fn first_fragment(self) -> usize
+        ensures { result ≡ first_fragment self }
+    {
+        match self {
+            Command::Check | Command::Sets => 1,
+            Command::Run(_) => 3,
         }
     }
 }

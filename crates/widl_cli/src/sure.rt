@@ -1,7 +1,8 @@
 //! The top call over a folder and a sink that never fail.
 
 ghost use Rattle.std.specs.Prelude.{◌≡◌, ◌≢◌, ℕ, List, Some};
-ghost use Rattle.widl_cli.specs.Outputs.{Output, IsOutput};
+ghost use Rattle.widl_cli.specs.Output.{Output};
+ghost use Rattle.widl_cli.specs.Outputs.{IsOutput};
 
 use crate::{Folder, Status, SureFolder, Words, widl};
 use std::alloc::Global;

@@ -1,8 +1,6 @@
 //! What no clause says: that memory is found where there is some, what the worked runs print, and what
 //! is answered when the outside fails at each of its calls.
 
-ghost use Rattle.std.specs.Prelude.{◌<◌};
-
 use crate::{
     DiskFolder, Files, MemoryFolder, NamedFile, Status, SureFolder, Words, widl, widl_surely,
 };
@@ -12,11 +10,15 @@ use std::process::Abort;
 use std::test::Fail;
 use widl_sink::{MemorySink, Numbers, SureSink};
 
+mod faults;
 mod fragments;
+mod hostile_runs;
 mod inheritance;
+mod limits;
 mod merging;
 mod overloads;
 mod profile;
+mod runs;
 mod scripts;
 mod served;
 mod validity;
@@ -117,19 +119,6 @@ fn a_budget_that_runs_out_stops_the_run(rt: HostRuntime) -> Result<(), Fail> {
 }
 
 #[test]
-fn an_empty_namespace_is_not_supported(rt: HostRuntime) -> Result<(), Fail> {
-    expect_run(
-        &rt,
-        rt.alloc(),
-        "5",
-        "namespace N { };",
-        "",
-        Status::Refused,
-        "refused later 0 0\n",
-    )
-}
-
-#[test]
 fn a_call_without_its_argument_is_refused(rt: HostRuntime) -> Result<(), Fail> {
     expect_run(
         &rt,
@@ -199,7 +188,7 @@ fn the_help_names_each_form_of_the_command_line(rt: HostRuntime) -> Result<(), F
     assert_eq!(rt; widl(alloc, &words, &mut folder, &mut out), Status::Done);
     let text = std::str::from_utf8(out.held())?;
     for form in [
-        "widl run BUDGET SCRIPT IDL ",
+        "widl run BUDGET SCRIPT FILE.. ",
         "widl check FILE.. ",
         "widl sets FILE.. ",
         "widl --help ",
@@ -339,79 +328,6 @@ fn a_run_names_the_fault_of_its_fragment(rt: HostRuntime) -> Result<(), Fail> {
         Status::Refused,
         text,
     )
-}
-
-/// The answer and the held bytes of the first run, with one call of the folder that fails.
-fn expect_read_fault(
-    rt: &impl Abort,
-    alloc: Global,
-    call: u64,
-    status: Status,
-    text: &str,
-) -> Result<(), Fail> {
-    let mut folder = MemoryFolder::new(
-        files_of(alloc, "do N.f(300)\n", FRAGMENT)?,
-        numbers_of(alloc, call)?,
-    );
-    let mut out = MemorySink::new(alloc, 1_000, 1_000, Numbers::new(alloc))?;
-    let words = run_words(alloc, "5")?;
-    assert_eq!(rt; widl(alloc, &words, &mut folder, &mut out), status);
-    assert_eq!(rt; out.held(), text.as_bytes());
-    Ok(())
-}
-
-#[test]
-fn each_failed_read_names_its_file(rt: HostRuntime) -> Result<(), Fail> {
-    let alloc = rt.alloc();
-    for call in 1..4u64 {
-        expect_read_fault(&rt, alloc, call, Status::ReadFault, "read fault s\n")?;
-    }
-    for call in 4..7u64 {
-        expect_read_fault(&rt, alloc, call, Status::ReadFault, "read fault n.idl\n")?;
-    }
-    expect_read_fault(&rt, alloc, 7, Status::Done, TRACE)
-}
-
-/// The first run over a sink that takes at most so many bytes a call and fails in one call. Says
-/// whether the run ended without a fault.
-fn expect_torn(rt: &impl Abort, alloc: Global, most: u32, call: u64) -> Result<bool, Fail>
-    requires { 0 < most }
-{
-    let mut folder = SureFolder::new(files_of(alloc, "do N.f(300)\n", FRAGMENT)?);
-    let mut out = MemorySink::new(alloc, 1_000, most, numbers_of(alloc, call)?)?;
-    let words = run_words(alloc, "5")?;
-    let status = widl(alloc, &words, &mut folder, &mut out);
-    assert!(rt; TRACE.as_bytes().starts_with(out.held()));
-    if status == Status::Done {
-        assert_eq!(rt; out.held(), TRACE.as_bytes());
-        return Ok(true);
-    }
-    assert_eq!(rt; status, Status::WriteFault);
-    assert!(rt; out.held().len() < TRACE.len());
-    Ok(false)
-}
-
-/// The same, with each call failing in turn, until a run ends without a fault.
-fn expect_each_torn(rt: &impl Abort, alloc: Global, most: u32) -> Result<(), Fail>
-    requires { 0 < most }
-{
-    let mut ended = false;
-    for call in 1..100u64 {
-        ended = expect_torn(rt, alloc, most, call)?;
-        if ended {
-            break;
-        }
-    }
-    assert!(rt; ended);
-    Ok(())
-}
-
-#[test]
-fn each_failed_write_leaves_a_prefix(rt: HostRuntime) -> Result<(), Fail> {
-    let alloc = rt.alloc();
-    expect_each_torn(&rt, alloc, 1)?;
-    expect_each_torn(&rt, alloc, 10)?;
-    expect_each_torn(&rt, alloc, 4_096)
 }
 
 #[test]

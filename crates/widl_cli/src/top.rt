@@ -6,7 +6,7 @@ ghost use Rattle.widl_text.specs.Limits.{most_file_bytes};
 ghost use Rattle.widl_sink.specs.Causes.{Rose};
 ghost use Rattle.widl_sink.specs.Growth.{GrewByPrefix};
 ghost use Rattle.widl_cli.specs.Outputs.{IsOutput, IsReadingOutput, IsCommandOutput, Writes, WritesPart};
-ghost use Rattle.widl_cli.specs.Requests.{request_of, names_of, first_name, HasNames};
+ghost use Rattle.widl_cli.specs.Requests.{request_of, names_of, first_name, AnswersAtOnce, HasNames, IsWithin, WritesAtOnce};
 ghost use Rattle.widl_cli.specs.Readings.{read_in_order};
 ghost use Rattle.widl_cli.specs.Causes.{Ends, fault_of};
 
@@ -43,9 +43,13 @@ pub fn widl<F: Folder, K: Sink>(alloc: Global, words: &Words, folder: &mut F, ou
     ensures long_always { names_of (request_of words.now) words.now ≢ [] → F.given folder.new ≡ most_file_bytes + 1
         → (result ≡ Status.WriteFault) ⊎ ((result ≡ Status.TooLong) ⊎ (result ≡ Status.Memory)) }
 
-    // What the sink holds after a failure: nothing more after out of memory; else a prefix of the
-    // defined output, or of the line that names the file that was started last.
-    ensures short { result ≡ Status.Memory → K.held out.new ≡ K.held out.old }
+    // What the sink holds after a failure. After out of memory: nothing more, but where a script runs a
+    // prefix of the defined output. After a fault: such a prefix, or one of the line that names the file
+    // that was started last.
+    ensures short { AnswersAtOnce (request_of words.now) → result ≡ Status.Memory → K.held out.new ≡ K.held out.old }
+    ensures short_part { (told : List (List ℕ × List ℕ)) → F.files folder.old ≡ Some told → result ≡ Status.Memory
+        → (K.held out.new ≡ K.held out.old) ⊎ WritesPart (IsOutput words.now told) (K.held out.old) (K.held out.new) }
+    ensures short_fault { F.faults folder.old < F.faults folder.new → result ≡ Status.Memory → K.held out.new ≡ K.held out.old }
     ensures torn { (told : List (List ℕ × List ℕ)) → F.files folder.old ≡ Some told → (Rose (F.faults folder.old) (F.faults folder.new) → ⊥)
         → result ≡ Status.WriteFault → WritesPart (IsOutput words.now told) (K.held out.old) (K.held out.new) }
     ensures torn_fault { (told : List (List ℕ × List ℕ)) → F.files folder.old ≡ Some told → F.starts folder.old < 18446744073709551000
@@ -70,8 +74,9 @@ fn answer_files<F: Folder, K: Sink>(
     folder: &mut F,
     out: &mut K,
 ) -> Status
-    requires { HasNames command (length words.now) }
-    ensures ends { Ends (F.files folder.old) (λ told. IsReadingOutput (IsCommandOutput command) (read_in_order told (drop (first_name command) words.now))) (drop (first_name command) words.now)
+    requires names { HasNames command (length words.now) }
+    requires within { IsWithin command }
+    ensures ends { Ends (WritesAtOnce command) (F.files folder.old) (λ told. IsReadingOutput (IsCommandOutput command) (read_in_order told (drop (first_name command) words.now))) (drop (first_name command) words.now)
         (record { held = K.held out.old; sink_faults = K.faults out.old; faults = F.faults folder.old; misses = F.misses folder.old; given = F.given folder.old; starts = F.starts folder.old })
         (record { held = K.held out.new; sink_faults = K.faults out.new; faults = F.faults folder.new; misses = F.misses folder.new; given = F.given folder.new; starts = F.starts folder.new })
         result }

@@ -1,8 +1,8 @@
-use Rattle.std.proofs.Common.{ap, sym, ◌∙◌, inl, refl, ◌≡◌}
+use Rattle.std.proofs.Common.{ap, subst, sym, ◌∙◌, inl, refl, ◌≡◌}
 use Rattle.std.specs.Prelude.{Some, None}
-use Rattle.widl_cli.specs.Requests.{request_of}
+use Rattle.widl_cli.specs.Requests.{request_of, AnswersAtOnce}
 use Rattle.widl_cli.specs.declared.request.Request.TheVariants.{Help, Version, OverFiles}
-use Rattle.widl_cli.proofs.Asked.{IsAsked, writes_asked, part_asked, either_asked, writes_output, writes_part}
+use Rattle.widl_cli.proofs.Asked.{IsAsked, writes_asked, part_asked, either_asked, same_or_part, writes_output, writes_part}
 use Rattle.widl_cli.proofs.top.widl.Goals as goal
 
 pub returns-in-None-clause-output : goal.returns-in-None-clause-output
@@ -64,3 +64,25 @@ pub returns-in-Some-OverFiles-clause-torn_fault : goal.returns-in-Some-OverFiles
 returns-in-Some-OverFiles-clause-torn_fault g c told files small w =
     let is : Some (OverFiles c.in-Some-OverFiles.command) ≡ request_of c.args.words.now = sym (c.in-Some-OverFiles.is ∙ ap Some c.in-Some-OverFiles.field-0-is) ∙ c.read_request.ensures.request in
     either_asked c.args.words.now (Some (OverFiles c.in-Some-OverFiles.command)) told _ _ _ is (c.answer_files.ensures.ends.torn_fault told files small w)
+
+pub returns-in-None-clause-short_part : goal.returns-in-None-clause-short_part
+returns-in-None-clause-short_part g c told files e = inl (c.last_line.ensures.short e)
+
+pub returns-in-Some-Help-clause-short_part : goal.returns-in-Some-Help-clause-short_part
+returns-in-Some-Help-clause-short_part g c told files e = inl (c.last_line-in-Some-Help.ensures.short e)
+
+pub returns-in-Some-Version-clause-short_part : goal.returns-in-Some-Version-clause-short_part
+returns-in-Some-Version-clause-short_part g c told files e = inl (c.last_line-in-Some-Version.ensures.short e)
+
+pub returns-in-Some-OverFiles-clause-short : goal.returns-in-Some-OverFiles-clause-short
+returns-in-Some-OverFiles-clause-short g c at_once e =
+    let is : Some (OverFiles c.in-Some-OverFiles.command) ≡ request_of c.args.words.now = sym (c.in-Some-OverFiles.is ∙ ap Some c.in-Some-OverFiles.field-0-is) ∙ c.read_request.ensures.request in
+    c.answer_files.ensures.ends.short (subst AnswersAtOnce (sym is) at_once) e
+
+pub returns-in-Some-OverFiles-clause-short_part : goal.returns-in-Some-OverFiles-clause-short_part
+returns-in-Some-OverFiles-clause-short_part g c told files e =
+    let is : Some (OverFiles c.in-Some-OverFiles.command) ≡ request_of c.args.words.now = sym (c.in-Some-OverFiles.is ∙ ap Some c.in-Some-OverFiles.field-0-is) ∙ c.read_request.ensures.request in
+    same_or_part c.args.words.now (Some (OverFiles c.in-Some-OverFiles.command)) told _ _ is (c.answer_files.ensures.ends.short_part told files e)
+
+pub returns-in-Some-OverFiles-clause-short_fault : goal.returns-in-Some-OverFiles-clause-short_fault
+returns-in-Some-OverFiles-clause-short_fault g c grew e = c.answer_files.ensures.ends.short_fault grew e
