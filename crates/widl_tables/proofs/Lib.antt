@@ -1,0 +1,4 @@
+pub mod Parents
+pub mod Finding
+pub mod Entries
+pub mod Picking

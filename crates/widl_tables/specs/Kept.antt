@@ -88,6 +88,10 @@ entry_of number args m =
     then (if is_variadic_list args then Some (repeated number args (m - length args)) else None)
     else if list_all (λ (a : ArgTerm). is_free a.opt) (drop m args) then Some (cut number args m) else None
 
+-- the entry of an overload for a length for which it has one
+abbrev pub entry_for : ℕ → List ArgTerm → ℕ → TupleTerm
+entry_for number args m = if nat_lt (length args) m then repeated number args (m - length args) else cut number args m
+
 -- by overload, where the first has this number
 abbrev pub entries_of : ℕ → ℕ → List SigTerm → List TupleTerm
 entries_of m number [] = []
@@ -96,6 +100,14 @@ entries_of m number (s ∷ sigs) = with_tuple (entry_of number s.args m) (entrie
 -- the entries that are kept for n arguments
 abbrev pub kept_tuples : DefsTerm → Callee → ℕ → List TupleTerm
 kept_tuples list callee n = entries_of (argcount_of list callee n) 0 (overloads_of list callee)
+
+-- the entries of the overloads with these numbers for a length for which each has one
+abbrev pub entries_for : DefsTerm → Callee → ℕ → List ℕ → List TupleTerm
+entries_for list callee m numbers = map (λ (e : ℕ). entry_for e (declared_args list callee e) m) numbers
+
+-- the numbers of the overloads that entries are of
+abbrev pub numbers_of : List TupleTerm → List ℕ
+numbers_of entries = map (λ (t : TupleTerm). t.overload) entries
 
 -- the entry of an overload alone
 abbrev pub entry_alone : ℕ → List TupleTerm → List TupleTerm
@@ -144,3 +156,9 @@ first_length (t ∷ entries) = length t.types
 -- the distinguishing argument index of entries of one length; where several have none, which is so in no valid list, their length
 abbrev pub telling_place : DefsTerm → List TupleTerm → ℕ
 telling_place list entries = telling_from (parents_of list) entries 0 (first_length entries)
+
+-- the place by which a value chooses: there is one where there are several entries
+abbrev pub choosing_place : DefsTerm → List TupleTerm → Option ℕ
+choosing_place list [] = None
+choosing_place list (t ∷ []) = None
+choosing_place list (t ∷ u ∷ more) = Some (telling_place list (t ∷ u ∷ more))

@@ -1,3 +1,6 @@
 pub mod Kept
 pub mod Tests
 pub mod Picks
+pub mod Standing
+pub mod TypeTests
+pub mod Decided

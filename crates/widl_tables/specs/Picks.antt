@@ -1,16 +1,19 @@
 -- The entry that a value picks: of several entries of an overload set, or of the member types of a union.
 -- Source: Web IDL, "overload resolution algorithm", step 12; "JavaScript binding of union types".
-use Rattle.std.specs.Prelude.{ℕ, ◌+◌, ◌&&◌, Bool, true, false, if◌then◌else◌, List, [], ◌∷◌, Option, None, Some}
+use Rattle.std.specs.Prelude.{ℕ, ◌+◌, ◌&&◌, Bool, true, false, if◌then◌else◌, List, [], ◌∷◌, Option, None, Some, option_and_then}
 use Rattle.widl_idl.specs.DefinitionTerms.{DefsTerm}
 use Rattle.widl_idl.specs.Flattened.{flattened_members}
 use Rattle.widl_idl.specs.Terms.{TypeTerm, TypeTerms}
 use Rattle.widl_overload.specs.Distinct.{is_dictionary}
 use Rattle.widl_overload.specs.Sets.{TupleTerm}
+use Rattle.widl_scalar.specs.Enumerations.{told_place}
 use Rattle.widl_value.specs.declared.class.Class.{Class}
 use Rattle.widl_tables.specs.declared.pick.Pick.{Pick}
 use Rattle.widl_tables.specs.declared.pick.Pick.TheVariants.{Entry, Probe, Refuse}
 use Rattle.widl_tables.specs.Kept.{type_at, optionality_at}
-use Rattle.widl_tables.specs.Tests.{Test, IsOptional, IsNullable, IsImplemented, IsCallback, IsSequence, IsObject, IsBoolean, IsNumeric, TakesText, TakesNumber, TakesTruth, TakesAny, meets, is_null_or_undefined, is_platform_object, is_callable, is_an_object, is_a_boolean, is_a_number, is_object_type, is_implemented_by, is_callback_function, is_callback_interface, is_sequence, is_record, is_boolean_type, is_numeric, is_string}
+use Rattle.widl_tables.specs.declared.entry_test.Test.{Test}
+use Rattle.widl_tables.specs.declared.entry_test.Test.TheVariants.{IsOptional, IsNullable, IsImplemented, IsCallback, IsSequence, IsObject, IsBoolean, IsNumeric, TakesText, TakesNumber, TakesTruth, TakesAny}
+use Rattle.widl_tables.specs.Tests.{meets, is_null_or_undefined, is_platform_object, is_callable, is_an_object, is_a_boolean, is_a_number, is_object_type, is_implemented_by, is_callback_function, is_callback_interface, is_sequence, is_record, is_boolean_type, is_numeric, is_string}
 
 -- 1. One test after another
 
@@ -53,17 +56,24 @@ met_by list entries place class (t ∷ more) = record { needs_method = is_probe 
 abbrev pub pick_of : DefsTerm → List TupleTerm → ℕ → Class → Bool → Pick
 pick_of list entries place class probed = first_pick probed (met_by list entries place class tests)
 
--- 3. Of the member types of a union
+-- an entry alone takes every value; with several the place by which they are chosen decides
+abbrev pub pick_kept : DefsTerm → List TupleTerm → Option ℕ → Class → Bool → Pick
+pick_kept list [] place class probed = Refuse
+pick_kept list (t ∷ []) place class probed = Entry t.overload
+pick_kept list (t ∷ u ∷ more) None class probed = Refuse
+pick_kept list (t ∷ u ∷ more) (Some place) class probed = pick_of list (t ∷ u ∷ more) place class probed
+
+-- 3. Of the member types of a union, by their places, which 32 bits tell
 
 abbrev pub first_member : (TypeTerm → Bool) → ℕ → List TypeTerm → Option ℕ
 first_member test place [] = None
 first_member test place (t ∷ types) = if test t then Some place else first_member test (place + 1) types
 
 abbrev pub takes : (TypeTerm → Bool) → List TypeTerm → Met
-takes test types = record { needs_method = false; entry = first_member test 0 types }
+takes test types = record { needs_method = false; entry = option_and_then told_place (first_member test 0 types) }
 
 abbrev pub takes_iterable : (TypeTerm → Bool) → List TypeTerm → Met
-takes_iterable test types = record { needs_method = true; entry = first_member test 0 types }
+takes_iterable test types = record { needs_method = true; entry = option_and_then told_place (first_member test 0 types) }
 
 -- in the order of the standard's steps, a line each; the step before them is that of a union with a nullable type
 abbrev pub met_members : DefsTerm → Class → List TypeTerm → List Met

@@ -1,31 +1,18 @@
 -- The tests by which a value picks an entry of several.
 -- Source: Web IDL, "overload resolution algorithm", step 12; "JavaScript binding of union types".
-use Rattle.std.specs.Prelude.{ℕ, Bool, true, false, ◌&&◌, ◌||◌}
+use Rattle.std.specs.Prelude.{Bool, true, false, ◌&&◌, ◌||◌}
 use Rattle.std.specs.List.{list_any}
 use Rattle.widl_idl.specs.declared.argument.Optionality.{Optionality}
 use Rattle.widl_idl.specs.declared.argument.Optionality.TheVariants.{Optional}
 use Rattle.widl_idl.specs.DefinitionTerms.{DefsTerm}
 use Rattle.widl_idl.specs.Flattened.{flattened_member, includes_nullable_type}
-use Rattle.widl_idl.specs.Terms.{TypeTerm, AnyType, BooleanType, IntegerType, StringType, EnumerationType, InterfaceType, CallbackFunctionType, CallbackInterfaceType, DictionaryType, ObjectType, SequenceType, RecordType}
+use Rattle.widl_idl.specs.Terms.{TypeTerm, AnyType, BooleanType, IntegerType, StringType, EnumerationType, InterfaceType, CallbackFunctionType, CallbackInterfaceType, ObjectType, SequenceType, RecordType}
 use Rattle.widl_overload.specs.Distinct.{has_dictionary, is_dictionary}
 use Rattle.widl_value.specs.declared.class.Class.{Class}
 use Rattle.widl_value.specs.declared.class.Class.TheVariants as classes
+use Rattle.widl_tables.specs.declared.entry_test.Test.{Test}
+use Rattle.widl_tables.specs.declared.entry_test.Test.TheVariants.{IsOptional, IsNullable, IsImplemented, IsCallback, IsSequence, IsObject, IsBoolean, IsNumeric, TakesText, TakesNumber, TakesTruth, TakesAny}
 use Rattle.widl_tables.specs.Kept.{implements}
-
--- the tests, in the order in which they are asked
-pub data Test : Type 0 where
-  IsOptional : Test
-  IsNullable : Test
-  IsImplemented : Test
-  IsCallback : Test
-  IsSequence : Test
-  IsObject : Test
-  IsBoolean : Test
-  IsNumeric : Test
-  TakesText : Test
-  TakesNumber : Test
-  TakesTruth : Test
-  TakesAny : Test
 
 -- 1. What is asked of a value, by its class alone
 

@@ -7,9 +7,28 @@
 
 ghost use Rattle.std.specs.Prelude.{◌≡◌, IfOk};
 
+mod decision;
+mod entry_test;
+mod kept_overloads;
+mod kept_type;
+mod member_pick;
+mod overload_pick;
 mod pick;
+mod telling;
+#[cfg(test)]
+mod tests;
+mod entry_types;
+mod type_test;
+mod type_walk;
+mod value_test;
 
+pub use entry_test::Test;
+pub use kept_overloads::kept;
+pub use kept_type::Kept;
+pub use member_pick::pick_member;
+pub use overload_pick::pick_overload;
 pub use pick::Pick;
+pub use entry_types::{Standing, type_at};
 use std::alloc::{AllocError, Global};
 use std::marker::Model;
 use widl_overload::Accepted;
