@@ -4,3 +4,5 @@ pub mod Picks
 pub mod Standing
 pub mod TypeTests
 pub mod Decided
+pub mod ValuePlaces
+pub mod Laws

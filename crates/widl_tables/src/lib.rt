@@ -1,42 +1,55 @@
-//! The tables that a script is run over, which are made of a list of definitions once, and the choice of
-//! an overload and of a union's member, by definition. It stands on `widl_idl`, `widl_overload` and
-//! `widl_value`. The contract that the crates above use: [`Tables`] is seen as the set of files that it is
-//! made of, and [`Tables::list`] gives it. What they cite of the choice: `kept_tuples`, `telling_place`,
-//! `pick_of` and `pick_member_of` (`specs`).
+//! What a script is run over, and what is chosen by the class of a value: an overload of a callee, and a
+//! member of a union. It stands on `widl_text`, `widl_idl`, `widl_overload`, `widl_value` and, for one
+//! definition, on `widl_scalar`. The contracts that the crates above use: [`Tables`] is seen as the set of
+//! files that it is made of, [`Tables::list`] gives it, and [`Tables::enum_at`] finds a value of an
+//! enumeration; [`kept`] answers `kept_tuples` by the numbers of their overloads, with `argcount_of` and
+//! `choosing_place`; [`pick_overload`] is `pick_kept`, and [`pick_member`] is `pick_member_of` (`specs`). The
+//! laws are the contracts of the functions of [`laws`]. No entry of an overload set is built, and no type is
+//! copied.
 #![tactic(auto)]
 
 ghost use Rattle.std.specs.Prelude.{◌≡◌, IfOk};
+ghost use Rattle.widl_scalar.specs.Enumerations.{value_place};
 
 mod decision;
 mod entry_test;
+mod entry_types;
+#[cfg(test)]
+mod hostile_tests;
 mod kept_overloads;
 mod kept_type;
+pub mod laws;
 mod member_pick;
 mod overload_pick;
 mod pick;
 mod telling;
 #[cfg(test)]
+mod test_lists;
+#[cfg(test)]
 mod tests;
-mod entry_types;
 mod type_test;
 mod type_walk;
+mod value_places;
 mod value_test;
 
 pub use entry_test::Test;
+pub use entry_types::{Standing, type_at};
 pub use kept_overloads::kept;
 pub use kept_type::Kept;
 pub use member_pick::pick_member;
 pub use overload_pick::pick_overload;
 pub use pick::Pick;
-pub use entry_types::{Standing, type_at};
 use std::alloc::{AllocError, Global};
 use std::marker::Model;
+use value_places::{ValuePlaces, place_in, places_of_choices};
 use widl_overload::Accepted;
+use widl_text::Units;
 
-/// What a script is run over: a list of definitions.
+/// What a script is run over: a list of definitions, and tables for what would else be looked for in it.
 #[derive(Drop)]
 pub struct Tables {
     list: Accepted,
+    values: Vec<ValuePlaces>,
 }
 
 impl Model for Tables {
@@ -44,12 +57,15 @@ impl Model for Tables {
     ghost use Rattle.widl_idl.specs.contracts.types.IdlType as resolved;
     ghost use Rattle.widl_idl.specs.contracts.tree.types.TypeForm as written;
     ghost use Rattle.widl_idl.specs.MergedSets.{MergedSet};
+    ghost use Rattle.widl_tables.specs.ValuePlaces.{Hold};
 
     ghost Value = { MergedSet };
 
     ghost view = { λ t. t.list };
 
     ghost coded = { Prim.hlevel (codes, resolved.the_row.coded, written.the_row.coded) };
+
+    ghost invariant = { λ t. Hold t.values.items t.list.defs.choices };
 }
 
 /// The tables of a list.
@@ -57,10 +73,11 @@ impl Model for Tables {
 /// # Errors
 ///
 /// `AllocError` where there is no memory.
-pub fn compile(_alloc: Global, list: Accepted) -> Result<Tables, AllocError>
+pub fn compile(alloc: Global, list: Accepted) -> Result<Tables, AllocError>
     ensures { IfOk result (λ tables. tables ≡ list) }
 {
-    Ok(Tables { list })
+    let values = places_of_choices(alloc, list.defs().choices.as_slice())?;
+    Ok(Tables { list, values })
 }
 
 impl Tables {
@@ -69,5 +86,14 @@ impl Tables {
         ensures { result.now ≡ self.now }
     {
         &self.list
+    }
+
+    /// The place of a text among the values of the enumeration of this number (Web IDL, "Enumerations"):
+    /// the first at which it stands. `None` where the enumeration hasn't the text in the places that 32
+    /// bits tell, and where the list has no such enumeration. The values aren't walked.
+    pub fn enum_at(&self, choice: u32, text: &Units) -> Option<u32>
+        ensures { result ≡ value_place self.now.defs.choices choice text.now }
+    {
+        place_in(&self.values, choice, text)
     }
 }

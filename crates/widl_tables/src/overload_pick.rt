@@ -25,7 +25,7 @@ use widl_idl::{Defs, IdlType, Optionality, Sig, includes_nullable};
 use widl_value::Class;
 
 /// The tests, in their order.
-const TESTS: [Test; 12] = [
+pub(crate) const TESTS: [Test; 12] = [
     Test::IsOptional,
     Test::IsNullable,
     Test::IsImplemented,
@@ -127,14 +127,12 @@ fn meets_there(defs: &Defs, test: Test, class: Class, standing: Option<Standing<
 }
 
 /// The same where a type stands.
-fn meets(defs: &Defs, test: Test, class: Class, standing: Standing<'_>) -> bool
+pub(crate) fn meets(defs: &Defs, test: Test, class: Class, standing: Standing<'_>) -> bool
     ensures { result ≡ meets_of (defs_term defs.now) test class (type_term standing.entry.ty.now) standing.entry.opt }
 {
     let Standing { ty, opt } = standing;
     match test {
-        Test::IsOptional => {
-            ValueTest::Undefined.holds(class) && opt == Optionality::Optional
-        }
+        Test::IsOptional => { ValueTest::Undefined.holds(class) && opt == Optionality::Optional }
         Test::IsNullable => {
             ValueTest::NullOrUndefined.holds(class) && takes_null(defs, class, ty)
         }

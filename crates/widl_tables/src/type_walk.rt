@@ -74,13 +74,7 @@ fn find_in(defs: &Defs, class: Class, test: TypeTest, t: &IdlType, passed: u64) 
 }
 
 #[cycle(walk)]
-fn find_among(
-    defs: &Defs,
-    class: Class,
-    test: TypeTest,
-    members: &IdlTypes,
-    passed: u64,
-) -> Search
+fn find_among(defs: &Defs, class: Class, test: TypeTest, members: &IdlTypes, passed: u64) -> Search
     ensures found { result.found ≡ list_any (suits (defs_term defs.now) class test) (flattened_members (packed (type_terms members.now))) }
     ensures passed { result.passed ≡ min (passed + before (suits (defs_term defs.now) class test) (flattened_members (packed (type_terms members.now)))) 18446744073709551615 }
 {

@@ -5,6 +5,6 @@ use Rattle.widl_tables.specs.Standing.{entries_in}
 use Rattle.widl_tables.proofs.telling.telling_place.Given as goal
 
 abbrev pub invariant-loop-place : goal.invariant-loop-place
-invariant-loop-place l = 
+invariant-loop-place l =
     telling_from (parents_of (defs_term l.defs)) (entries_in (map sig_term l.sigs) l.argcount l.overloads) 0 l.argcount
     ≡ telling_from (parents_of (defs_term l.defs)) (entries_in (map sig_term l.sigs) l.argcount l.overloads) l.place (l.argcount - l.place)

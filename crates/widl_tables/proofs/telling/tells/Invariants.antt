@@ -6,6 +6,6 @@ use Rattle.widl_tables.specs.Standing.{entries_in}
 use Rattle.widl_tables.proofs.telling.tells.Given as goal
 
 abbrev pub invariant-loop-number : goal.invariant-loop-number
-invariant-loop-number l = 
+invariant-loop-number l =
     each_two (apart_at (parents_of (defs_term l.defs)) l.place) (entries_in (map sig_term l.sigs) l.argcount l.overloads)
     ≡ each_two (apart_at (parents_of (defs_term l.defs)) l.place) (entries_in (map sig_term l.sigs) l.argcount (drop l.number l.overloads))

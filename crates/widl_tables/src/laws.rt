@@ -1,0 +1,40 @@
+//! The laws of the choice. Each function does nothing: its contract is the law, for each list of
+//! definitions.
+
+ghost use Rattle.std.specs.Prelude.{◌≡◌, ◌↔◌, ℕ, Bool, true, false, List, Contains, Option};
+ghost use Rattle.widl_idl.specs.declared.argument.Optionality.{Optionality as optionality_values};
+ghost use Rattle.widl_idl.specs.DefinitionTerms.{DefsTerm};
+ghost use Rattle.widl_idl.specs.Terms.{TypeTerm, TypeTerms};
+ghost use Rattle.widl_overload.specs.Sets.{TupleTerm};
+ghost use Rattle.widl_value.specs.Classes.{class_of};
+ghost use Rattle.widl_value.specs.declared.class.Class as classes;
+ghost use Rattle.widl_value.specs.declared.value.Value as values;
+ghost use Rattle.widl_tables.specs.declared.entry_test.Test as tests;
+ghost use Rattle.widl_tables.specs.declared.pick.Pick.TheVariants.{Entry, Probe};
+ghost use Rattle.widl_tables.specs.Kept.{numbers_of};
+ghost use Rattle.widl_tables.specs.Laws.{IsProbed};
+ghost use Rattle.widl_tables.specs.Picks.{pick_member_of, pick_of};
+ghost use Rattle.widl_tables.specs.Tests.{is_an_object, meets};
+
+/// An entry that is picked or probed is one of those that are kept.
+pub fn picks_are_kept()
+    ensures entry { (list : DefsTerm) (entries : List TupleTerm) (place : ℕ) (class : classes.Class) (probed : Bool) (e : ℕ) → pick_of list entries place class probed ≡ Entry e → Contains (numbers_of entries) e }
+    ensures probe { (list : DefsTerm) (entries : List TupleTerm) (place : ℕ) (class : classes.Class) (probed : Bool) (e : ℕ) → pick_of list entries place class probed ≡ Probe e → Contains (numbers_of entries) e }
+{}
+
+/// A test has one answer for all values of a class.
+pub fn tests_ask_classes()
+    ensures { (list : DefsTerm) (test : tests.Test) (v w : values.Value) (t : TypeTerm) (opt : optionality_values) → class_of v ≡ class_of w → meets list test (class_of v) t opt ≡ meets list test (class_of w) t opt }
+{}
+
+/// Only an object's pick depends on whether it was found to have no method `@iterator`.
+pub fn only_objects_are_probed()
+    ensures overload { (list : DefsTerm) (entries : List TupleTerm) (place : ℕ) (class : classes.Class) → is_an_object class ≡ false → pick_of list entries place class true ≡ pick_of list entries place class false }
+    ensures member { (list : DefsTerm) (members : TypeTerms) (class : classes.Class) → is_an_object class ≡ false → pick_member_of list members class true ≡ pick_member_of list members class false }
+{}
+
+/// A probe is asked for exactly where an object that wasn't probed meets no test before that of a
+/// sequence, and it names the first entry with a sequence.
+pub fn probes_are_of_sequences()
+    ensures { (list : DefsTerm) (entries : List TupleTerm) (place : ℕ) (class : classes.Class) (probed : Bool) (e : ℕ) → pick_of list entries place class probed ≡ Probe e ↔ IsProbed list entries place class probed e }
+{}
