@@ -4,3 +4,4 @@ pub mod Entries
 pub mod Picking
 pub mod ValuePlaces
 pub mod PickLaws
+pub mod FewOverloads

@@ -29,27 +29,6 @@ places_more old new texts i text below is added so other =
     ∙ ap (noted (place_of_text (take i texts) other) (bytes_eq text other)) (sym size)
     ∙ sym (ap (λ list. place_of_text list other) (take_more texts i text below ∙ ap (λ t. take i texts ++ t ∷ []) (sym is)) ∙ position_more (λ value. bytes_eq value other) 0 (take i texts) text)
 
-noted_by : (b : Bool) (found : Option ℕ) (place : ℕ) → (b ≡ true → found ≡ None) → cond b (Some place) found ≡ noted found b place
-noted_by true found place h = ap (λ f. noted f true place) (sym (h refl))
-noted_by false None place h = refl
-noted_by false (Some old) place h = refl
-
--- a place is noted where the text has none
-pub noted_new : (old new : Places) (text : List ℕ) (place : ℕ) → lookup (bytes_eq text) old ≡ None → ((other : List ℕ) → lookup (bytes_eq other) new ≡ cond (bytes_eq text other) (Some place) (lookup (bytes_eq other) old))
-    → (other : List ℕ) → lookup (bytes_eq other) new ≡ noted (lookup (bytes_eq other) old) (bytes_eq text other) place
-noted_new old new text place none updates other =
-    updates other ∙ noted_by (bytes_eq text other) (lookup (bytes_eq other) old) place (λ same. ap (λ t. lookup (bytes_eq t) old) (sym ((bytes_eq-Decides text other).0 same)) ∙ none)
-
-kept_by : (b : Bool) (found : Option ℕ) (place old : ℕ) → (b ≡ true → found ≡ Some old) → found ≡ noted found b place
-kept_by true found place old h = h refl ∙ ap (λ f. noted f true place) (sym (h refl))
-kept_by false None place old h = refl
-kept_by false (Some k) place old h = refl
-
--- a text that has a place keeps it
-pub noted_old : (places : Places) (text : List ℕ) (place old : ℕ) → lookup (bytes_eq text) places ≡ Some old → (other : List ℕ) → lookup (bytes_eq other) places ≡ noted (lookup (bytes_eq other) places) (bytes_eq text other) place
-noted_old places text place old has other =
-    kept_by (bytes_eq text other) (lookup (bytes_eq other) places) place old (λ same. ap (λ t. lookup (bytes_eq t) places) (sym ((bytes_eq-Decides text other).0 same)) ∙ has)
-
 -- 2. Of each
 
 hold_push : (all : List Places) (choices : List Choice) (places : Places) (choice : Choice) → Hold all choices → ((text : List ℕ) → lookup (bytes_eq text) places ≡ place_of_text choice.values text) → Hold (all ++ places ∷ []) (choices ++ choice ∷ [])

@@ -4,7 +4,7 @@ use crate::entry_types::{Standing, overload_list, type_at};
 use crate::overload_pick::{TESTS, meets};
 use crate::test_lists::{
     THE_OPERATION, add_argument, interfaces, list_with, nested_unions, nullable, of_kind, one_of,
-    overload, union,
+    overload,
 };
 use crate::{Kept, Pick, kept, pick_member, pick_overload};
 use std::alloc::{AllocError, Global};
@@ -46,24 +46,61 @@ const FIRST_TESTS: [(&str, &str); 16] = [
 ];
 
 fn first_test(defs: &Defs, class: Class, standing: Standing<'_>) -> u8 {
-    for (place, test) in TESTS.iter().enumerate() {
+    for (test, name) in TESTS.iter().zip(b"0123456789ab".iter()) {
         if meets(defs, *test, class, standing) {
-            return b"0123456789ab"[place];
+            return *name;
         }
     }
     b'-'
 }
 
-/// Whether the first tests of a type are these, but for those of undefined and null.
+/// Whether the first tests of a type are those of a row, but for undefined and null.
 fn tests_of(rt: &impl Abort, defs: &Defs, standing: Standing<'_>, row: &[u8], ends: (u8, u8)) {
-    for (column, class) in CLASSES.iter().enumerate() {
-        let want = match column {
-            0 => ends.0,
-            1 => ends.1,
-            _ => row[column],
+    for (class, name) in CLASSES.iter().zip(row.iter()) {
+        let want = match class {
+            Class::Undefined => ends.0,
+            Class::Null => ends.1,
+            _ => *name,
         };
         assert_eq!(rt; first_test(defs, *class, standing), want, "{class:?}");
     }
+}
+
+/// The types of a kind, as they stand, nullable and in unions.
+fn tests_of_kind(
+    alloc: Global,
+    rt: &impl Abort,
+    defs: &Defs,
+    kind: &str,
+    row: &str,
+) -> Result<(), AllocError> {
+    let row = row.as_bytes();
+    assert_eq!(rt; row.len(), CLASSES.len());
+    let ends = match row {
+        [first, second, ..] => (*first, *second),
+        _ => (b'-', b'-'),
+    };
+    let plain = of_kind(alloc, kind)?;
+    let opt = Optionality::Variadic;
+    tests_of(rt, defs, Standing { ty: &plain, opt }, row, ends);
+    let opt = Optionality::Optional;
+    tests_of(rt, defs, Standing { ty: &plain, opt }, row, (b'0', ends.1));
+    let opt = Optionality::Required;
+    tests_of(rt, defs, Standing { ty: &plain, opt }, row, ends);
+    let with_null = nullable(alloc, of_kind(alloc, kind)?)?;
+    tests_of(
+        rt,
+        defs,
+        Standing {
+            ty: &with_null,
+            opt,
+        },
+        row,
+        (b'1', b'1'),
+    );
+    let deep = nested_unions(alloc, plain)?;
+    tests_of(rt, defs, Standing { ty: &deep, opt }, row, ends);
+    Ok(())
 }
 
 #[test]
@@ -71,38 +108,7 @@ fn first_tests_of_kinds(rt: HostRuntime) -> Result<(), Fail> {
     let alloc = rt.alloc();
     let defs = list_with(alloc, interfaces(alloc)?, Sigs::new(alloc))?;
     for (kind, row) in &FIRST_TESTS {
-        let row = row.as_bytes();
-        assert_eq!(&rt; row.len(), CLASSES.len());
-        let plain = of_kind(alloc, kind)?;
-        let ends = (row[0], row[1]);
-        let opt = Optionality::Required;
-        tests_of(&rt, &defs, Standing { ty: &plain, opt }, row, ends);
-        let opt = Optionality::Variadic;
-        tests_of(&rt, &defs, Standing { ty: &plain, opt }, row, ends);
-        let opt = Optionality::Optional;
-        tests_of(
-            &rt,
-            &defs,
-            Standing { ty: &plain, opt },
-            row,
-            (b'0', row[1]),
-        );
-        let opt = Optionality::Required;
-        let with_null = nullable(alloc, of_kind(alloc, kind)?)?;
-        tests_of(
-            &rt,
-            &defs,
-            Standing {
-                ty: &with_null,
-                opt,
-            },
-            row,
-            (b'1', b'1'),
-        );
-        let member = union(alloc, IdlType::Undefined, of_kind(alloc, kind)?)?;
-        tests_of(&rt, &defs, Standing { ty: &member, opt }, row, ends);
-        let deep = nested_unions(alloc, of_kind(alloc, kind)?)?;
-        tests_of(&rt, &defs, Standing { ty: &deep, opt }, row, ends);
+        tests_of_kind(alloc, &rt, &defs, kind, row)?;
     }
     Ok(())
 }
@@ -128,20 +134,27 @@ fn keeps(
     Ok(kept)
 }
 
-fn picks(rt: &impl Abort, defs: &Defs, kept: &Kept, probed: bool, wanted: [Pick; 9]) {
-    for (column, class) in CLASSES.iter().enumerate() {
+/// Whether the classes pick these of the two overloads that are kept, a letter each: `-` for none, `p` for
+/// a probe of the second.
+fn picks(rt: &impl Abort, defs: &Defs, kept: &Kept, probed: bool, wanted: &str) {
+    assert_eq!(rt; wanted.len(), CLASSES.len());
+    for (class, want) in CLASSES.iter().zip(wanted.as_bytes().iter()) {
         let pick = pick_overload(defs, kept, *class, probed);
-        assert_eq!(rt; pick, wanted[column], "{class:?}");
+        assert_eq!(rt; letter_of(pick), *want, "{class:?}");
     }
 }
 
-const E0: Pick = Pick::Entry(0);
-
-const E1: Pick = Pick::Entry(1);
-
-const P1: Pick = Pick::Probe(1);
-
-const NO: Pick = Pick::Refuse;
+fn letter_of(pick: Pick) -> u8 {
+    match pick {
+        Pick::Entry(0) => b'0',
+        Pick::Entry(1) => b'1',
+        Pick::Entry(2) => b'2',
+        Pick::Entry(_) => b'x',
+        Pick::Probe(1) => b'p',
+        Pick::Probe(_) => b'y',
+        Pick::Refuse => b'-',
+    }
+}
 
 /// `f(long... a); f(DOMString s, long b);`
 #[test]
@@ -172,16 +185,10 @@ fn variadic_or_text(rt: HostRuntime) -> Result<(), Fail> {
     sigs.push(overload(args))?;
     let defs = list_with(alloc, interfaces(alloc)?, sigs)?;
     let two = keeps(alloc, &rt, &defs, 2, &[0, 1], (2, Some(0)))?;
-    picks(
-        &rt,
-        &defs,
-        &two,
-        false,
-        [E1, E1, E1, E0, E1, E1, E1, E1, E1],
-    );
+    picks(&rt, &defs, &two, false, "111011111");
     for count in [0, 1, 3, 6, 300_000, 4_294_967_295] {
         let one = keeps(alloc, &rt, &defs, count, &[0], (count, None))?;
-        picks(&rt, &defs, &one, false, [E0; 9]);
+        picks(&rt, &defs, &one, false, "000000000");
     }
     Ok(())
 }
@@ -194,54 +201,30 @@ fn text_or_sequence(rt: HostRuntime) -> Result<(), Fail> {
     let defs = list_with(alloc, interfaces(alloc)?, sigs)?;
     for count in [1, 2] {
         let both = keeps(alloc, &rt, &defs, count, &[0, 1], (1, Some(0)))?;
-        picks(
-            &rt,
-            &defs,
-            &both,
-            false,
-            [E0, E0, E0, E0, E0, E0, P1, P1, P1],
-        );
-        picks(&rt, &defs, &both, true, [E0; 9]);
+        picks(&rt, &defs, &both, false, "000000ppp");
+        picks(&rt, &defs, &both, true, "000000000");
     }
     let none = keeps(alloc, &rt, &defs, 0, &[], (0, None))?;
-    picks(&rt, &defs, &none, false, [NO; 9]);
+    picks(&rt, &defs, &none, false, "---------");
     Ok(())
 }
 
-/// `f(long a); f(boolean b);`: without a string entry a text is taken for a number.
+/// Overloads of one argument of two kinds, and what the classes pick. Without a string entry a text is taken
+/// for a number, and without a number for a truth.
+const PAIRS: [(&[&str], &str); 3] = [
+    (&["boolean", "long"], "110111111"),
+    (&["boolean", "interface"], "000000100"),
+    (&["dictionary", "interface"], "00----100"),
+];
+
 #[test]
-fn number_before_truth(rt: HostRuntime) -> Result<(), Fail> {
+fn two_overloads(rt: HostRuntime) -> Result<(), Fail> {
     let alloc = rt.alloc();
-    let sigs = one_of(alloc, &["boolean", "long"])?;
-    let defs = list_with(alloc, interfaces(alloc)?, sigs)?;
-    let both = keeps(alloc, &rt, &defs, 1, &[0, 1], (1, Some(0)))?;
-    picks(
-        &rt,
-        &defs,
-        &both,
-        false,
-        [E1, E1, E0, E1, E1, E1, E1, E1, E1],
-    );
-    let sigs = one_of(alloc, &["boolean", "interface"])?;
-    let defs = list_with(alloc, interfaces(alloc)?, sigs)?;
-    let both = keeps(alloc, &rt, &defs, 1, &[0, 1], (1, Some(0)))?;
-    picks(
-        &rt,
-        &defs,
-        &both,
-        false,
-        [E0, E0, E0, E0, E0, E0, E1, E0, E0],
-    );
-    let sigs = one_of(alloc, &["dictionary", "interface"])?;
-    let defs = list_with(alloc, interfaces(alloc)?, sigs)?;
-    let both = keeps(alloc, &rt, &defs, 1, &[0, 1], (1, Some(0)))?;
-    picks(
-        &rt,
-        &defs,
-        &both,
-        false,
-        [E0, E0, NO, NO, NO, NO, E1, E0, E0],
-    );
+    for (kinds, wanted) in &PAIRS {
+        let defs = list_with(alloc, interfaces(alloc)?, one_of(alloc, kinds)?)?;
+        let both = keeps(alloc, &rt, &defs, 1, &[0, 1], (1, Some(0)))?;
+        picks(&rt, &defs, &both, false, wanted);
+    }
     Ok(())
 }
 
@@ -268,68 +251,48 @@ fn one_overload_or_none(rt: HostRuntime) -> Result<(), Fail> {
     Ok(())
 }
 
-/// Whether the members pick these: of `CLASSES`, a letter each, `-` for none, `p` for a probe of the last.
+/// Whether the classes pick these members of a union of kinds, a letter each.
 fn members_pick(
     alloc: Global,
     rt: &impl Abort,
     kinds: &[&str],
     probed: bool,
     wanted: &str,
-) -> Result<(), Fail> {
+) -> Result<(), AllocError> {
     let defs = list_with(alloc, interfaces(alloc)?, Sigs::new(alloc))?;
     let mut members = IdlTypes::new(alloc);
     for kind in kinds {
         members.push(of_kind(alloc, kind)?)?;
     }
-    let wanted = wanted.as_bytes();
     assert_eq!(rt; wanted.len(), CLASSES.len());
-    for (column, class) in CLASSES.iter().enumerate() {
-        let told = match pick_member(&defs, &members, *class, probed) {
-            Pick::Entry(0) => b'0',
-            Pick::Entry(1) => b'1',
-            Pick::Entry(2) => b'2',
-            Pick::Entry(_) => b'x',
-            Pick::Probe(_) => b'p',
-            Pick::Refuse => b'-',
-        };
-        assert_eq!(rt; told, wanted[column], "{class:?}");
+    for (class, want) in CLASSES.iter().zip(wanted.as_bytes().iter()) {
+        let pick = pick_member(&defs, &members, *class, probed);
+        assert_eq!(rt; letter_of(pick), *want, "{class:?}");
     }
     Ok(())
 }
 
+/// Kinds of members, whether the value was probed, and what the classes pick.
+const UNIONS: [(&[&str], bool, &str); 13] = [
+    (&["DOMString", "dictionary"], false, "110000111"),
+    (&["DOMString", "boolean", "long"], false, "001200000"),
+    (&["boolean", "long"], false, "110111111"),
+    (&["DOMString", "interface"], false, "000000100"),
+    (&["object", "interface"], false, "------100"),
+    (&["function", "sequence"], false, "------p0p"),
+    (&["function", "sequence"], true, "-------0-"),
+    (&["dictionary", "sequence"], false, "00----ppp"),
+    (&["dictionary", "sequence"], true, "00----000"),
+    (&["long", "DOMString", "record"], false, "111011222"),
+    (&["DOMString"], false, "000000000"),
+    (&["unrelated", "callback"], false, "------111"),
+    (&["undefined", "promise", "any"], false, "---------"),
+];
+
 #[test]
 fn members_of_unions(rt: HostRuntime) -> Result<(), Fail> {
-    let alloc = rt.alloc();
-    members_pick(alloc, &rt, &["DOMString", "dictionary"], false, "110000111")?;
-    members_pick(
-        alloc,
-        &rt,
-        &["DOMString", "boolean", "long"],
-        false,
-        "001200000",
-    )?;
-    members_pick(alloc, &rt, &["boolean", "long"], false, "110111111")?;
-    members_pick(alloc, &rt, &["DOMString", "interface"], false, "000000100")?;
-    members_pick(alloc, &rt, &["object", "interface"], false, "------100")?;
-    members_pick(alloc, &rt, &["function", "sequence"], false, "------p0p")?;
-    members_pick(alloc, &rt, &["function", "sequence"], true, "-------0-")?;
-    members_pick(alloc, &rt, &["dictionary", "sequence"], false, "00----ppp")?;
-    members_pick(alloc, &rt, &["dictionary", "sequence"], true, "00----000")?;
-    members_pick(
-        alloc,
-        &rt,
-        &["long", "DOMString", "record"],
-        false,
-        "111011222",
-    )?;
-    members_pick(alloc, &rt, &["DOMString"], false, "000000000")?;
-    members_pick(alloc, &rt, &["unrelated", "callback"], false, "------111")?;
-    members_pick(
-        alloc,
-        &rt,
-        &["undefined", "promise", "any"],
-        false,
-        "---------",
-    )?;
+    for (kinds, probed, wanted) in &UNIONS {
+        members_pick(rt.alloc(), &rt, kinds, *probed, wanted)?;
+    }
     Ok(())
 }
