@@ -4,4 +4,6 @@ pub mod ScalarTalks
 pub mod PrimitiveTalks
 pub mod ResolutionTalks
 pub mod ResultTalks
+pub mod BuiltTalks
+pub mod KeptTalks
 pub mod NoTalks

@@ -3,6 +3,8 @@ use Rattle.std.specs.Prelude.{◌≡◌, ℕ, [], ◌∷◌, false, codes, refl}
 use Rattle.widl_dialog.specs.Conversation.{Asks, Ends, Next}
 use Rattle.widl_dialog.proofs.Nexts.{one_next}
 use Rattle.widl_text.specs.declared.key.Key.TheVariants as keys
+use Rattle.widl_idl.specs.declared.callee.Owner.TheVariants as owners
+use Rattle.widl_idl.specs.declared.callee.Part.TheVariants as parts
 use Rattle.widl_value.specs.declared.value.Value.{Value}
 use Rattle.widl_value.specs.declared.value.Value.TheVariants as values
 use Rattle.widl_store.specs.declared.inner.Builtin.TheVariants as builtins
@@ -37,11 +39,23 @@ text_of_null = (10, refl)
 text_with_tag : Does 8 it (gets (plain 20) (keys.Sym 2) (values.Str (codes "it")) ∷ []) (Ends (Plain (values.Str (codes "[object it]"))))
 text_with_tag = (10, (refl, tt, refl))
 
+text_with_empty_tag : Does 8 it (gets (plain 20) (keys.Sym 2) (values.Str []) ∷ []) (Ends (Plain (values.Str (codes "[object ]"))))
+text_with_empty_tag = (10, (refl, tt, refl))
+
 asks_kind : Does 8 it (gets (plain 20) (keys.Sym 2) (number 1) ∷ []) (Asks (KindAsk (plain 20)))
 asks_kind = (10, (refl, tt, refl))
 
 text_without_tag : Does 8 it (gets (plain 20) (keys.Sym 2) values.Undefined ∷ (KindAsk (plain 20), KindAnswer kinds.Array) ∷ []) (Ends (Plain (values.Str (codes "[object Array]"))))
 text_without_tag = (10, (refl, tt, (refl, tt, refl)))
+
+text_of_callable : Does 8 it (gets (plain 20) (keys.Sym 2) values.Undefined ∷ (KindAsk (plain 20), KindAnswer kinds.Function) ∷ []) (Ends (Plain (values.Str (codes "[object Function]"))))
+text_of_callable = (10, (refl, tt, (refl, tt, refl)))
+
+text_of_thrown : Does 8 it (gets (plain 20) (keys.Sym 2) values.Undefined ∷ (KindAsk (plain 20), KindAnswer kinds.Error) ∷ []) (Ends (Plain (values.Str (codes "[object Error]"))))
+text_of_thrown = (10, (refl, tt, (refl, tt, refl)))
+
+text_of_other : Does 8 it (gets (plain 20) (keys.Sym 2) values.Undefined ∷ (KindAsk (plain 20), KindAnswer kinds.Other) ∷ []) (Ends (Plain (values.Str (codes "[object Object]"))))
+text_of_other = (10, (refl, tt, (refl, tt, refl)))
 
 text_of_promise : Does 8 it (gets (plain 20) (keys.Sym 2) values.Undefined ∷ (KindAsk (plain 20), KindAnswer kinds.Promise) ∷ []) (Ends (Plain (values.Str (codes "[object Object]"))))
 text_of_promise = (10, (refl, tt, (refl, tt, refl)))
@@ -55,6 +69,9 @@ text_of_number = (10, refl)
 -- `valueOf`
 value_is_itself : Does 9 it [] (Ends (Plain it))
 value_is_itself = (10, refl)
+
+value_of_undefined : Does 9 values.Undefined [] (Ends (Throw code.This))
+value_of_undefined = (10, refl)
 
 value_of_null : Does 9 values.Null [] (Ends (Throw code.This))
 value_of_null = (10, refl)
@@ -74,6 +91,10 @@ then_of_promise = (10, refl)
 
 text_of_array : Does 10 it [] (Ends (Profile 99))
 text_of_array = (10, refl)
+
+-- the getter of a namespace's attribute isn't built
+no_getter : IsNext (call_rule calls_built_today nothing_defined no_steps) (Function (function 19) (builtins.Callee (record { owner = owners.Space 0; part = parts.Get 0 })) it [] false) [] (Ends (Profile 99))
+no_getter = (10, refl)
 
 -- The kind isn't asked for before the tag, nor after a fault: these begin no conversation.
 asks_tag : Does 8 it [] (Asks (GetAsk (plain 20) (keys.Sym 2)))

@@ -12,7 +12,7 @@ use Rattle.widl_convert.specs.Laws.{Said}
 use Rattle.widl_convert.specs.Rules.{rule}
 use Rattle.widl_convert.specs.Tasks.{TaskEnd, PrefersNumber, Primitive, Resolve, Rethrow}
 use Rattle.widl_convert.proofs.Worked.{number, plain, function, gets, f, nothing_defined, Says}
-use Rattle.widl_convert.proofs.Talks.ResolutionTalks.{second_tells, both, first_is_asked, with_sequence, without_method}
+use Rattle.widl_convert.proofs.Talks.ResolutionTalks.{second_tells, both, first_is_asked, sequence_tells, first_is_converted, with_sequence, without_method}
 
 -- after a fault nothing is asked: the Get of `@toPrimitive` threw
 abbrev thrown : Said
@@ -45,6 +45,12 @@ not_second_first : Says second_tells (Resolve f both) [] (Asks (GetAsk (plain 2)
 not_second_first x =
     let e : ◌≡◌ {A = Next AskTerm TaskEnd} (Asks (GetAsk (plain 1) (keys.Sym 1))) (Asks (GetAsk (plain 2) (keys.Sym 0))) =
     one_next (rule built_today second_tells) Fits _ _ _ _ first_is_asked x in
+    absurd (cc)
+
+not_asked_first : Says sequence_tells (Resolve f both) [] (Asks (GetAsk (plain 2) (keys.Sym 0))) → ⊥
+not_asked_first x =
+    let e : ◌≡◌ {A = Next AskTerm TaskEnd} (Asks (GetAsk (plain 1) (keys.Sym 1))) (Asks (GetAsk (plain 2) (keys.Sym 0))) =
+    one_next (rule built_today sequence_tells) Fits _ _ _ _ first_is_converted x in
     absurd (cc)
 
 -- a method `@iterator` that wasn't found isn't looked for again by the choice

@@ -6,7 +6,7 @@ use Rattle.widl_idl.specs.declared.int_kind.Mode.TheVariants.{Wrap}
 use Rattle.widl_idl.specs.declared.interface.Stringify.TheVariants as stringifiers
 use Rattle.widl_idl.specs.declared.text_kind.TextKind.TheVariants as texts
 use Rattle.widl_idl.specs.DefinitionTerms.{DefsTerm, IfaceTerm}
-use Rattle.widl_idl.specs.Terms.{TypeTerm, packed, BooleanType, IntegerType, StringType, InterfaceType, CallbackFunctionType, DictionaryType, ObjectType, SequenceType, RecordType, NullableType, UnionType, UndefinedType}
+use Rattle.widl_idl.specs.Terms.{TypeTerm, packed, AnyType, BooleanType, IntegerType, StringType, EnumerationType, InterfaceType, CallbackFunctionType, CallbackInterfaceType, DictionaryType, ObjectType, SequenceType, RecordType, NullableType, UnionType, UndefinedType}
 use Rattle.widl_value.specs.declared.class.Class.{Class}
 use Rattle.widl_value.specs.declared.class.Class.TheVariants as classes
 use Rattle.widl_tables.specs.declared.pick.Pick.{Pick}
@@ -15,12 +15,12 @@ use Rattle.widl_tables.specs.Kept.{kept_tuples}
 use Rattle.widl_tables.specs.Picks.{pick_of, pick_member_of}
 use Rattle.widl_convert.proofs.Worked.{place, nothing_defined, argument, overload, with_overloads, f}
 
--- the interfaces I, J which inherits from I, and K
+-- the interfaces I, J which inherits from I, K, and L which inherits from J
 abbrev interface : List ℕ → Option ℕ → IfaceTerm
 interface name parent = record { at = place; name = name; parent = parent; ctors = []; members = record { ops = []; attrs = []; consts = []; order = [] }; text = stringifiers.No; pairs = None }
 
 abbrev interfaces : DefsTerm
-interfaces = record nothing_defined { ifaces = interface (codes "I") None ∷ interface (codes "J") (Some 0) ∷ interface (codes "K") None ∷ [] }
+interfaces = record nothing_defined { ifaces = interface (codes "I") None ∷ interface (codes "J") (Some 0) ∷ interface (codes "K") None ∷ interface (codes "L") (Some 1) ∷ [] }
 
 abbrev long : TypeTerm
 long = IntegerType Long Wrap
@@ -83,11 +83,32 @@ with_interface = text ∷ InterfaceType 0 ∷ SequenceType long ∷ []
 is_implemented : Member with_interface (classes.Platform 1) false (Entry 1)
 is_implemented = refl
 
+is_its_own : Member with_interface (classes.Platform 0) false (Entry 1)
+is_its_own = refl
+
+is_implemented_above : Member with_interface (classes.Platform 3) false (Entry 1)
+is_implemented_above = refl
+
 not_implemented : Member with_interface (classes.Platform 2) false (Probe 2)
 not_implemented = refl
 
 not_iterable : Member with_interface (classes.Platform 2) true (Entry 0)
 not_iterable = refl
+
+-- what is no interface of the list implements none
+is_no_interface : Member (text ∷ InterfaceType 7 ∷ []) (classes.Platform 7) false (Entry 0)
+is_no_interface = refl
+
+-- (record or sequence<long>): an object is a record where it has no method `@iterator`
+record_is_probed : Member (RecordType texts.Dom long ∷ SequenceType long ∷ []) classes.Plain false (Probe 1)
+record_is_probed = refl
+
+not_iterable_is_record : Member (RecordType texts.Dom long ∷ SequenceType long ∷ []) classes.Plain true (Entry 0)
+not_iterable_is_record = refl
+
+-- (sequence<long> or callback function): a function isn't asked for one
+callable_is_not_probed : Member (SequenceType long ∷ CallbackFunctionType 0 ∷ []) classes.Callable false (Entry 1)
+callable_is_not_probed = refl
 
 -- (DOMString or record or callback function)
 abbrev with_callback : List TypeTerm
@@ -98,6 +119,29 @@ callable_is_callback = refl
 
 object_is_record : Member with_callback classes.Plain false (Entry 1)
 object_is_record = refl
+
+-- other objects
+object_is_dictionary : Member (text ∷ DictionaryType 0 ∷ []) classes.Plain false (Entry 1)
+object_is_dictionary = refl
+
+callable_is_interface : Member (text ∷ CallbackInterfaceType 0 ∷ []) classes.Callable false (Entry 1)
+callable_is_interface = refl
+
+platform_is_object : Member (text ∷ ObjectType ∷ []) (classes.Platform 2) false (Entry 1)
+platform_is_object = refl
+
+callable_is_object : Member (text ∷ ObjectType ∷ []) classes.Callable false (Entry 1)
+callable_is_object = refl
+
+plain_is_object : Member (text ∷ ObjectType ∷ []) classes.Plain false (Entry 1)
+plain_is_object = refl
+
+null_is_no_object : Member (text ∷ ObjectType ∷ []) classes.Null false (Entry 0)
+null_is_no_object = refl
+
+-- (long or E): an enumeration is the string member
+text_is_value : Member (long ∷ EnumerationType 0 ∷ []) classes.Str false (Entry 1)
+text_is_value = refl
 
 -- members of members, and nullable ones, are looked through
 inner_member : Member (UnionType (packed (text ∷ NullableType long ∷ [])) ∷ BooleanType ∷ []) classes.Num false (Entry 1)
@@ -139,6 +183,107 @@ no_sequence_in_union = refl
 dictionary_in_union : Overload BooleanType (UnionType (packed (DictionaryType 0 ∷ long ∷ []))) classes.Undefined false (Entry 1)
 dictionary_in_union = refl
 
--- an undefined argument picks the overload where it may be left out
-undefined_is_optional : pick_of interfaces (kept_tuples (with_overloads (overload UndefinedType (argument text Required None ∷ []) ∷ overload UndefinedType (argument long Optional None ∷ []) ∷ [])) f 1) 0 classes.Undefined false ≡ Entry 1
+-- 3. Each test of an argument, in the order of the steps
+
+-- 3.1 Undefined, where it may be left out; null isn't. This comes before a nullable type.
+abbrev Left : TypeTerm → Class → Pick → Type 0
+Left first class pick =
+    pick_of interfaces (kept_tuples (with_overloads (overload UndefinedType (argument first Required None ∷ []) ∷ overload UndefinedType (argument long Optional None ∷ []) ∷ [])) f 1) 0 class false ≡ pick
+
+undefined_is_optional : Left text classes.Undefined (Entry 1)
 undefined_is_optional = refl
+
+null_is_not_optional : Left text classes.Null (Entry 0)
+null_is_not_optional = refl
+
+optional_before_nullable : Left (NullableType text) classes.Undefined (Entry 1)
+optional_before_nullable = refl
+
+-- 3.2 Null or undefined: a nullable type, a dictionary, a union with one of these
+null_is_a_dictionary : Overload text (DictionaryType 0) classes.Null false (Entry 1)
+null_is_a_dictionary = refl
+
+nullable_in_union : Overload BooleanType (UnionType (packed (text ∷ NullableType long ∷ []))) classes.Null false (Entry 1)
+nullable_in_union = refl
+
+null_is_nothing_else : Overload text long classes.Null false (Entry 0)
+null_is_nothing_else = refl
+
+-- 3.3 A platform object: an interface that it implements, or object; also where another overload takes a sequence
+interface_in_nullable : Overload text (NullableType (InterfaceType 0)) (classes.Platform 1) false (Entry 1)
+interface_in_nullable = refl
+
+interface_before_sequence : Overload (SequenceType text) (InterfaceType 0) (classes.Platform 1) false (Entry 1)
+interface_before_sequence = refl
+
+platform_object_is_object : Overload text ObjectType (classes.Platform 1) false (Entry 1)
+platform_object_is_object = refl
+
+-- 3.4 A function: a callback function, or object; also where another overload takes a sequence
+function_is_callback : Overload text (CallbackFunctionType 0) classes.Callable false (Entry 1)
+function_is_callback = refl
+
+callback_before_sequence : Overload (SequenceType text) (CallbackFunctionType 0) classes.Callable false (Entry 1)
+callback_before_sequence = refl
+
+plain_is_no_callback : Overload text (CallbackFunctionType 0) classes.Plain false (Entry 0)
+plain_is_no_callback = refl
+
+-- 3.5 An object with a method `@iterator`: a sequence. A text isn't asked for one.
+object_has_method : Overload text (SequenceType text) classes.Plain false (Probe 1)
+object_has_method = refl
+
+platform_object_has_method : Overload text (SequenceType text) (classes.Platform 0) false (Probe 1)
+platform_object_has_method = refl
+
+function_has_method : Overload text (SequenceType text) classes.Callable false (Probe 1)
+function_has_method = refl
+
+text_is_no_sequence : Overload text (SequenceType text) classes.Str false (Entry 0)
+text_is_no_sequence = refl
+
+sequence_before_record : Overload (RecordType texts.Dom text) (SequenceType text) classes.Plain false (Probe 1)
+sequence_before_record = refl
+
+record_after_sequence : Overload (RecordType texts.Dom text) (SequenceType text) classes.Plain true (Entry 0)
+record_after_sequence = refl
+
+-- 3.6 Any object: a callback interface, a dictionary, a record, object
+object_is_interface : Overload text (CallbackInterfaceType 0) classes.Plain false (Entry 1)
+object_is_interface = refl
+
+object_is_a_dictionary : Overload text (DictionaryType 0) classes.Callable false (Entry 1)
+object_is_a_dictionary = refl
+
+object_is_a_record : Overload text (RecordType texts.Dom long) (classes.Platform 0) false (Entry 1)
+object_is_a_record = refl
+
+object_is_itself : Overload text ObjectType classes.Plain false (Entry 1)
+object_is_itself = refl
+
+-- 3.7, 3.8 A truth and a number: their own type, before a text
+truth_before_text : Overload text BooleanType classes.Bool false (Entry 1)
+truth_before_text = refl
+
+number_before_text : Overload text long classes.Num false (Entry 1)
+number_before_text = refl
+
+-- 3.9 to 3.12 Any value: a text, with enumerations; then a number; then a truth; then anything, which no valid list tells apart
+text_before_truth : Overload BooleanType text classes.Num false (Entry 1)
+text_before_truth = refl
+
+value_before_number : Overload long (EnumerationType 0) classes.Bool false (Entry 1)
+value_before_number = refl
+
+number_before_truth : Overload BooleanType long classes.Str false (Entry 1)
+number_before_truth = refl
+
+truth_before_anything : Overload AnyType BooleanType classes.Sym false (Entry 1)
+truth_before_anything = refl
+
+anything_at_last : Overload (SequenceType text) AnyType classes.Num false (Entry 1)
+anything_at_last = refl
+
+-- Where several met a test, which no valid list has, the lowest would be kept
+lowest_overload : Overload text text classes.Str false (Entry 0)
+lowest_overload = refl

@@ -2,6 +2,7 @@
 use Rattle.std.specs.Prelude.{[], ◌∷◌, codes, refl}
 use Rattle.widl_dialog.specs.Conversation.{Asks, Ends}
 use Rattle.widl_text.specs.declared.key.Key.TheVariants as keys
+use Rattle.widl_value.specs.declared.object.Shape.TheVariants as shapes
 use Rattle.widl_value.specs.declared.value.Value.{Value}
 use Rattle.widl_value.specs.declared.value.Value.TheVariants as values
 use Rattle.widl_trace.specs.declared.code.Code.TheVariants as code
@@ -37,9 +38,15 @@ gives_itself = (20, (refl, tt, (refl, tt, (refl, tt, refl))))
 no_primitive_value : Says nothing_defined (of_it PrefersString) (no_method ∷ gets_name (plain 1) (codes "toString") values.Undefined ∷ gets_name (plain 1) (codes "valueOf") (values.Obj (function 2)) ∷ calls (function 2) it [] it ∷ []) (Ends (Throw code.Primitive))
 no_primitive_value = (20, (refl, tt, (refl, tt, (refl, tt, (refl, tt, refl)))))
 
--- what can't be called is passed over, without a fault
+no_number : Says nothing_defined (of_it PrefersNumber) (no_method ∷ gets_name (plain 1) (codes "valueOf") (values.Obj (function 2)) ∷ calls (function 2) it [] it ∷ gets_name (plain 1) (codes "toString") (values.Obj (function 3)) ∷ calls (function 3) it [] (values.Obj (plain 4)) ∷ []) (Ends (Throw code.Primitive))
+no_number = (20, (refl, tt, (refl, tt, (refl, tt, (refl, tt, (refl, tt, refl))))))
+
+-- what can't be called is passed over, without a fault; a platform object can't be
 not_callable : Says nothing_defined (of_it PrefersNumber) (no_method ∷ gets_name (plain 1) (codes "valueOf") (values.Obj (plain 2)) ∷ []) (Asks (GetAsk (plain 1) (keys.Name (codes "toString"))))
 not_callable = (20, (refl, tt, (refl, tt, refl)))
+
+platform_object : Says nothing_defined (of_it PrefersNumber) (no_method ∷ gets_name (plain 1) (codes "valueOf") (values.Obj (record { id = 2; shape = shapes.Platform 0 })) ∷ []) (Asks (GetAsk (plain 1) (keys.Name (codes "toString"))))
+platform_object = (20, (refl, tt, (refl, tt, refl)))
 
 -- what a method throws is thrown on
 throws : Says nothing_defined (of_it PrefersNumber) (no_method ∷ gets_name (plain 1) (codes "valueOf") (values.Obj (function 2)) ∷ call_throws (function 2) it [] (number 7) ∷ []) (Ends (Rethrow (number 7)))

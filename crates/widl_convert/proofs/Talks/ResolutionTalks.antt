@@ -8,7 +8,7 @@ use Rattle.widl_idl.specs.declared.int_kind.Mode.TheVariants.{Wrap}
 use Rattle.widl_idl.specs.declared.literal.Literal.TheVariants as literals
 use Rattle.widl_idl.specs.declared.text_kind.TextKind.TheVariants as texts
 use Rattle.widl_idl.specs.DefinitionTerms.{DefsTerm}
-use Rattle.widl_idl.specs.Terms.{TypeTerm, AnyType, UndefinedType, BooleanType, IntegerType, StringType, ObjectType, SequenceType, RecordType}
+use Rattle.widl_idl.specs.Terms.{TypeTerm, AnyType, UndefinedType, BooleanType, IntegerType, StringType, CallbackFunctionType, ObjectType, SequenceType, RecordType}
 use Rattle.widl_overload.specs.Index.{apart_at}
 use Rattle.widl_value.specs.declared.value.Value.{Value}
 use Rattle.widl_value.specs.declared.value.Value.TheVariants as values
@@ -19,17 +19,17 @@ use Rattle.widl_scalar.specs.NumeralWords.{exact_of, read_of, read_unsigned}
 use Rattle.widl_trace.specs.declared.code.Code.TheVariants as code
 use Rattle.widl_convert.specs.AskTerms.{GetAsk}
 use Rattle.widl_convert.specs.Tasks.{Resolve, TaskEnd, Picks, Throw, Profile}
-use Rattle.widl_convert.proofs.Worked.{number, integer, plain, function, gets, argument, overload, with_overloads, f, nothing_defined, Says}
+use Rattle.widl_convert.proofs.Worked.{number, integer, plain, function, gets, calls, argument, overload, with_overloads, f, nothing_defined, Says}
 
-abbrev long : TypeTerm
+abbrev pub long : TypeTerm
 long = IntegerType Long Wrap
 
-abbrev text : TypeTerm
+abbrev pub text : TypeTerm
 text = StringType texts.Dom false
 
 -- 1. `f(long a, optional long b = 5, long... c)`
 
-abbrev defaulted : DefsTerm
+abbrev pub defaulted : DefsTerm
 defaulted = with_overloads (overload UndefinedType (argument long Required None ∷ argument long Optional (Some (literals.Int (pos 5))) ∷ argument long Variadic None ∷ []) ∷ [])
 
 abbrev Defaulted : List Value → TaskEnd → Type 0
@@ -44,11 +44,15 @@ undefined_second = (30, refl)
 undefined_third : Defaulted (number 1 ∷ values.Undefined ∷ values.Undefined ∷ []) (Picks 0 (integer 1 ∷ integer 5 ∷ integer 0 ∷ []))
 undefined_third = (30, refl)
 
+-- the variadic argument takes the rest; where one of them is undefined it is converted
+four_arguments : Defaulted (number 1 ∷ number 2 ∷ number 3 ∷ values.Undefined ∷ []) (Picks 0 (integer 1 ∷ integer 2 ∷ integer 3 ∷ integer 0 ∷ []))
+four_arguments = (40, refl)
+
 too_few : Defaulted [] (Throw code.NoOverload)
 too_few = (30, refl)
 
 -- an optional argument without a default value is missing; arguments beyond the declared ones are dropped
-abbrev optional : DefsTerm
+abbrev pub optional : DefsTerm
 optional = with_overloads (overload UndefinedType (argument long Required None ∷ argument text Optional None ∷ []) ∷ [])
 
 missing_second : Says optional (Resolve f (number 1 ∷ [])) [] (Ends (Picks 0 (integer 1 ∷ MissingValue ∷ [])))
@@ -60,13 +64,27 @@ undefined_is_missing = (30, refl)
 third_is_dropped : Says optional (Resolve f (number 1 ∷ values.Null ∷ values.Sym 3 ∷ [])) [] (Ends (Picks 0 (integer 1 ∷ StringValue (codes "null") ∷ [])))
 third_is_dropped = (30, refl)
 
+-- `f(optional long a = 7, optional DOMString b)`: each default in its place
+abbrev all_optional : DefsTerm
+all_optional = with_overloads (overload UndefinedType (argument long Optional (Some (literals.Int (pos 7))) ∷ argument text Optional None ∷ []) ∷ [])
+
+no_arguments : Says all_optional (Resolve f []) [] (Ends (Picks 0 (integer 7 ∷ MissingValue ∷ [])))
+no_arguments = (30, refl)
+
+-- `f(DOMString s, long... c)`: the last type is repeated, and a value of that place is never left out
+abbrev text_then_numbers : DefsTerm
+text_then_numbers = with_overloads (overload UndefinedType (argument text Required None ∷ argument long Variadic None ∷ []) ∷ [])
+
+numbers_after_text : Says text_then_numbers (Resolve f (values.Str (codes "x") ∷ number 1 ∷ values.Undefined ∷ [])) [] (Ends (Picks 0 (StringValue (codes "x") ∷ integer 1 ∷ integer 0 ∷ [])))
+numbers_after_text = (30, refl)
+
 -- a callee that the list hasn't keeps no entry
 no_such_callee : Says nothing_defined (Resolve f []) [] (Ends (Throw code.NoOverload))
 no_such_callee = (30, refl)
 
 -- 2. `f(long... a); f(DOMString s, long b);`
 
-abbrev two : DefsTerm
+abbrev pub two : DefsTerm
 two = with_overloads (overload UndefinedType (argument long Variadic None ∷ []) ∷ overload UndefinedType (argument text Required None ∷ argument long Required None ∷ []) ∷ [])
 
 abbrev Two : List Value → TaskEnd → Type 0
@@ -120,6 +138,31 @@ second_is_text : Says second_tells (Resolve f (number 1 ∷ values.Bool true ∷
 unfolding apart_at
 second_is_text = (30, refl)
 
+-- what the first of them throws ends the choice
+first_is_symbol : Says second_tells (Resolve f (values.Sym 3 ∷ values.Obj (plain 2) ∷ [])) [] (Ends (Throw code.Symbol))
+unfolding apart_at
+first_is_symbol = (30, refl)
+
+-- `f(long a, DOMString b); f(long a, sequence<DOMString> b);`: the second is asked for a method `@iterator` only then
+abbrev pub sequence_tells : DefsTerm
+sequence_tells = with_overloads (overload UndefinedType (argument long Required None ∷ argument text Required None ∷ []) ∷ overload UndefinedType (argument long Required None ∷ argument (SequenceType text) Required None ∷ []) ∷ [])
+
+pub first_is_converted : Says sequence_tells (Resolve f both) [] (Asks (GetAsk (plain 1) (keys.Sym 1)))
+unfolding apart_at
+first_is_converted = (30, refl)
+
+then_second_is_asked : Says sequence_tells (Resolve f both) (gets (plain 1) (keys.Sym 1) (values.Obj (function 3)) ∷ calls (function 3) (values.Obj (plain 1)) (values.Str (codes "number") ∷ []) values.Null ∷ []) (Asks (GetAsk (plain 2) (keys.Sym 0)))
+unfolding apart_at
+then_second_is_asked = (40, (refl, tt, (refl, tt, refl)))
+
+-- `f(long a, long b); f(DOMString a, DOMString b);`: each place would tell them apart, and the lowest does
+abbrev pub both_tell : DefsTerm
+both_tell = with_overloads (overload UndefinedType (argument long Required None ∷ argument long Required None ∷ []) ∷ overload UndefinedType (argument text Required None ∷ argument text Required None ∷ []) ∷ [])
+
+first_tells : Says both_tell (Resolve f (values.Str (codes "x") ∷ values.Bool true ∷ [])) [] (Ends (Picks 1 (StringValue (codes "x") ∷ StringValue (codes "true") ∷ [])))
+unfolding apart_at
+first_tells = (30, refl)
+
 -- 4. `f(object a); f(boolean a, any b);` has one entry for each length, so no value is looked at
 
 abbrev by_length_alone : DefsTerm
@@ -128,6 +171,26 @@ by_length_alone = with_overloads (overload UndefinedType (argument ObjectType Re
 by_length : Says by_length_alone (Resolve f (number 1 ∷ [])) [] (Ends (Throw code.NotObject))
 unfolding apart_at
 by_length = (30, refl)
+
+-- `f(object a); f(long a, DOMString b, optional long c = 5);`: the default value is that of the overload that is left
+abbrev second_has_default : DefsTerm
+second_has_default = with_overloads (overload UndefinedType (argument ObjectType Required None ∷ []) ∷ overload UndefinedType (argument long Required None ∷ argument text Required None ∷ argument long Optional (Some (literals.Int (pos 5))) ∷ []) ∷ [])
+
+default_of_second : Says second_has_default (Resolve f (number 1 ∷ values.Null ∷ [])) [] (Ends (Picks 1 (integer 1 ∷ StringValue (codes "null") ∷ integer 5 ∷ [])))
+unfolding apart_at
+default_of_second = (30, refl)
+
+undefined_of_second : Says second_has_default (Resolve f (number 1 ∷ values.Null ∷ values.Undefined ∷ [])) [] (Ends (Picks 1 (integer 1 ∷ StringValue (codes "null") ∷ integer 5 ∷ [])))
+unfolding apart_at
+undefined_of_second = (30, refl)
+
+-- `f(DOMString s); f(optional long a = 5);`: undefined picks the overload where it may be left out, and gives its default there
+abbrev one_optional : DefsTerm
+one_optional = with_overloads (overload UndefinedType (argument text Required None ∷ []) ∷ overload UndefinedType (argument long Optional (Some (literals.Int (pos 5))) ∷ []) ∷ [])
+
+undefined_is_left_out : Says one_optional (Resolve f (values.Undefined ∷ [])) [] (Ends (Picks 1 (integer 5 ∷ [])))
+unfolding apart_at
+undefined_is_left_out = (30, refl)
 
 -- 5. `f(DOMString s); f(sequence<DOMString> q);`: an object is asked for a method `@iterator`; with none it is a text
 
@@ -141,6 +204,10 @@ asks_for_method = (30, refl)
 pub without_method : Says with_sequence (Resolve f (values.Obj (plain 1) ∷ [])) (gets (plain 1) (keys.Sym 0) values.Undefined ∷ []) (Asks (GetAsk (plain 1) (keys.Sym 1)))
 unfolding apart_at
 without_method = (30, (refl, tt, refl))
+
+text_is_not_asked : Says with_sequence (Resolve f (values.Str (codes "x") ∷ [])) [] (Ends (Picks 0 (StringValue (codes "x") ∷ [])))
+unfolding apart_at
+text_is_not_asked = (30, refl)
 
 method_not_callable : Says with_sequence (Resolve f (values.Obj (plain 1) ∷ [])) (gets (plain 1) (keys.Sym 0) (number 1) ∷ []) (Ends (Throw code.NotCallable))
 unfolding apart_at
@@ -158,3 +225,11 @@ none_fits = with_overloads (overload UndefinedType (argument (SequenceType text)
 number_fits_none : Says none_fits (Resolve f (number 1 ∷ [])) [] (Ends (Throw code.NoMatch))
 unfolding apart_at
 number_fits_none = (30, refl)
+
+-- `f(sequence<DOMString> q); f(F g);` with a callback function F: neither does an object without a method `@iterator`
+abbrev sequence_or_function : DefsTerm
+sequence_or_function = with_overloads (overload UndefinedType (argument (SequenceType text) Required None ∷ []) ∷ overload UndefinedType (argument (CallbackFunctionType 0) Required None ∷ []) ∷ [])
+
+object_fits_none : Says sequence_or_function (Resolve f (values.Obj (plain 1) ∷ [])) (gets (plain 1) (keys.Sym 0) values.Undefined ∷ []) (Ends (Throw code.NoMatch))
+unfolding apart_at
+object_fits_none = (30, (refl, tt, refl))

@@ -1,14 +1,15 @@
 -- Worked conversations: numbers, texts, and the types that need no more.
 use Rattle.std.specs.Prelude.{[], ◌∷◌, true, false, codes, refl}
+use Rattle.std.specs.Char.Utf16.{utf16_chars}
 use Rattle.widl_dialog.specs.Conversation.{Asks, Ends}
 use Rattle.widl_text.specs.declared.key.Key.TheVariants as keys
 use Rattle.widl_idl.specs.declared.int_kind.IntKind.TheVariants.{Octet, Long, LongLong}
 use Rattle.widl_idl.specs.declared.int_kind.Mode.TheVariants.{Wrap, Clamp, Enforce}
 use Rattle.widl_idl.specs.declared.text_kind.TextKind.TheVariants as texts
-use Rattle.widl_idl.specs.Terms.{AnyType, BooleanType, IntegerType, StringType, EnumerationType, ObjectType, SequenceType}
+use Rattle.widl_idl.specs.Terms.{AnyType, UndefinedType, BooleanType, IntegerType, StringType, EnumerationType, ObjectType, SequenceType}
 use Rattle.widl_value.specs.declared.number.Number.TheVariants as numbers
 use Rattle.widl_value.specs.declared.value.Value.TheVariants as values
-use Rattle.widl_value.specs.IdlTerms.{BooleanValue, StringValue, EnumerationValue, ObjectValue, AnyValue}
+use Rattle.widl_value.specs.IdlTerms.{UndefinedValue, BooleanValue, StringValue, EnumerationValue, ObjectValue, AnyValue}
 use Rattle.widl_value.specs.Rounding.{near_of, step_of}
 use Rattle.widl_scalar.specs.WhiteSpace.{trimmed, is_white}
 use Rattle.widl_scalar.specs.NumeralWords.{exact_of, read_of, read_radix, read_unsigned}
@@ -61,11 +62,29 @@ null_is_text = (10, refl)
 null_is_empty : Says nothing_defined (Convert (StringType texts.Usv true) values.Null) [] (Ends (Gives (StringValue [])))
 null_is_empty = (10, refl)
 
+undefined_is_text : Says nothing_defined (Convert (StringType texts.Dom true) values.Undefined) [] (Ends (Gives (StringValue (codes "undefined"))))
+undefined_is_text = (10, refl)
+
+-- a surrogate without a partner stays in a DOMString, and none is in a USVString
+surrogate_stays : Says nothing_defined (Convert (StringType texts.Dom false) (values.Str (55296 ∷ 97 ∷ []))) [] (Ends (Gives (StringValue (55296 ∷ 97 ∷ []))))
+surrogate_stays = (10, refl)
+
+surrogate_is_replaced : Says nothing_defined (Convert (StringType texts.Usv false) (values.Str (55296 ∷ 97 ∷ []))) [] (Ends (Gives (StringValue (65533 ∷ 97 ∷ []))))
+unfolding utf16_chars
+surrogate_is_replaced = (10, refl)
+
+-- each unit of a ByteString is a byte
 unit_is_no_byte : Says nothing_defined (Convert (StringType texts.Byte false) (values.Str (256 ∷ []))) [] (Ends (Throw code.Byte))
 unit_is_no_byte = (10, refl)
 
 unit_is_byte : Says nothing_defined (Convert (StringType texts.Byte false) (values.Str (255 ∷ []))) [] (Ends (Gives (StringValue (255 ∷ []))))
 unit_is_byte = (10, refl)
+
+first_is_no_byte : Says nothing_defined (Convert (StringType texts.Byte false) (values.Str (256 ∷ 65 ∷ []))) [] (Ends (Throw code.Byte))
+first_is_no_byte = (10, refl)
+
+no_unit : Says nothing_defined (Convert (StringType texts.Byte false) (values.Str [])) [] (Ends (Gives (StringValue [])))
+no_unit = (10, refl)
 
 symbol_has_no_text : Says nothing_defined (Convert (StringType texts.Dom false) (values.Sym 3)) [] (Ends (Throw code.Symbol))
 symbol_has_no_text = (10, refl)
@@ -73,6 +92,10 @@ symbol_has_no_text = (10, refl)
 -- an object's text is asked for by `toString` first
 object_has_text : Says nothing_defined (Convert (StringType texts.Dom false) (values.Obj (plain 1))) (gets (plain 1) (keys.Sym 1) values.Undefined ∷ []) (Asks (GetAsk (plain 1) (keys.Name (codes "toString"))))
 object_has_text = (30, (refl, tt, refl))
+
+-- and is the text of what that gives
+text_of_null : Says nothing_defined (Convert (StringType texts.Dom true) (values.Obj (plain 1))) (gets (plain 1) (keys.Sym 1) values.Undefined ∷ gets_name (plain 1) (codes "toString") (values.Obj (function 2)) ∷ calls (function 2) (values.Obj (plain 1)) [] values.Null ∷ []) (Ends (Gives (StringValue (codes "null"))))
+text_of_null = (30, (refl, tt, (refl, tt, (refl, tt, refl))))
 
 -- enumerations
 on_off : Says (with_values (codes "on" ∷ codes "off" ∷ [])) (Convert (EnumerationType 0) (values.Str (codes "off"))) [] (Ends (Gives (EnumerationValue 0 1)))
@@ -87,6 +110,12 @@ no_such_enumeration = (10, refl)
 -- values that are taken as they are
 truth : Says nothing_defined (Convert BooleanType (values.Str [])) [] (Ends (Gives (BooleanValue false)))
 truth = (10, refl)
+
+truth_of_object : Says nothing_defined (Convert BooleanType (values.Obj (plain 1))) [] (Ends (Gives (BooleanValue true)))
+truth_of_object = (10, refl)
+
+nothing : Says nothing_defined (Convert UndefinedType (number 1)) [] (Ends (Gives UndefinedValue))
+nothing = (10, refl)
 
 object : Says nothing_defined (Convert ObjectType (values.Obj (plain 1))) [] (Ends (Gives (ObjectValue (plain 1))))
 object = (10, refl)
