@@ -7,8 +7,8 @@ Run at the top of the repository, after `./widl --version` has built the program
 
 It prints the seconds of processor time that runs take which use up a budget of 2,000,000 units and one of 20,000, without the
 time of a run of the same files with a budget of one unit, and the nanoseconds a unit; then the milliseconds of a whole run of
-a script of 1 MiB (its reading, the first objects, the run), and what the start of the largest example takes beside its
-`check`. Times are of the processor, without the system's, the least of some runs.
+a script of 1 MiB (its reading, the first objects, the run), and what the start of a run over a file of 1 MiB takes beside
+its `check`. Times are of the processor, without the system's, the least of some runs.
 """
 import os
 import resource
@@ -73,12 +73,23 @@ def whole(folder):
     print(f"\nA script of 1 MiB, read and run: {ms:.0f} ms.")
 
 
+def start(folder):
+    """What an empty script takes over a namespace of many operations, beside the check of the file."""
+    script, fragment = os.path.join(folder, "empty"), os.path.join(folder, "large.idl")
+    with open(script, "w", encoding="utf-8"), open(fragment, "w", encoding="utf-8") as file:
+        file.write("namespace N {\n" + "".join(f"any f{number}(any a);\n" for number in range(52_000)) + "};\n")
+    check = seconds(["check", fragment]) * 1e3
+    run = seconds(["run", "1", script, fragment]) * 1e3
+    print(f"\nA file of 52,000 operations: {check:.0f} ms for its check, {run:.0f} ms for the start of a run ({run / check:.2f} times).")
+
+
 def main():
     with tempfile.TemporaryDirectory() as folder:
         with open(os.path.join(folder, "n.idl"), "w", encoding="utf-8") as file:
             file.write(FRAGMENT)
         budgets(folder)
         whole(folder)
+        start(folder)
 
 
 if __name__ == "__main__":
