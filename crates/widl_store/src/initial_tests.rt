@@ -162,6 +162,55 @@ fn makes_namespaces_and_their_functions(rt: HostRuntime) -> Result<(), Fail> {
     Ok(())
 }
 
+fn many_operations(alloc: Global, count: u32) -> Result<Space, AllocError> {
+    let mut ops = OpNames::new(alloc);
+    for n in 0..count {
+        let name = format!(in alloc; "o{n}")?;
+        add_operation(alloc, &mut ops, &name, &["r"])?;
+    }
+    namespace(alloc, "N", ops)
+}
+
+fn with_operations(alloc: Global, count: u32) -> Result<Store, AllocError> {
+    let spaces = [many_operations(alloc, count)?];
+    realm_over(alloc, &spaces)
+}
+
+const LAST_OPERATION: &str = "#1 operation 0.19999(): length=1 --c; name=o19999 --c;
+";
+
+#[test]
+fn makes_a_function_for_each_operation(rt: HostRuntime) -> Result<(), Fail> {
+    let store = with_operations(rt.alloc(), 20_000)?;
+    assert!(rt; reads(rt.alloc(), &store, 20_018, LAST_OPERATION)?);
+    Ok(())
+}
+
+fn many_namespaces(alloc: Global, count: u32) -> Result<Items<Space>, AllocError> {
+    let mut spaces = Items::new(alloc);
+    for _ in 0..count {
+        spaces.push(second_namespace(alloc)?)?;
+    }
+    Ok(spaces)
+}
+
+fn with_namespaces(alloc: Global, count: u32) -> Result<Store, AllocError> {
+    let spaces = many_namespaces(alloc, count)?;
+    realm_over(alloc, spaces.as_slice())
+}
+
+const LAST_NAMESPACE: &str = "#0 namespace: is=#40017 wec; @2=interface --c;
+#1 operation 19999.0(): length=0 --c; name=is --c;
+";
+
+#[test]
+fn makes_an_object_for_each_namespace(rt: HostRuntime) -> Result<(), Fail> {
+    let store = with_namespaces(rt.alloc(), 20_000)?;
+    assert!(rt; reads(rt.alloc(), &store, 40_016, LAST_NAMESPACE)?);
+    assert!(rt; home(&store, Owner::Space(19_999)) == Some(40_016));
+    Ok(())
+}
+
 const FUNCTION: ObjRef = ObjRef {
     id: 19,
     shape: Shape::Callable,

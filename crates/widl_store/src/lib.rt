@@ -18,6 +18,8 @@ mod inner;
 mod intrinsics;
 mod label;
 pub mod laws;
+#[cfg(test)]
+mod many_tests;
 mod meets;
 mod namespaces;
 mod numbered_map;

@@ -1,10 +1,11 @@
-//! Each call, and objects with many properties.
+//! Each call: what it answers, what it refuses, and the order of keys.
 
 use crate::initial_store::realm_over;
 use crate::property::Prop;
 use crate::store::Store;
 use crate::test_calls::{
-    ARRAY, FIRST, define, defines, deletes, finds, heir, name, plain, put, puts,
+    ARRAY, FIRST, accessor, define, defines, deletes, finds, heir, name, number, own_keys, owns,
+    plain, put, puts, set, shows,
 };
 use crate::written::written;
 use std::alloc::{AllocError, Global};
@@ -37,30 +38,6 @@ fn put_lengths(rt: &impl Abort, alloc: Global, store: &mut Store) -> Result<(), 
 fn raises_the_length_of_arrays(rt: HostRuntime) -> Result<(), Fail> {
     let mut store = realm_over(rt.alloc(), &[])?;
     put_lengths(&rt, rt.alloc(), &mut store)?;
-    Ok(())
-}
-
-fn accessor(get: Option<ObjRef>, set: Option<ObjRef>) -> Prop {
-    Prop::Accessor {
-        get,
-        set,
-        flags: Flags {
-            writable: false,
-            enumerable: true,
-            configurable: false,
-        },
-    }
-}
-
-fn set(
-    rt: &impl Abort,
-    alloc: Global,
-    store: &mut Store,
-    text: &str,
-    prop: Prop,
-) -> Result<(), AllocError> {
-    let key = name(alloc, text)?;
-    assert!(rt; define(rt, store, FIRST, key, prop) == "done");
     Ok(())
 }
 
@@ -121,25 +98,119 @@ fn changes_nothing_where_it_refuses(rt: HostRuntime) -> Result<(), Fail> {
     Ok(())
 }
 
-/// Puts a symbol, and puts and deletes index 0, many times.
-fn turn(rt: &impl Abort, alloc: Global, store: &mut Store, count: u32) -> Result<(), AllocError> {
-    for id in 0..count {
-        assert!(rt; put(rt, store, ARRAY, Key::Sym(id), 1) == "done");
-        assert!(rt; puts(rt, alloc, store, ARRAY, "0")? == "done");
-        assert!(rt; deletes(rt, alloc, store, ARRAY, "0")? == "done");
+/// What is found at names of the first object.
+const SHOWN: [(&str, &str); 4] = [
+    ("fixed", "held"),
+    ("set", "no getter"),
+    ("get", "getter"),
+    ("none", "nothing"),
+];
+
+fn look_along(rt: &impl Abort, alloc: Global, store: &mut Store) -> Result<(), AllocError> {
+    set(rt, alloc, store, "fixed", plain(false, false))?;
+    set(rt, alloc, store, "set", accessor(None, Some(FIRST)))?;
+    set(rt, alloc, store, "get", accessor(Some(FIRST), None))?;
+    let obj = heir(rt, store, ARRAY)?;
+    for (text, found) in SHOWN {
+        assert!(rt; shows(rt, alloc, store, obj, text)? == found);
+        assert!(rt; owns(rt, alloc, store, obj, text)?.is_none());
     }
     Ok(())
 }
 
-fn turn_many(rt: &impl Abort, alloc: Global, store: &mut Store) -> Result<(), AllocError> {
-    turn(rt, alloc, store, 65_536)?;
-    assert!(rt; finds(rt, alloc, store, ARRAY, "length")? == Some(1));
+#[test]
+fn looks_along_prototypes(rt: HostRuntime) -> Result<(), Fail> {
+    let mut store = realm_over(rt.alloc(), &[])?;
+    look_along(&rt, rt.alloc(), &mut store)?;
+    Ok(())
+}
+
+fn shadow(rt: &impl Abort, alloc: Global, store: &mut Store) -> Result<(), AllocError> {
+    let obj = heir(rt, store, ARRAY)?;
+    assert!(rt; puts(rt, alloc, store, obj, "length")? == "done");
+    assert!(rt; puts(rt, alloc, store, obj, "5")? == "done");
+    assert!(rt; finds(rt, alloc, store, obj, "length")? == Some(1));
+    assert!(rt; finds(rt, alloc, store, ARRAY, "length")? == Some(0));
     Ok(())
 }
 
 #[test]
-fn puts_and_deletes_before_many_symbols(rt: HostRuntime) -> Result<(), Fail> {
+fn shadows_the_length_of_an_array(rt: HostRuntime) -> Result<(), Fail> {
     let mut store = realm_over(rt.alloc(), &[])?;
-    turn_many(&rt, rt.alloc(), &mut store)?;
+    shadow(&rt, rt.alloc(), &mut store)?;
+    Ok(())
+}
+
+fn hidden() -> Prop {
+    Prop::Plain {
+        value: number(1),
+        flags: Flags {
+            writable: true,
+            enumerable: false,
+            configurable: true,
+        },
+    }
+}
+
+/// `b`, `10`, `2`, a symbol and `h`, which is hidden; then so many more names.
+fn put_mixed(
+    rt: &impl Abort,
+    alloc: Global,
+    store: &mut Store,
+    obj: ObjRef,
+    more: &[&str],
+) -> Result<(), AllocError> {
+    for text in ["b", "10", "2"] {
+        assert!(rt; puts(rt, alloc, store, obj, text)? == "done");
+    }
+    assert!(rt; put(rt, store, obj, Key::Sym(7), 1) == "done");
+    let key = name(alloc, "h")?;
+    assert!(rt; define(rt, store, obj, key, hidden()) == "done");
+    for text in more {
+        assert!(rt; puts(rt, alloc, store, obj, text)? == "done");
+    }
+    Ok(())
+}
+
+/// Deletes `b`, and puts it and `h` again.
+fn put_again(
+    rt: &impl Abort,
+    alloc: Global,
+    store: &mut Store,
+    obj: ObjRef,
+) -> Result<(), AllocError> {
+    assert!(rt; deletes(rt, alloc, store, obj, "b")? == "done");
+    assert!(rt; owns(rt, alloc, store, obj, "b")?.is_none());
+    assert!(rt; puts(rt, alloc, store, obj, "b")? == "done");
+    assert!(rt; puts(rt, alloc, store, obj, "h")? == "done");
+    assert!(rt; owns(rt, alloc, store, obj, "b")? == Some(true));
+    assert!(rt; owns(rt, alloc, store, obj, "h")? == Some(false));
+    Ok(())
+}
+
+/// What else is put, and the keys in their order: of an object without an index, and of one with it.
+const ORDERS: [(&[&str], &str); 2] = [
+    (&[], "2 10 h b @7 "),
+    (
+        &["k", "1", "m", "length", "name"],
+        "1 2 10 h k m length name b @7 ",
+    ),
+];
+
+fn order_keys(rt: &impl Abort, alloc: Global, store: &mut Store) -> Result<(), AllocError> {
+    for (more, order) in ORDERS {
+        let obj = heir(rt, store, FIRST)?;
+        put_mixed(rt, alloc, store, obj, more)?;
+        put_again(rt, alloc, store, obj)?;
+        let keys = own_keys(rt, alloc, store, obj)?;
+        assert!(rt; keys.as_str() == order);
+    }
+    Ok(())
+}
+
+#[test]
+fn orders_own_keys(rt: HostRuntime) -> Result<(), Fail> {
+    let mut store = realm_over(rt.alloc(), &[])?;
+    order_keys(&rt, rt.alloc(), &mut store)?;
     Ok(())
 }

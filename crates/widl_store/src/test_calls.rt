@@ -5,6 +5,7 @@ use crate::found::Found;
 use crate::inner::Inner;
 use crate::property::Prop;
 use crate::store::Store;
+use crate::written::write_key;
 use std::alloc::{AllocError, Global};
 use std::process::Abort;
 use widl_text::{Key, Units};
@@ -160,4 +161,87 @@ pub(crate) fn finds(
     let key = name(alloc, text)?;
     assert!(rt; store.is_live(obj));
     Ok(found_number(&store.find(obj, &key)))
+}
+
+fn found_word(found: &Found) -> &'static str {
+    match found {
+        Found::Held(_) => "held",
+        Found::Getter(_) => "getter",
+        Found::NoGetter => "no getter",
+        Found::Nothing => "nothing",
+    }
+}
+
+/// What is found at a name.
+pub(crate) fn shows(
+    rt: &impl Abort,
+    alloc: Global,
+    store: &Store,
+    obj: ObjRef,
+    text: &str,
+) -> Result<&'static str, AllocError> {
+    let key = name(alloc, text)?;
+    assert!(rt; store.is_live(obj));
+    Ok(found_word(&store.find(obj, &key)))
+}
+
+/// Whether the property that the object itself has at a name is enumerable.
+pub(crate) fn owns(
+    rt: &impl Abort,
+    alloc: Global,
+    store: &Store,
+    obj: ObjRef,
+    text: &str,
+) -> Result<Option<bool>, AllocError> {
+    let key = name(alloc, text)?;
+    assert!(rt; store.is_live(obj));
+    Ok(store.own(obj, &key).map(|flags| flags.enumerable))
+}
+
+fn write_keys(text: &mut String, keys: &[Key]) -> Result<(), AllocError> {
+    for key in keys {
+        write_key(text, key)?;
+        text.push_str(" ")?;
+    }
+    Ok(())
+}
+
+/// The keys in their order.
+pub(crate) fn own_keys(
+    rt: &impl Abort,
+    alloc: Global,
+    store: &Store,
+    obj: ObjRef,
+) -> Result<String, AllocError> {
+    assert!(rt; store.is_live(obj));
+    let keys = store.own_keys(obj)?;
+    let mut text = String::new(alloc);
+    write_keys(&mut text, keys.as_slice())?;
+    Ok(text)
+}
+
+/// A property that isn't configurable.
+pub(crate) fn accessor(get: Option<ObjRef>, set: Option<ObjRef>) -> Prop {
+    Prop::Accessor {
+        get,
+        set,
+        flags: Flags {
+            writable: false,
+            enumerable: true,
+            configurable: false,
+        },
+    }
+}
+
+/// Defines a property of the first object.
+pub(crate) fn set(
+    rt: &impl Abort,
+    alloc: Global,
+    store: &mut Store,
+    text: &str,
+    prop: Prop,
+) -> Result<(), AllocError> {
+    let key = name(alloc, text)?;
+    assert!(rt; define(rt, store, FIRST, key, prop) == "done");
+    Ok(())
 }

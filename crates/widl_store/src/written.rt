@@ -24,7 +24,7 @@ fn write_number(text: &mut String, mark: &str, n: i128) -> Result<(), AllocError
 }
 
 /// A name, or a symbol by its number.
-fn write_key(text: &mut String, key: &Key) -> Result<(), AllocError> {
+pub(crate) fn write_key(text: &mut String, key: &Key) -> Result<(), AllocError> {
     match key {
         Key::Name(name) => write_units(text, name),
         Key::Sym(id) => write_number(text, "@", i128::from(*id)),
