@@ -11,6 +11,7 @@ use std::test::Fail;
 use widl_sink::{MemorySink, Numbers, SureSink};
 
 mod faults;
+mod first_stores;
 mod fragments;
 mod hostile_runs;
 mod inheritance;
