@@ -1,1 +1,2 @@
+mod NewObjects
 mod ShortTexts

@@ -1,16 +1,19 @@
 //! Does one part of the work on what it is given, and prints how much that was. Its first argument says which
 //! part: `tokens`, `syntax` and `tree` read files of Web IDL so far, `script` and `statements` read scripts so
 //! far, `whole` reads scripts whole over a set of one file, `nodes` puts a million nodes into the tables of a
-//! script, and `lines`, `texts` and `text` write lines of a trace or make a text for one. It stands on the crates
-//! of these parts and serves to measure them: the programs in `bench/` run it.
+//! script, `lines`, `texts` and `text` write lines of a trace or make a text for one, `store` changes and reads
+//! the properties of objects, and `realm` makes the first store of a set of files. It stands on the crates of
+//! these parts and serves to measure them: the programs in `bench/` run it.
 #![tactic(auto)]
 
 mod files;
 mod lines;
 mod nodes;
+mod realm;
 mod script;
 mod sets;
 mod statements;
+mod store;
 mod syntax;
 mod tokens;
 mod tree;
@@ -32,10 +35,12 @@ enum Word {
     Lines,
     Texts,
     Text,
+    Store,
+    Realm,
 }
 
 /// How each part is asked for.
-const WORDS: [(&str, Word); 10] = [
+const WORDS: [(&str, Word); 12] = [
     ("tokens", Word::Tokens),
     ("syntax", Word::Syntax),
     ("tree", Word::Tree),
@@ -46,6 +51,8 @@ const WORDS: [(&str, Word); 10] = [
     ("lines", Word::Lines),
     ("texts", Word::Texts),
     ("text", Word::Text),
+    ("store", Word::Store),
+    ("realm", Word::Realm),
 ];
 
 /// The part that a text asks for.
@@ -80,5 +87,7 @@ fn main(rt: HostRuntime) -> Result<()> {
         Word::Lines => lines::run(&rt),
         Word::Texts => lines::run_text(&rt, true),
         Word::Text => lines::run_text(&rt, false),
+        Word::Store => store::run(&rt, rest),
+        Word::Realm => realm::run(&rt, rest),
     }
 }

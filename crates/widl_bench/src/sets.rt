@@ -1,6 +1,6 @@
 //! Accepted sets of files.
 
-ghost use Rattle.std.specs.Prelude.{◌≡◌, ◌≤◌, [], IfOk, length};
+ghost use Rattle.std.specs.Prelude.{◌≡◌, ◌≤◌, [], OnOk, length};
 ghost use Rattle.widl_front.specs.Texts.{AreShort};
 ghost use Rattle.widl_text.specs.Limits.{most_files};
 
@@ -9,6 +9,7 @@ use anyhow::{Result, bail};
 use std::alloc::Global;
 use widl_front::{Texts, Verdict, judge};
 use widl_overload::Accepted;
+use widl_text::limits::MOST_FILES;
 
 /// The set of no files.
 pub fn no_files(alloc: Global) -> Result<Accepted> {
@@ -23,21 +24,28 @@ fn no_texts(alloc: Global) -> Texts
     Texts::new(alloc)
 }
 
-/// The set of the file of this name.
-pub fn set_of(rt: &HostRuntime, name: &str) -> Result<Accepted> {
-    let texts = text_of(rt, name)?;
+/// The set of the files of these names.
+pub fn set_of(rt: &HostRuntime, names: &[String]) -> Result<Accepted> {
+    let mut texts = no_texts(rt.alloc());
+    for name in names {
+        add_file(rt, &mut texts, name.as_str())?;
+    }
     accepted(rt.alloc(), &texts)
 }
 
-/// The text of the file of this name alone.
+/// Adds the text of the file of this name.
 #[tactic(auto, using(crate::proofs::ShortTexts::short_more))]
-fn text_of(rt: &HostRuntime, name: &str) -> Result<Texts>
-    ensures few { IfOk result (λ texts. length texts ≤ most_files) }
-    ensures short { IfOk result AreShort }
+fn add_file(rt: &HostRuntime, texts: &mut Texts, name: &str) -> Result<()>
+    requires few { length texts.old ≤ most_files }
+    requires short { AreShort texts.old }
+    ensures few { OnOk result (length texts.new ≤ most_files) }
+    ensures short { OnOk result (AreShort texts.new) }
 {
-    let mut texts = no_texts(rt.alloc());
+    if texts.len() >= MOST_FILES {
+        bail!("these are too many files");
+    }
     texts.push(read_short(rt, name)?)?;
-    Ok(texts)
+    Ok(())
 }
 
 /// The set of these texts.

@@ -28,10 +28,11 @@ fn is_unbroken(alloc: Global, script: &[u8], list: &Accepted) -> Result<bool>
 /// Prints how many bytes the scripts of all names but the first have, and how many of them break no rule over the
 /// set of the first.
 pub fn run(rt: &HostRuntime, args: &[String]) -> Result<()> {
-    let [file, names @ ..] = args else {
+    if args.is_empty() {
         bail!("a file of Web IDL is wanted, and then scripts");
-    };
-    let list = set_of(rt, file.as_str())?;
+    }
+    let (file, names) = args.split_at(1);
+    let list = set_of(rt, file)?;
     let mut bytes = 0usize;
     let mut unbroken = 0usize;
     for name in names {

@@ -1,0 +1,192 @@
+//! The word `store`: properties are put, found and deleted, and found along prototypes.
+
+ghost use Rattle.std.specs.Prelude.{◌≡◌, ◌+◌, ◌-◌, ◌^◌, ◌≤◌, ◌<◌, IfOk, IfSome, OnOk, length};
+ghost use Rattle.widl_store.specs.Objects.{IsLive};
+ghost use Rattle.widl_value.specs.declared.object.ObjRef as references;
+
+use crate::sets::no_files;
+use anyhow::{Result, bail};
+use std::alloc::Global;
+use widl_overload::is_served;
+use widl_store::laws::{
+    first_store_is_bounded, references_stay_live, served_lists_have_operations_alone,
+};
+use widl_store::{Found, Inner, Put, Store, realm};
+use widl_text::{Key, Units};
+use widl_value::{Number, ObjRef, Shape, Value};
+
+/// How many prototypes there may be.
+const MOST_PROTOTYPES: usize = 1_000_000;
+
+/// A store without definitions.
+fn first_store(alloc: Global) -> Result<Store>
+    ensures { IfOk result (λ store. length store.objects ≤ 1000018) }
+{
+    let list = no_files(alloc)?;
+    if !is_served(&list) {
+        bail!("no run over the set of no files is supported");
+    }
+    served_lists_have_operations_alone();
+    first_store_is_bounded();
+    let _defs = list.defs();
+    Ok(realm(alloc, &list)?)
+}
+
+/// Adds a plain object.
+fn add_plain(store: &mut Store, proto: Option<ObjRef>) -> Result<ObjRef>
+    requires few { length store.old.objects < 2 ^ 32 - 1 }
+    requires proto { IfSome proto (λ p. IsLive store.old.objects p) }
+    ensures live { IfOk result (λ obj. IsLive store.new.objects obj) }
+    ensures one { OnOk result (length store.new.objects ≡ length store.old.objects + 1) }
+{
+    Ok(store.add(proto, Shape::Plain, Inner::Plain)?)
+}
+
+/// The key of a number: a copy, which has room for its units alone, as the keys of a run are.
+fn key(alloc: Global, number: usize) -> Result<Key> {
+    let text = format!(in alloc; "key{number}")?;
+    let units = Units::of_str(alloc, text.as_str())?;
+    Ok(Key::Name(units.copy()?))
+}
+
+/// Gives the object a property for the number.
+fn put_key(alloc: Global, store: &mut Store, obj: ObjRef, number: usize) -> Result<()>
+    requires { IsLive store.old.objects obj }
+    ensures { OnOk result ((p : references.ObjRef) → IsLive store.old.objects p → IsLive store.new.objects p) }
+{
+    let key = key(alloc, number)?;
+    let value = Value::Num(Number::Whole(number as i128));
+    references_stay_live();
+    match store.put(obj, key, value) {
+        Ok(Put::Done) => Ok(()),
+        _ => bail!("a property can't be put"),
+    }
+}
+
+/// Gives the object a property for each number below `count`.
+fn put_keys(alloc: Global, store: &mut Store, obj: ObjRef, count: usize) -> Result<()>
+    requires { IsLive store.old.objects obj }
+    ensures { OnOk result (IsLive store.new.objects obj) }
+{
+    for number in 0..count {
+        put_key(alloc, store, obj, number)?;
+    }
+    Ok(())
+}
+
+/// How many of the keys are found, each in each round.
+fn find_keys(store: &Store, obj: ObjRef, keys: &[Key], rounds: usize) -> usize
+    requires { IsLive store.now.objects obj }
+{
+    let mut found = 0usize;
+    for _ in 0..rounds {
+        for key in keys {
+            if let Found::Held(_) = store.find(obj, key) {
+                found = found.saturating_add(1);
+            }
+        }
+    }
+    found
+}
+
+/// Deletes the property at a key.
+fn delete_key(store: &mut Store, obj: ObjRef, key: &Key) -> Result<()>
+    requires { IsLive store.old.objects obj }
+    ensures { OnOk result (IsLive store.new.objects obj) }
+{
+    references_stay_live();
+    if store.delete(obj, key).is_err() {
+        bail!("a property can't be deleted");
+    }
+    Ok(())
+}
+
+/// As many keys as `few` of numbers below `count`, none of them near the one before.
+fn scattered(alloc: Global, count: usize, few: usize) -> Result<Vec<Key>> {
+    let mut keys = Vec::new(alloc);
+    for place in 0..few {
+        let number = place.wrapping_mul(2_654_435_761).checked_rem(count);
+        keys.push(key(alloc, number.unwrap_or(0))?)?;
+    }
+    Ok(keys)
+}
+
+/// Puts `count` properties, and finds `few` of them in each round.
+fn keys(alloc: Global, count: usize, few: usize, rounds: usize) -> Result<usize> {
+    let mut store = first_store(alloc)?;
+    let obj = add_plain(&mut store, None)?;
+    put_keys(alloc, &mut store, obj, count)?;
+    let keys = scattered(alloc, count, few)?;
+    Ok(find_keys(&store, obj, keys.as_slice(), rounds))
+}
+
+/// Puts `count` properties, finds each, and deletes each, in their order.
+fn deletions(alloc: Global, count: usize) -> Result<usize> {
+    let mut store = first_store(alloc)?;
+    let obj = add_plain(&mut store, None)?;
+    put_keys(alloc, &mut store, obj, count)?;
+    let mut keys = Vec::new(alloc);
+    for number in 0..count {
+        keys.push(key(alloc, number)?)?;
+    }
+    let found = find_keys(&store, obj, keys.as_slice(), 1);
+    for key in keys.as_slice() {
+        delete_key(&mut store, obj, key)?;
+    }
+    Ok(found)
+}
+
+/// An object below another by so many prototypes.
+fn add_below(store: &mut Store, first: ObjRef, count: usize) -> Result<ObjRef>
+    requires few { length store.old.objects ≤ 1000019 }
+    requires live { IsLive store.old.objects first }
+    ensures { IfOk result (λ obj. IsLive store.new.objects obj) }
+{
+    if count > MOST_PROTOTYPES {
+        bail!("{count} are too many prototypes");
+    }
+    let mut last = first;
+    for added in 0..count {
+        last = add_plain(store, Some(last))?;
+    }
+    Ok(last)
+}
+
+/// Finds a key in each round at the far end of `count` prototypes, and misses another.
+fn prototypes(alloc: Global, count: usize, rounds: usize) -> Result<usize> {
+    let mut store = first_store(alloc)?;
+    let first = add_plain(&mut store, None)?;
+    let last = add_below(&mut store, first, count)?;
+    put_key(alloc, &mut store, first, 0)?;
+    let keys = [key(alloc, 0)?, key(alloc, 1)?];
+    Ok(find_keys(&store, last, &keys, rounds))
+}
+
+/// The number that an argument is.
+fn number_of(text: &str) -> Result<usize> {
+    match text.parse::<usize>() {
+        Ok(number) => Ok(number),
+        Err(_) => bail!("{text} is no number"),
+    }
+}
+
+/// Does what the first argument says as often as the others say, and prints how many properties were found:
+/// `keys COUNT FEW ROUNDS`, `deletions COUNT`, or `prototypes COUNT ROUNDS`.
+pub fn run(rt: &HostRuntime, args: &[String]) -> Result<()> {
+    let Some((what, rest)) = args.split_first() else {
+        bail!("keys, deletions or prototypes, and numbers, are wanted");
+    };
+    let mut numbers = [0usize; 3];
+    for (number, text) in numbers.iter_mut().zip(rest) {
+        *number = number_of(text.as_str())?;
+    }
+    let [count, few, rounds] = numbers;
+    let found = match what.as_str() {
+        "keys" => keys(rt.alloc(), count, few, rounds)?,
+        "deletions" => deletions(rt.alloc(), count)?,
+        "prototypes" => prototypes(rt.alloc(), count, few)?,
+        _ => bail!("keys, deletions or prototypes are wanted"),
+    };
+    println!(rt; "{found} found")?;
+    Ok(())
+}
