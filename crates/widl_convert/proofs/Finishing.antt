@@ -1,5 +1,5 @@
 -- Each task ends in some conversation, and so it does after each answer that fits and each end of a task that it goes through.
-use Rattle.std.proofs.Common.{◌≡◌, ℕ, zero, suc, ◌+◌, ◌-◌, ◌≤◌, Bool, true, false, if◌then◌else◌, List, [], ◌∷◌, ◌++◌, length, Option, None, Some, Result, refl, sym, subst, arith}
+use Rattle.std.proofs.Common.{◌≡◌, ℕ, zero, suc, ◌+◌, ◌≤◌, Bool, true, false, if◌then◌else◌, List, [], ◌∷◌, ◌++◌, length, Option, None, Some, Result, refl, sym, subst, arith}
 use Rattle.std.specs.Prelude.{ℤ, nat_eq, slice_get}
 use Rattle.std.proofs.lemmas.List.{length-append}
 use Rattle.std.proofs.lemmas.Option.{slice_get_past}
@@ -41,6 +41,8 @@ use Rattle.widl_tables.specs.declared.pick.Pick.{Pick}
 use Rattle.widl_tables.specs.declared.pick.Pick.TheVariants.{Entry, Probe, Refuse}
 use Rattle.widl_tables.specs.Kept.{declared_args, entry_alone, telling_place, type_at, optionality_at}
 use Rattle.widl_tables.specs.Picks.{pick_of}
+use Rattle.widl_convert.specs.declared.hint.Hint.{Hint}
+use Rattle.widl_convert.specs.declared.hint.Hint.TheVariants.{PrefersNumber, PrefersString}
 use Rattle.widl_convert.specs.declared.outcome.Want.{Want}
 use Rattle.widl_convert.specs.declared.outcome.Want.TheVariants as wants
 use Rattle.widl_convert.specs.AskTerms.{AskTerm, AnswerTerm, BeginAnswer, DoneAnswer, NormalAnswer, ThrownAnswer, KindAnswer, KeysAnswer, OwnAnswer, CursorAnswer, Fits}
@@ -52,7 +54,7 @@ use Rattle.widl_convert.specs.Resolution.{with_entries, default_at, takes_defaul
 use Rattle.widl_convert.specs.Results.{to_script}
 use Rattle.widl_convert.specs.Rules.{rule}
 use Rattle.widl_convert.specs.Scalars.{to_number, to_text, to_scalar, integer_result, string_result, is_bytes, to_string, null_or_string, enumeration_result, to_type, convert}
-use Rattle.widl_convert.specs.Tasks.{Task, Primitive, Scalar, Convert, Resolve, Arguments, Default, Defaults, Out, Hint, PrefersNumber, PrefersString, TaskEnd, Gives, Plain, Picks, Throw, Rethrow, Profile, Talk, TalkOf}
+use Rattle.widl_convert.specs.Tasks.{Task, Primitive, Scalar, Convert, Resolve, Arguments, Default, Defaults, Out, TaskEnd, Gives, Plain, Picks, Throw, Rethrow, Profile, Talk, TalkOf}
 use Rattle.widl_convert.specs.Words.{returns, fails, normal, object, object_or, if_callable, callable_or, method_or, given, returned, number, text}
 
 -- 1. The words, for all sets of tasks

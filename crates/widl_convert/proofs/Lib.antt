@@ -1,4 +1,9 @@
 pub mod OneNexts
 pub mod Finishing
+pub mod Bytes
+pub mod Suspending
+pub mod Resuming
+pub mod Standing
+pub mod EmptySet
 pub mod Worked
 mod Talks

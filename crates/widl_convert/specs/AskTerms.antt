@@ -66,7 +66,52 @@ answer_term (answers.Keys keys) = KeysAnswer keys
 answer_term (answers.Own flags) = OwnAnswer flags
 answer_term (answers.Cursor state) = CursorAnswer state
 
--- 2. Which answers fit
+-- 2. The kinds of asks
+
+pub data AskKind : Type 0 where
+  OfGet : AskKind
+  OfCall : AskKind
+  OfKind : AskKind
+  OfUnit : AskKind
+  OfNote : AskKind
+  OfOwnKeys : AskKind
+  OfOwn : AskKind
+  OfNewArray : AskKind
+  OfNewObject : AskKind
+  OfNewArrayIterator : AskKind
+  OfCursor : AskKind
+  OfSetCursor : AskKind
+
+abbrev pub kind_of : AskTerm → AskKind
+kind_of (GetAsk obj key) = OfGet
+kind_of (CallAsk f this args) = OfCall
+kind_of (KindAsk obj) = OfKind
+kind_of UnitAsk = OfUnit
+kind_of (NoteAsk event) = OfNote
+kind_of (OwnKeysAsk obj) = OfOwnKeys
+kind_of (OwnAsk obj key) = OfOwn
+kind_of (NewArrayAsk items) = OfNewArray
+kind_of (NewObjectAsk entries) = OfNewObject
+kind_of (NewArrayIteratorAsk obj) = OfNewArrayIterator
+kind_of (CursorAsk obj) = OfCursor
+kind_of (SetCursorAsk obj next turn) = OfSetCursor
+
+-- units of the budget are taken for the others: for the line of a read, a call or an event, for an object that is made
+abbrev pub IsFree : AskKind → Type 0
+IsFree OfGet = ⊥
+IsFree OfCall = ⊥
+IsFree OfKind = Unit {0}
+IsFree OfUnit = ⊥
+IsFree OfNote = ⊥
+IsFree OfOwnKeys = Unit {0}
+IsFree OfOwn = Unit {0}
+IsFree OfNewArray = ⊥
+IsFree OfNewObject = ⊥
+IsFree OfNewArrayIterator = ⊥
+IsFree OfCursor = Unit {0}
+IsFree OfSetCursor = Unit {0}
+
+-- 3. Which answers fit
 
 -- a value, given or thrown
 abbrev pub IsCompletion : AnswerTerm → Type 0
@@ -103,16 +148,20 @@ abbrev pub IsNewObject : AnswerTerm → Type 0
 IsNewObject (NormalAnswer v) = IsPlainObject v
 IsNewObject _ = ⊥
 
+-- what an ask may be answered depends on its kind alone
+abbrev pub IsWanted : AskKind → AnswerTerm → Type 0
+IsWanted OfGet a = IsCompletion a
+IsWanted OfCall a = IsCompletion a
+IsWanted OfKind a = IsKind a
+IsWanted OfUnit a = IsDone a
+IsWanted OfNote a = IsDone a
+IsWanted OfOwnKeys a = AreKeys a
+IsWanted OfOwn a = IsOwn a
+IsWanted OfNewArray a = IsNewObject a
+IsWanted OfNewObject a = IsNewObject a
+IsWanted OfNewArrayIterator a = IsNewObject a
+IsWanted OfCursor a = IsCursor a
+IsWanted OfSetCursor a = IsDone a
+
 abbrev pub Fits : AskTerm → AnswerTerm → Type 0
-Fits (GetAsk obj key) a = IsCompletion a
-Fits (CallAsk f this args) a = IsCompletion a
-Fits (KindAsk obj) a = IsKind a
-Fits UnitAsk a = IsDone a
-Fits (NoteAsk event) a = IsDone a
-Fits (OwnKeysAsk obj) a = AreKeys a
-Fits (OwnAsk obj key) a = IsOwn a
-Fits (NewArrayAsk items) a = IsNewObject a
-Fits (NewObjectAsk entries) a = IsNewObject a
-Fits (NewArrayIteratorAsk obj) a = IsNewObject a
-Fits (CursorAsk obj) a = IsCursor a
-Fits (SetCursorAsk obj next turn) a = IsDone a
+Fits ask a = IsWanted (kind_of ask) a

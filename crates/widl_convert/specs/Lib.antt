@@ -9,3 +9,7 @@ pub mod Defaults
 pub mod Results
 pub mod Rules
 pub mod Laws
+pub mod Waits
+pub mod Frames
+pub mod Loads
+pub mod Stack

@@ -7,8 +7,10 @@ use Rattle.widl_value.specs.declared.object.ObjRef.{ObjRef}
 use Rattle.widl_value.specs.declared.value.Value.{Value}
 use Rattle.widl_value.specs.declared.value.Value.TheVariants as values
 use Rattle.widl_trace.specs.declared.code.Code.TheVariants as code
+use Rattle.widl_convert.specs.declared.hint.Hint.{Hint}
+use Rattle.widl_convert.specs.declared.hint.Hint.TheVariants.{PrefersNumber, PrefersString}
 use Rattle.widl_convert.specs.AskTerms.{GetAsk, CallAsk}
-use Rattle.widl_convert.specs.Tasks.{Hint, PrefersNumber, PrefersString, Talk}
+use Rattle.widl_convert.specs.Tasks.{Talk}
 use Rattle.widl_convert.specs.Words.{returns, fails, normal, object_or, callable_or, method_or}
 
 -- the symbol `@toPrimitive`
@@ -43,8 +45,11 @@ ordinary PrefersString o = try_method o (codes "toString") (try_method o (codes 
 abbrev pub primitive_result : Value → Talk
 primitive_result = object_or returns (λ o. fails code.Primitive)
 
+abbrev pub call_method : Hint → ObjRef → ObjRef → Talk
+call_method hint o f = Say (CallAsk f (values.Obj o) (values.Str (hint_text hint) ∷ [])) (normal primitive_result)
+
 abbrev pub found_method : Hint → ObjRef → Value → Talk
-found_method hint o = method_or (ordinary hint o) (λ f. Say (CallAsk f (values.Obj o) (values.Str (hint_text hint) ∷ [])) (normal primitive_result))
+found_method hint o = method_or (ordinary hint o) (call_method hint o)
 
 abbrev pub object_to_primitive : Hint → ObjRef → Talk
 object_to_primitive hint o = Say (GetAsk o (keys.Sym to_primitive_symbol)) (normal (found_method hint o))

@@ -28,9 +28,10 @@ use Rattle.widl_scalar.specs.Primitives.{truth_of, number_in, text_in, length_of
 use Rattle.widl_scalar.specs.Scalars.{integer_of}
 use Rattle.widl_scalar.specs.UnitTexts.{scalar_units}
 use Rattle.widl_trace.specs.declared.code.Code.TheVariants as code
+use Rattle.widl_convert.specs.declared.hint.Hint.TheVariants.{PrefersNumber, PrefersString}
 use Rattle.widl_convert.specs.declared.outcome.Want.{Want}
 use Rattle.widl_convert.specs.declared.outcome.Want.TheVariants as wants
-use Rattle.widl_convert.specs.Tasks.{PrefersNumber, PrefersString, Primitive, Scalar, Talk}
+use Rattle.widl_convert.specs.Tasks.{Primitive, Scalar, Talk}
 use Rattle.widl_convert.specs.Words.{gives, returns, fails, no_whole_number, not_built, object, returned, number, text}
 use Rattle.widl_convert.specs.Built.{Built}
 

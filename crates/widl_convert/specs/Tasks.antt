@@ -9,13 +9,9 @@ use Rattle.widl_overload.specs.Sets.{TupleTerm}
 use Rattle.widl_value.specs.declared.value.Value.{Value}
 use Rattle.widl_value.specs.IdlTerms.{IdlTerm}
 use Rattle.widl_trace.specs.declared.code.Code.{Code}
+use Rattle.widl_convert.specs.declared.hint.Hint.{Hint}
 use Rattle.widl_convert.specs.declared.outcome.Want.{Want}
 use Rattle.widl_convert.specs.AskTerms.{AskTerm, AnswerTerm}
-
--- which primitive value of an object is preferred
-pub data Hint : Type 0 where
-  PrefersNumber : Hint
-  PrefersString : Hint
 
 pub data Task : Type 0 where
   -- ToPrimitive; ToNumber, ToString or ToLength

@@ -5,6 +5,7 @@ ghost use Rattle.widl_idl.specs.DefinitionTerms.{DefsTerm};
 ghost use Rattle.widl_convert.specs.Built.{Built};
 ghost use Rattle.widl_convert.specs.Laws.{AsksAreTalked, BeginningsHaveOneNext, PartsMakeWholes};
 ghost use Rattle.widl_convert.specs.Rules.{rule};
+ghost use Rattle.widl_convert.specs.Stack.{EachAnswerGoesOn, HasOneLast};
 
 /// Exactly one thing comes next after what begins a whole conversation.
 pub fn has_one_next()
@@ -19,4 +20,14 @@ pub fn asks_are_talked()
 /// The conversation of a whole is those of its parts, one after another.
 pub fn parts_make_wholes()
     ensures { (built : Built) (list : DefsTerm) → PartsMakeWholes (rule built list) }
+{}
+
+/// Of a task and what was said of it, a suspended conversation has at most one ask that waits.
+pub fn has_one_last()
+    ensures { (list : DefsTerm) → HasOneLast list }
+{}
+
+/// A suspended conversation that stands at an ask has exactly one next, for each answer that fits.
+pub fn answers_go_on()
+    ensures { (list : DefsTerm) → EachAnswerGoesOn list }
 {}

@@ -3,18 +3,35 @@
 //! asks, one [`Ask`] at a time, and goes on with the [`Answer`].
 //!
 //! It stands on the theory of conversations (`widl_dialog`), on values, scalars, definitions, events and
-//! the choice by classes (`widl_tables`), and has plain types, definitions and laws, but no code yet. The
-//! steps are in `specs/`, a file for each subject, with the section of the standard at its head:
-//! `rule` (`specs/Rules.antt`) gives each task its steps. The laws are the contracts of the functions of
-//! [`laws`]: one thing comes next; an ask comes next exactly where some whole conversation goes on with
-//! it; a part's conversation followed by the rest's is the whole's.
+//! the choice by classes (`widl_tables`). The steps are in `specs/`, a file for each subject, with the
+//! section of the standard at its head: `rule` (`specs/Rules.antt`) gives each task its steps. An
+//! [`Asker`] is a conversion that is suspended at each ask. The contract that the crates above use: what
+//! [`Asker::resume`] answers is exactly what comes next in the talk of its task, tasks alone lead to it
+//! from what was left, and less is left after each ask that takes no charge. Today the conversions of
+//! scalars have code, and the others definitions alone. The laws are the contracts of the functions of
+//! [`laws`].
 #![tactic(auto)]
 
 mod answer;
 mod ask;
+mod asker;
+mod convert;
+mod frames;
+mod hint;
+mod jobs;
 pub mod laws;
+mod moves;
 mod outcome;
+mod primitive;
+mod scalar;
+mod settle;
+mod stack;
+mod steps;
+#[cfg(test)]
+mod tests;
+mod waits;
 
 pub use answer::{Answer, CursorState, KindName};
 pub use ask::{Ask, ScriptEntries};
+pub use asker::Asker;
 pub use outcome::{Next, Outcome, Want};

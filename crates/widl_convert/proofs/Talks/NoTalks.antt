@@ -6,11 +6,12 @@ use Rattle.widl_dialog.specs.Conversation.{Next, Asks, Ends}
 use Rattle.widl_dialog.proofs.Nexts.{one_next}
 use Rattle.widl_text.specs.declared.key.Key.TheVariants as keys
 use Rattle.widl_value.specs.declared.value.Value.TheVariants as values
+use Rattle.widl_convert.specs.declared.hint.Hint.TheVariants.{PrefersNumber}
 use Rattle.widl_convert.specs.AskTerms.{AskTerm, GetAsk, CallAsk, ThrownAnswer, Fits}
 use Rattle.widl_convert.specs.Built.{built_today}
 use Rattle.widl_convert.specs.Laws.{Said}
 use Rattle.widl_convert.specs.Rules.{rule}
-use Rattle.widl_convert.specs.Tasks.{TaskEnd, PrefersNumber, Primitive, Resolve, Rethrow}
+use Rattle.widl_convert.specs.Tasks.{TaskEnd, Primitive, Resolve, Rethrow}
 use Rattle.widl_convert.proofs.Worked.{number, plain, function, gets, f, nothing_defined, Says}
 use Rattle.widl_convert.proofs.Talks.ResolutionTalks.{second_tells, both, first_is_asked, sequence_tells, first_is_converted, with_sequence, without_method}
 

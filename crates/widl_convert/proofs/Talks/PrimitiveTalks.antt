@@ -6,8 +6,10 @@ use Rattle.widl_value.specs.declared.object.Shape.TheVariants as shapes
 use Rattle.widl_value.specs.declared.value.Value.{Value}
 use Rattle.widl_value.specs.declared.value.Value.TheVariants as values
 use Rattle.widl_trace.specs.declared.code.Code.TheVariants as code
+use Rattle.widl_convert.specs.declared.hint.Hint.{Hint}
+use Rattle.widl_convert.specs.declared.hint.Hint.TheVariants.{PrefersNumber, PrefersString}
 use Rattle.widl_convert.specs.AskTerms.{AskTerm, AnswerTerm, GetAsk, CallAsk}
-use Rattle.widl_convert.specs.Tasks.{Task, Hint, PrefersNumber, PrefersString, Primitive, Plain, Throw, Rethrow}
+use Rattle.widl_convert.specs.Tasks.{Task, Primitive, Plain, Throw, Rethrow}
 use Rattle.widl_convert.proofs.Worked.{number, plain, function, gets, gets_name, calls, call_throws, nothing_defined, Says}
 
 abbrev it : Value

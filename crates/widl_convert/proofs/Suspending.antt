@@ -1,0 +1,61 @@
+-- Each move of a suspended conversation leads on, and leaves less without a charge.
+use Rattle.std.proofs.Common.{◌≡◌, ℕ, ◌+◌, ◌≤◌, ◌<◌, List, [], ◌∷◌, ◌++◌, sym, ap, subst, ◌∙◌, arith}
+use Rattle.widl_dialog.specs.Stack.{stack_load}
+use Rattle.widl_dialog.proofs.Positions.{here}
+use Rattle.widl_dialog.proofs.Stacking as stacking
+use Rattle.widl_dialog.proofs.Stacking.{load_push}
+use Rattle.widl_idl.specs.DefinitionTerms.{DefsTerm}
+use Rattle.widl_convert.specs.declared.frames.Frame.{Frame}
+use Rattle.widl_convert.specs.declared.jobs.Job.{Job}
+use Rattle.widl_convert.specs.declared.moves.Ending.{Ending}
+use Rattle.widl_convert.specs.declared.moves.Move.{Move}
+use Rattle.widl_convert.specs.declared.moves.Move.TheVariants as moves
+use Rattle.widl_convert.specs.AskTerms.{Fits}
+use Rattle.widl_convert.specs.Built.{built_today}
+use Rattle.widl_convert.specs.Frames.{end_of, job_of, move_dialog, returned_to}
+use Rattle.widl_convert.specs.Loads.{end_load, frame_load, load, weight}
+use Rattle.widl_convert.specs.Rules.{rule}
+use Rattle.widl_convert.specs.Stack.{Follows, Leads}
+use Rattle.widl_convert.specs.Tasks.{Talk}
+
+-- 1. The measure
+
+pub step_less : (list : DefsTerm) (f : Frame) (j : Job) (m m' : Move) (fs new : List Frame) → m ≡ moves.Steps f j → new ≡ fs ++ f ∷ [] → weight list m' ≤ load list (job_of j) → stack_load (frame_load list) new + weight list m' < stack_load (frame_load list) fs + weight list m
+step_less list f j m m' fs new is is_new less =
+    let a : stack_load (frame_load list) new ≡ stack_load (frame_load list) fs + frame_load list f = ap (stack_load (frame_load list)) is_new ∙ load_push (frame_load list) fs f in
+    let b : weight list m ≡ 1 + frame_load list f + load list (job_of j) = ap (weight list) is in
+    omega (arith, a, b, less)
+
+pub go_less : (list : DefsTerm) (j : Job) (m m' : Move) (fs : List Frame) → m ≡ moves.Goes j → weight list m' ≤ load list (job_of j) → stack_load (frame_load list) fs + weight list m' < stack_load (frame_load list) fs + weight list m
+go_less list j m m' fs is less =
+    let b : weight list m ≡ 1 + load list (job_of j) = ap (weight list) is in
+    omega (arith, b, less)
+
+pub give_less : (list : DefsTerm) (f : Frame) (r : Ending) (m m' : Move) (old fs : List Frame) → m ≡ moves.Gives r → old ≡ fs ++ f ∷ [] → weight list m' < frame_load list f + end_load (end_of r) → stack_load (frame_load list) fs + weight list m' < stack_load (frame_load list) old + weight list m
+give_less list f r m m' old fs is is_old less =
+    let a : stack_load (frame_load list) old ≡ stack_load (frame_load list) fs + frame_load list f = ap (stack_load (frame_load list)) is_old ∙ load_push (frame_load list) fs f in
+    let b : weight list m ≡ end_load (end_of r) = ap (weight list) is in
+    omega (arith, a, b, less)
+
+-- 2. The way
+
+pub at_move : {list : DefsTerm} {d : Talk} {bound : ℕ} {m m' : Move} {fs : List Frame} → Follows list d bound m fs → m ≡ m' → Follows list d bound m' fs
+at_move {list = list} {d = d} {bound = bound} {fs = fs} follows e = subst (λ (x : Move). Follows list d bound x fs) e follows
+
+led : (list : DefsTerm) {d e : Talk} → e ≡ d → Leads list d e
+led list same = here (rule built_today list) Fits (sym same)
+
+pub stepped : {list : DefsTerm} {d : Talk} {bound : ℕ} {m m' : Move} {f : Frame} {j : Job} {fs new : List Frame} → Follows list d bound m fs → m ≡ moves.Steps f j → new ≡ fs ++ f ∷ [] → move_dialog list m' ≡ rule built_today list (job_of j) → weight list m' ≤ load list (job_of j) → Follows list d bound m' new
+stepped {list = list} {m = m} {m' = m'} {f = f} {j = j} {fs = fs} {new = new} follows is is_new is_move less =
+    let down = step_less list f j m m' fs new is is_new less in
+    record { place = stacking.stepped (rule built_today list) Fits (returned_to list) f fs new (at_move follows is).place is_new (led list is_move); less = omega (arith, down, follows.less) }
+
+pub went : {list : DefsTerm} {d : Talk} {bound : ℕ} {m m' : Move} {j : Job} {fs : List Frame} → Follows list d bound m fs → m ≡ moves.Goes j → move_dialog list m' ≡ rule built_today list (job_of j) → weight list m' ≤ load list (job_of j) → Follows list d bound m' fs
+went {list = list} {m = m} {m' = m'} {j = j} {fs = fs} follows is is_move less =
+    let down = go_less list j m m' fs is less in
+    record { place = stacking.went (rule built_today list) Fits (returned_to list) fs (at_move follows is).place (led list is_move); less = omega (arith, down, follows.less) }
+
+pub gave : {list : DefsTerm} {d : Talk} {bound : ℕ} {m m' : Move} {r : Ending} {old fs : List Frame} (f : Frame) → Follows list d bound m old → m ≡ moves.Gives r → old ≡ fs ++ f ∷ [] → move_dialog list m' ≡ returned_to list f (end_of r) → weight list m' < frame_load list f + end_load (end_of r) → Follows list d bound m' fs
+gave {list = list} {m = m} {m' = m'} {r = r} {old = old} {fs = fs} f follows is is_old is_move less =
+    let down = give_less list f r m m' old fs is is_old less in
+    record { place = stacking.gave (rule built_today list) Fits (returned_to list) f old fs (end_of r) (at_move follows is).place is_old (led list is_move); less = omega (arith, down, follows.less) }

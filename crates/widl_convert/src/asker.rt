@@ -1,0 +1,177 @@
+//! Suspended conversations.
+
+ghost use Rattle.std.specs.Prelude.{◌≡◌, ◌<◌, ◌+◌, [], Option, None, Some, IfOk};
+ghost use Rattle.widl_dialog.specs.Conversation.{Ends};
+ghost use Rattle.widl_dialog.specs.Stack.{longer};
+ghost use Rattle.widl_idl.specs.DefinitionTerms.{DefsTerm, defs_term};
+ghost use Rattle.widl_idl.specs.Terms.{type_term};
+ghost use Rattle.widl_convert.specs.AskTerms.{AskTerm, BeginAnswer, answer_term};
+ghost use Rattle.widl_convert.specs.Built.{built_today};
+ghost use Rattle.widl_convert.specs.Frames.{end_of, job_of, move_dialog};
+ghost use Rattle.widl_convert.specs.Laws.{Said};
+ghost use Rattle.widl_convert.specs.Loads.{load, weight};
+ghost use Rattle.widl_convert.specs.Rules.{rule};
+ghost use Rattle.widl_convert.specs.Stack.{Awaits, EndsUnlessAsks, Expects, IsCalmer, IsQuiet, IsQuietState, Resumes, Stands, Tells, left, next_said, pause, quiet, rest};
+ghost use Rattle.widl_convert.specs.Tasks.{Convert, Scalar, Task};
+
+use crate::answer::Answer;
+use crate::jobs::Job;
+use crate::moves::{Asking, Ending, Move};
+use crate::outcome::{Next, Want};
+use crate::settle::{Settled, settle};
+use crate::stack::Stack;
+use crate::steps::{answered, begin};
+use crate::waits::Wait;
+use std::alloc::{AllocError, Global};
+use std::mem;
+use widl_idl::IdlType;
+use widl_tables::Tables;
+use widl_value::Value;
+
+/// Where a conversation stands.
+#[derive(Drop)]
+pub enum State {
+    /// Nothing has been asked.
+    Begins(Job),
+    /// An ask waits for its answer.
+    Waits(Wait),
+    /// It has ended.
+    Ended,
+}
+
+/// A suspended conversation: the conversion of a value, which hands out each thing that it asks and
+/// goes on with the answer.
+///
+/// It holds values and numbers, and no borrow of a store: so any script may run between an ask and its
+/// answer. Its frames lie on a stack of its own.
+#[derive(Drop)]
+pub struct Asker {
+    alloc: Global,
+    state: State,
+    frames: Stack,
+}
+
+impl Asker {
+    /// The conversion of a value to an IDL value of a type (Web IDL, "JavaScript type mapping"). The
+    /// conversion to a type that isn't built ends at an end of the profile.
+    ///
+    /// # Errors
+    ///
+    /// `AllocError` where there is no memory.
+    pub fn start_convert(alloc: Global, ty: &IdlType, value: Value) -> Result<Asker, AllocError>
+        ensures stands { IfOk result (λ asker. (list : DefsTerm) → Stands list asker (Convert (type_term ty.now) value) [] None) }
+        ensures begins { IfOk result (λ asker. Expects asker BeginAnswer) }
+        ensures rest { IfOk result (λ asker. (list : DefsTerm) → rest list asker BeginAnswer ≡ rule built_today list (Convert (type_term ty.now) value)) }
+        ensures ready { IfOk result IsQuiet }
+        ensures quiet { IfOk result (λ asker. (list : DefsTerm) → quiet list asker ≡ 1 + load list (Convert (type_term ty.now) value)) }
+    {
+        let ty = ty.copy(alloc)?;
+        Ok(start(alloc, Job::Convert { ty, value }))
+    }
+
+    /// The conversion of a value to a Number, a String or a length (ECMA-262, "ToNumber", "ToString",
+    /// "ToLength").
+    ///
+    /// # Errors
+    ///
+    /// `AllocError` where there is no memory.
+    pub fn start_scalar(alloc: Global, want: Want, value: Value) -> Result<Asker, AllocError>
+        ensures stands { IfOk result (λ asker. (list : DefsTerm) → Stands list asker (Scalar want value) [] None) }
+        ensures begins { IfOk result (λ asker. Expects asker BeginAnswer) }
+        ensures rest { IfOk result (λ asker. (list : DefsTerm) → rest list asker BeginAnswer ≡ rule built_today list (Scalar want value)) }
+        ensures ready { IfOk result IsQuiet }
+        ensures quiet { IfOk result (λ asker. (list : DefsTerm) → quiet list asker ≡ 1 + load list (Scalar want value)) }
+    {
+        Ok(start(alloc, Job::Scalar { want, value }))
+    }
+
+    /// What comes next after an answer: [`Answer::Begin`] first, and then one that fits the ask that
+    /// this has answered last. After anything but an ask the conversation has ended, and isn't resumed
+    /// again.
+    pub fn resume(&mut self, tables: &Tables, answer: Answer) -> Next
+        requires { Expects self.old (answer_term answer) }
+        ensures next { (task : Task) (said : Said) (last : Option AskTerm) → Stands (defs_term tables.now.defs) self.old task said last → Tells (defs_term tables.now.defs) self.new task (longer said last (answer_term answer)) result }
+        ensures goes { Resumes (defs_term tables.now.defs) (rest (defs_term tables.now.defs) self.old (answer_term answer)) self.new result }
+        ensures quiet { IsCalmer (defs_term tables.now.defs) self.old self.new result }
+        ensures ended { EndsUnlessAsks self.new result }
+    {
+        self.go(tables, answer)
+    }
+
+    /// The same, without the talk of its task.
+    fn go(&mut self, tables: &Tables, answer: Answer) -> Next
+        requires { Expects self.old (answer_term answer) }
+        ensures goes { Resumes (defs_term tables.now.defs) (rest (defs_term tables.now.defs) self.old (answer_term answer)) self.new result }
+        ensures quiet { IsCalmer (defs_term tables.now.defs) self.old self.new result }
+        ensures ended { EndsUnlessAsks self.new result }
+    {
+        let alloc = self.alloc;
+        let state = mem::replace(&mut self.state, State::Ended);
+        match first_move(alloc, state, answer) {
+            Ok(first) => match settle(alloc, tables, &mut self.frames, first) {
+                Settled::Waits(asking) => self.wait(asking),
+                Settled::Ends(ending) => told(ending),
+                Settled::Memory => Next::Memory,
+            },
+            Err(_) => Next::Memory,
+        }
+    }
+
+    /// Hands out an ask, and waits for its answer.
+    fn wait(&mut self, asking: Asking) -> Next
+        ensures ask { result ≡ Next.Ask asking.ask }
+        ensures state { self.new.state ≡ State.Waits asking.wait }
+        ensures frames { self.new.frames ≡ self.old.frames }
+    {
+        let Asking { ask, wait } = asking;
+        discard(mem::replace(&mut self.state, State::Waits(wait)));
+        Next::Ask(ask)
+    }
+}
+
+/// Lets a state go.
+fn discard(_state: State) {}
+
+/// The conversation of a task, of which nothing has been asked.
+fn start(alloc: Global, job: Job) -> Asker
+    ensures stands { (list : DefsTerm) → Stands list result (job_of job) [] None }
+    ensures begins { Expects result BeginAnswer }
+    ensures rest { (list : DefsTerm) → rest list result BeginAnswer ≡ rule built_today list (job_of job) }
+    ensures ready { IsQuiet result }
+    ensures quiet { (list : DefsTerm) → quiet list result ≡ 1 + load list (job_of job) }
+{
+    Asker {
+        alloc,
+        state: State::Begins(job),
+        frames: Stack::new(alloc),
+    }
+}
+
+/// The first move after an answer.
+///
+/// # Errors
+///
+/// `AllocError` where there is no memory.
+fn first_move(alloc: Global, state: State, answer: Answer) -> Result<Move, AllocError>
+    requires { Awaits state (answer_term answer) }
+    ensures dialog { IfOk result (λ m. (list : DefsTerm) → move_dialog list m ≡ left list state (answer_term answer)) }
+    ensures weight { IfOk result (λ m. (list : DefsTerm) → IsQuietState state → weight list m < pause list state) }
+{
+    match state {
+        State::Begins(job) => begin(alloc, job),
+        State::Waits(wait) => answered(alloc, wait, answer),
+        State::Ended => unreachable!(),
+    }
+}
+
+/// The end as it is told.
+fn told(ending: Ending) -> Next
+    ensures { next_said result ≡ Some (Ends (end_of ending)) }
+{
+    match ending {
+        Ending::Done(outcome) => Next::Done(outcome),
+        Ending::Throw(reason) => Next::Throw(reason),
+        Ending::Rethrow(value) => Next::Rethrow(value),
+        Ending::Profile(number) => Next::Profile(number),
+    }
+}

@@ -1,0 +1,42 @@
+//! Frames: what a conversation does with the end of a task.
+//!
+//! Each goes on with one kind of end, and passes any other on.
+
+use crate::outcome::Want;
+use widl_idl::{IntKind, Mode, TextKind};
+
+/// What goes on with a value of the script.
+#[derive(Drop)]
+pub enum ValueFrame {
+    /// It is a primitive value, which becomes a Number, a String or a length.
+    Scalar(Want),
+}
+
+/// What goes on with a Number.
+#[derive(Drop)]
+pub enum NumberFrame {
+    /// It becomes a length.
+    Length,
+    /// It becomes a value of an integer type.
+    Integer(IntKind, Mode),
+}
+
+/// What goes on with a String.
+#[derive(Drop)]
+pub enum TextFrame {
+    /// It becomes a value of a string type.
+    String(TextKind),
+    /// It becomes a value of the enumeration of this number.
+    Enumeration(u32),
+}
+
+/// What waits for the end of a task.
+#[derive(Drop)]
+pub enum Frame {
+    /// It is a value of the script.
+    Value(ValueFrame),
+    /// It is a Number.
+    Number(NumberFrame),
+    /// It is a String.
+    Text(TextFrame),
+}

@@ -1,0 +1,58 @@
+//! From a move to the next ask or the end.
+
+ghost use Rattle.std.specs.Prelude.{◌≡◌, ◌+◌};
+ghost use Rattle.widl_dialog.specs.Stack.{stack_load};
+ghost use Rattle.widl_idl.specs.DefinitionTerms.{defs_term};
+ghost use Rattle.widl_convert.specs.Loads.{frame_load, weight};
+ghost use Rattle.widl_convert.specs.Stack.{Settles, moves_on};
+
+use crate::moves::{Asking, Ending, Move};
+use crate::stack::Stack;
+use crate::steps::{begin, returned};
+use std::alloc::Global;
+use widl_tables::Tables;
+
+/// What the moves of a conversation lead to.
+pub enum Settled {
+    /// To an ask.
+    Waits(Asking),
+    /// To the end.
+    Ends(Ending),
+    /// To nothing: there was no memory.
+    Memory,
+}
+
+/// Makes all moves up to the next ask or the end.
+pub(crate) fn settle(alloc: Global, tables: &Tables, frames: &mut Stack, first: Move) -> Settled
+    ensures { Settles (defs_term tables.now.defs) (moves_on (defs_term tables.now.defs) first frames.old) (stack_load (frame_load (defs_term tables.now.defs)) frames.old + weight (defs_term tables.now.defs) first) frames.new result }
+{
+    let mut current = first;
+    loop {
+        match current {
+            Move::Asks(asking) => return Settled::Waits(asking),
+            Move::Gives(ending) => {
+                let Some(frame) = frames.pop() else {
+                    return Settled::Ends(ending);
+                };
+                match returned(alloc, tables, frame, ending) {
+                    Ok(next) => current = next,
+                    Err(_) => return Settled::Memory,
+                }
+            }
+            Move::Steps(frame, job) => {
+                match frames.push(frame) {
+                    Ok(()) => (),
+                    Err(_) => return Settled::Memory,
+                }
+                match begin(alloc, job) {
+                    Ok(next) => current = next,
+                    Err(_) => return Settled::Memory,
+                }
+            }
+            Move::Goes(job) => match begin(alloc, job) {
+                Ok(next) => current = next,
+                Err(_) => return Settled::Memory,
+            },
+        }
+    }
+}

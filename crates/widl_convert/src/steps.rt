@@ -1,0 +1,162 @@
+//! The next move: of a task, after an answer, after the end of another task.
+
+ghost use Rattle.std.specs.Prelude.{◌≡◌, ◌≤◌, ◌<◌, ◌+◌, IfOk};
+ghost use Rattle.widl_idl.specs.DefinitionTerms.{DefsTerm, defs_term};
+ghost use Rattle.widl_convert.specs.AskTerms.{IsFree, answer_term};
+ghost use Rattle.widl_convert.specs.Built.{built_today};
+ghost use Rattle.widl_convert.specs.Frames.{after, end_of, job_of, move_dialog, number_to, returned_to, text_to, value_to};
+ghost use Rattle.widl_convert.specs.Loads.{end_load, frame_load, load, patience, weight};
+ghost use Rattle.widl_convert.specs.Rules.{rule};
+ghost use Rattle.widl_convert.specs.Tasks.{Plain};
+ghost use Rattle.widl_convert.specs.Waits.{kind_for};
+
+use crate::answer::Answer;
+use crate::convert::{convert, to_enumeration, to_integer, to_string};
+use crate::frames::{Frame, NumberFrame, TextFrame, ValueFrame};
+use crate::jobs::Job;
+use crate::moves::{Ending, Move};
+use crate::outcome::Outcome;
+use crate::primitive;
+use crate::primitive::to_primitive;
+use crate::scalar::{to_length, to_scalar, with_primitive};
+use crate::waits::{ValueWait, Wait};
+use std::alloc::{AllocError, Global};
+use widl_tables::Tables;
+use widl_text::Units;
+use widl_value::{Number, Value};
+
+/// The first move of a task.
+///
+/// # Errors
+///
+/// `AllocError` where there is no memory.
+pub(crate) fn begin(alloc: Global, job: Job) -> Result<Move, AllocError>
+    ensures dialog { IfOk result (λ m. (list : DefsTerm) → move_dialog list m ≡ rule built_today list (job_of job)) }
+    ensures weight { IfOk result (λ m. (list : DefsTerm) → weight list m ≤ load list (job_of job)) }
+{
+    match job {
+        Job::Primitive { hint, value } => Ok(to_primitive(hint, value)),
+        Job::Scalar { want, value } => to_scalar(alloc, want, value),
+        Job::Convert { ty, value } => Ok(convert(alloc, ty, value)),
+    }
+}
+
+/// The move after an answer.
+///
+/// # Errors
+///
+/// `AllocError` where there is no memory.
+pub(crate) fn answered(alloc: Global, wait: Wait, answer: Answer) -> Result<Move, AllocError>
+    ensures dialog { IfOk result (λ m. (list : DefsTerm) → move_dialog list m ≡ after list wait (answer_term answer)) }
+    ensures weight { IfOk result (λ m. (list : DefsTerm) → IsFree (kind_for wait) → weight list m < patience wait) }
+{
+    match wait {
+        Wait::Value(wait) => with_completion(alloc, wait, answer),
+    }
+}
+
+/// The move after a value, given or thrown.
+///
+/// # Errors
+///
+/// `AllocError` where there is no memory.
+fn with_completion(alloc: Global, wait: ValueWait, answer: Answer) -> Result<Move, AllocError>
+    ensures { IfOk result (λ m. (list : DefsTerm) → move_dialog list m ≡ after list (Wait.Value wait) (answer_term answer)) }
+{
+    match answer {
+        Answer::Thrown(value) => Ok(Move::Gives(Ending::Rethrow(value))),
+        Answer::Normal(value) => with_value(alloc, wait, value),
+        _ => with_value(alloc, wait, Value::Undefined),
+    }
+}
+
+/// The move after a value that an answer gave.
+///
+/// # Errors
+///
+/// `AllocError` where there is no memory.
+fn with_value(alloc: Global, wait: ValueWait, value: Value) -> Result<Move, AllocError>
+    ensures { IfOk result (λ m. (list : DefsTerm) → move_dialog list m ≡ value_to list wait value) }
+{
+    match wait {
+        ValueWait::Primitive(wait) => primitive::with_value(alloc, wait, value),
+    }
+}
+
+/// The move after the end of a task.
+///
+/// # Errors
+///
+/// `AllocError` where there is no memory.
+pub(crate) fn returned(
+    alloc: Global,
+    tables: &Tables,
+    frame: Frame,
+    ending: Ending,
+) -> Result<Move, AllocError>
+    ensures dialog { IfOk result (λ m. move_dialog (defs_term tables.now.defs) m ≡ returned_to (defs_term tables.now.defs) frame (end_of ending)) }
+    ensures weight { IfOk result (λ m. weight (defs_term tables.now.defs) m < frame_load (defs_term tables.now.defs) frame + end_load (end_of ending)) }
+{
+    match ending {
+        Ending::Done(Outcome::Script(value)) => with_script(alloc, tables, frame, value),
+        ending => Ok(Move::Gives(ending)),
+    }
+}
+
+/// The move after a value of the script that a task gave.
+///
+/// # Errors
+///
+/// `AllocError` where there is no memory.
+fn with_script(
+    alloc: Global,
+    tables: &Tables,
+    frame: Frame,
+    value: Value,
+) -> Result<Move, AllocError>
+    ensures dialog { IfOk result (λ m. move_dialog (defs_term tables.now.defs) m ≡ returned_to (defs_term tables.now.defs) frame (Plain value)) }
+    ensures weight { IfOk result (λ m. weight (defs_term tables.now.defs) m < frame_load (defs_term tables.now.defs) frame + end_load (Plain value)) }
+{
+    match frame {
+        Frame::Value(ValueFrame::Scalar(want)) => Ok(with_primitive(want, value)),
+        Frame::Number(frame) => match value {
+            Value::Num(number) => Ok(with_number(frame, number)),
+            value => Ok(Move::Gives(Ending::Done(Outcome::Script(value)))),
+        },
+        Frame::Text(frame) => match value {
+            Value::Str(text) => with_text(alloc, tables, frame, text),
+            value => Ok(Move::Gives(Ending::Done(Outcome::Script(value)))),
+        },
+    }
+}
+
+/// The move after a Number that a task gave.
+fn with_number(frame: NumberFrame, number: Number) -> Move
+    ensures dialog { (list : DefsTerm) → move_dialog list result ≡ number_to frame number }
+    ensures weight { (list : DefsTerm) → weight list result ≡ 0 }
+{
+    match frame {
+        NumberFrame::Length => to_length(number),
+        NumberFrame::Integer(kind, mode) => to_integer(kind, mode, number),
+    }
+}
+
+/// The move after a String that a task gave.
+///
+/// # Errors
+///
+/// `AllocError` where there is no memory.
+fn with_text(
+    alloc: Global,
+    tables: &Tables,
+    frame: TextFrame,
+    text: Units,
+) -> Result<Move, AllocError>
+    ensures dialog { IfOk result (λ m. move_dialog (defs_term tables.now.defs) m ≡ text_to (defs_term tables.now.defs) frame text) }
+    ensures weight { IfOk result (λ m. weight (defs_term tables.now.defs) m ≡ 0) }
+{
+    match frame {
+        TextFrame::String(kind) => to_string(alloc, kind, text),
+        TextFrame::Enumeration(number) => Ok(to_enumeration(tables, number, text)),
+    }
+}
