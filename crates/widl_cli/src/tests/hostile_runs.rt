@@ -117,7 +117,8 @@ fn push_name(script: &mut Vec<u8>, first: u8, number: usize) -> Result<(), Alloc
     let letter = number / (SECOND.len() * THIRD.len());
     script.push(first + letter as u8)?;
     script.push(SECOND[number / THIRD.len() % SECOND.len()])?;
-    script.push(THIRD[number % THIRD.len()])
+    script.push(THIRD[number % THIRD.len()])?;
+    Ok(())
 }
 
 /// A function of 70,000 parameters and of as many local names behind its `return` is called 100,000 times.
