@@ -1,10 +1,24 @@
 //! The word `realm`: the first store of a set of files is made, some number of times.
 
+ghost use Rattle.widl_idl.specs.DefinitionTerms.{defs_term};
+ghost use Rattle.widl_store.specs.Realm.{HasOperationsAlone};
+
 use crate::sets::set_of;
 use anyhow::{Result, bail};
-use widl_overload::is_served;
-use widl_store::laws::served_lists_have_operations_alone;
+use std::alloc::Global;
+use widl_overload::{Accepted, is_served};
 use widl_store::{Store, realm};
+
+/// So many first stores of a list.
+fn stores_of(alloc: Global, list: &Accepted, count: usize) -> Result<Vec<Store>>
+    requires { HasOperationsAlone (defs_term list.now.defs) }
+{
+    let mut stores: Vec<Store> = Vec::new(alloc);
+    for _ in 0..count {
+        stores.push(realm(alloc, list)?)?;
+    }
+    Ok(stores)
+}
 
 /// Makes as many stores of the set of the files as the first argument says, keeps them all, and prints their number.
 pub fn run(rt: &HostRuntime, args: &[String]) -> Result<()> {
@@ -15,14 +29,11 @@ pub fn run(rt: &HostRuntime, args: &[String]) -> Result<()> {
         bail!("{count} is no count");
     };
     let list = set_of(rt, names)?;
-    if !is_served(&list) {
-        bail!("no run over the set of files is supported");
+    if is_served(&list) {
+        let stores = stores_of(rt.alloc(), &list, count)?;
+        println!(rt; "{} stores", stores.len())?;
+        Ok(())
+    } else {
+        bail!("no run over the set of files is supported")
     }
-    served_lists_have_operations_alone();
-    let mut stores: Vec<Store> = Vec::new(rt.alloc());
-    for _ in 0..count {
-        stores.push(realm(rt.alloc(), &list)?)?;
-    }
-    println!(rt; "{} stores", stores.len())?;
-    Ok(())
 }

@@ -8,9 +8,7 @@ use crate::sets::no_files;
 use anyhow::{Result, bail};
 use std::alloc::Global;
 use widl_overload::is_served;
-use widl_store::laws::{
-    first_store_is_bounded, references_stay_live, served_lists_have_operations_alone,
-};
+use widl_store::laws::{first_store_is_bounded, references_stay_live};
 use widl_store::{Found, Inner, Put, Store, realm};
 use widl_text::{Key, Units};
 use widl_value::{Number, ObjRef, Shape, Value};
@@ -23,13 +21,13 @@ fn first_store(alloc: Global) -> Result<Store>
     ensures { IfOk result (λ store. length store.objects ≤ 1000018) }
 {
     let list = no_files(alloc)?;
-    if !is_served(&list) {
-        bail!("no run over the set of no files is supported");
-    }
-    served_lists_have_operations_alone();
     first_store_is_bounded();
     let _defs = list.defs();
-    Ok(realm(alloc, &list)?)
+    if is_served(&list) {
+        Ok(realm(alloc, &list)?)
+    } else {
+        bail!("no run over the set of no files is supported")
+    }
 }
 
 /// Adds a plain object.
@@ -38,6 +36,7 @@ fn add_plain(store: &mut Store, proto: Option<ObjRef>) -> Result<ObjRef>
     requires proto { IfSome proto (λ p. IsLive store.old.objects p) }
     ensures live { IfOk result (λ obj. IsLive store.new.objects obj) }
     ensures one { OnOk result (length store.new.objects ≡ length store.old.objects + 1) }
+    ensures others { OnOk result ((p : references.ObjRef) → IsLive store.old.objects p → IsLive store.new.objects p) }
 {
     Ok(store.add(proto, Shape::Plain, Inner::Plain)?)
 }
@@ -140,7 +139,8 @@ fn deletions(alloc: Global, count: usize) -> Result<usize> {
 fn add_below(store: &mut Store, first: ObjRef, count: usize) -> Result<ObjRef>
     requires few { length store.old.objects ≤ 1000019 }
     requires live { IsLive store.old.objects first }
-    ensures { IfOk result (λ obj. IsLive store.new.objects obj) }
+    ensures last { IfOk result (λ obj. IsLive store.new.objects obj) }
+    ensures first { OnOk result (IsLive store.new.objects first) }
 {
     if count > MOST_PROTOTYPES {
         bail!("{count} are too many prototypes");

@@ -6,4 +6,5 @@ abbrev pub invariant-loop-added : goal.invariant-loop-added
 invariant-loop-added l = record {
   few : length l.store.objects ≤ 1000019 + l.added;
   live : IsLive l.store.objects l.last;
+  first : IsLive l.store.objects l.initial.last;
 }
