@@ -1,4 +1,4 @@
-use Rattle.std.proofs.Common.{◌≡◌, ◌+◌, ◌∷◌, ◌∙◌, [], ap, arith, sym, length, length-append, slice_get, Some, subst}
+use Rattle.std.proofs.Common.{◌≡◌, ◌+◌, ◌∷◌, ◌∙◌, [], ap, arith, sym, length, length-append, subst}
 use Rattle.std.proofs.lemmas.List.{length-map}
 use Rattle.widl_script.specs.Surroundings.{plain_line, plain_lines, AreAround}
 use Rattle.widl_script.proofs.Surrounding.{moved, pushed, some_line, word_at}
