@@ -94,15 +94,15 @@ module _ (list : DefsTerm) where
   pub closed_there : (line : Line) → IsOpening list line None → IsThere list line None
   closed_there line h = λ t o. h t o.opens
 
-  not_there : (line : Line) (b : Opening) → overload_of list b.target ≡ None → IsOpened list line b → IsThere list line None
+  not_there : (line : Line) (b : Opening) → overload_of list b.target.value ≡ None → IsOpened list line b → IsThere list line None
   not_there line b e h = λ t o.
-      let one : b.target ≡ t = one_target line b.target t h.opens o.opens in
+      let one : b.target.value ≡ t = one_target line b.target.value t h.opens o.opens in
       true≢false (sym (subst IsSome (sym (ap (overload_of list) one) ∙ e) o.there))
 
   pub missing_there : (line : Line) (b : Opening) → b.overload ≡ None → IsOpened list line b → IsThere list line None
   missing_there line b e h = not_there line b (sym h.overload_is ∙ ap (option_map overload_term) e) h
 
-  pub known_there : (line : Line) (b : Opening) (o : Found) (r : Option OperationTarget) → b.overload ≡ Some o → MatchOption r ((l : DefsTerm) → overload_of l b.target ≡ None) (λ key. key_target key ≡ b.target) → IsOpened list line b →
+  pub known_there : (line : Line) (b : Opening) (o : Found) (r : Option OperationTarget) → b.overload ≡ Some o → MatchOption r ((l : DefsTerm) → overload_of l b.target.value ≡ None) (λ key. key_target key ≡ b.target.value) → IsOpened list line b →
       IsThere list line r
   known_there line b o None e m h = not_there line b (m list) h
   known_there line b o (Some key) e m h = record {

@@ -56,10 +56,10 @@ module _ (list : DefsTerm) where
       h f.target (subst (λ (l : Line). Opens l f.target) (sym same) f.opens)
 
   opened : (opening : Line) (outer : List Line) (b : Opening) → IsOpened list opening b → (o : Option Overload) → option_map overload_term b.overload ≡ o → IsForOne list (opening ∷ outer) o
-  opened opening outer b h (Some v) e = record { opening = opening; outer = outer; around_is = refl; target = b.target; opens = h.opens; there = sym h.overload_is ∙ e }
+  opened opening outer b h (Some v) e = record { opening = opening; outer = outer; around_is = refl; target = b.target.value; opens = h.opens; there = sym h.overload_is ∙ e }
   opened opening outer b h None e = λ v f.
       let same : opening ≡ f.opening = (let e : opening ∷ outer ≡ f.opening ∷ f.outer = f.around_is in cc) in
-      let one : b.target ≡ f.target = one_target f.opening b.target f.target (subst (λ (l : Line). Opens l b.target) same h.opens) f.opens in
+      let one : b.target.value ≡ f.target = one_target f.opening b.target.value f.target (subst (λ (l : Line). Opens l b.target.value) same h.opens) f.opens in
       absurd (let bad : None ≡ Some v = sym e ∙ h.overload_is ∙ ap (overload_of list) one ∙ f.there in cc)
 
   -- of the line at the place

@@ -1,13 +1,15 @@
 -- What is around lines after each sort of line.
-use Rattle.std.proofs.Common.{◌≡◌, ℕ, zero, suc, ◌+◌, ◌<◌, Bool, true, false, List, [], ◌∷◌, ◌++◌, length, take, slice_get, get_or, Option, Some, None, refl, sym, ◌∙◌, ap, subst, arith, if◌then◌else◌, nat_lt, ltb-true, ltb-false, length-append, ◌⊎◌, inl, inr}
+use Rattle.std.proofs.Common.{◌≡◌, ℕ, zero, suc, ◌+◌, ◌<◌, Bool, true, false, List, [], ◌∷◌, ◌++◌, length, take, slice_get, get_or, Option, Some, None, option_map, refl, sym, ◌∙◌, ap, subst, arith, if◌then◌else◌, nat_lt, ltb-true, ltb-false, length-append, ◌⊎◌, inl, inr}
 use Rattle.std.proofs.lemmas.List.{get_or_append_left, get_or_push}
+use Rattle.std.proofs.lemmas.Option.{same_Some, slice_get-get_or, slice_get-map}
 use Rattle.widl_lines.specs.declared.grammar.Terminal.{Terminal}
 use Rattle.widl_lines.specs.declared.grammar.Terminal.TheVariants as terminal
+use Rattle.widl_lines.specs.declared.reading.LineWords.{LineWords}
 use Rattle.widl_lines.specs.Blocks.{first_word}
 use Rattle.widl_lines.specs.TextBreaks.{Line}
 use Rattle.widl_script.specs.declared.rules.standings.Around.{Around}
 use Rattle.widl_script.specs.Standings.{around_after, function_around, is_function_word, opens_function}
-use Rattle.widl_script.specs.Surroundings.{around_at, open_after, AreAround, IsAround, IsFunction}
+use Rattle.widl_script.specs.Surroundings.{around_at, first_words, open_after, plain_line, plain_lines, AreAround, IsAround, IsFunction}
 
 -- one line further
 next_open : (around : List Line) (lines : List Line) (place : ℕ) (line : Line) → slice_get lines place ≡ Some line →
@@ -54,6 +56,24 @@ pub at_place : {X : Type 0} (xs : List X) (k : ℕ) (x : X) → k < length xs �
 at_place [] k x low e = absurd (omega (arith, low))
 at_place (y ∷ xs) zero x low e = ap Some (sym e)
 at_place (y ∷ xs) (suc k) x low e = at_place xs k x (omega (arith, low)) e
+
+-- below the end there is a line
+pub some_line : (lines : List Line) (k : ℕ) → k < length lines → (line : Line) × (slice_get lines k ≡ Some line)
+some_line [] k low = absurd (omega (arith, low))
+some_line (line ∷ lines) zero low = (line, refl)
+some_line (line ∷ lines) (suc k) low = some_line lines k (omega (arith, low))
+
+-- the word of a place is that with which its line begins
+pub word_at : (lines : List Line) (words : List Terminal) (k : ℕ) (line : Line) (d : Terminal) → words ≡ first_words lines → k < length words → slice_get lines k ≡ Some line → get_or words k d ≡ first_word line.words
+word_at lines words k line d all low is =
+    same_Some (get_or words k d) (first_word line.words)
+    (sym (slice_get-get_or words k d low) ∙ ap (λ ws. slice_get ws k) all ∙ slice_get-map (λ (l : Line). first_word l.words) lines k ∙ ap (option_map (λ (l : Line). first_word l.words)) is)
+
+-- the same of the program's lines
+pub word_of : (raw : List LineWords) (words : List Terminal) (k : ℕ) (line : LineWords) (d : Terminal) → words ≡ first_words (plain_lines raw) → length words ≡ length raw → k < length raw → line ≡ get_or raw k line →
+    get_or words k d ≡ first_word (plain_line line).words
+word_of raw words k line d all count low there =
+    word_at (plain_lines raw) words k (plain_line line) d all (omega (arith, low, count)) (slice_get-map plain_line raw k ∙ ap (option_map plain_line) (at_place raw k line low there))
 
 -- one more
 pub pushed : (lines : List Line) (all : List Around) (a : Around) (count : ℕ) → length all ≡ count → AreAround lines all → IsAround lines count a (around_at lines count) → AreAround lines (all ++ a ∷ [])

@@ -51,8 +51,8 @@ overload_term o = record { space = space_term o.space.now; signature = sig_term 
 
 -- the line opens a block for the target, whose overload is this one if there is one
 pub record IsOpened (list : DefsTerm) (line : Line) (b : Opening) : Type 0 where
-  pub opens : Opens line b.target
-  pub overload_is : option_map overload_term b.overload ≡ overload_of list b.target
+  pub opens : Opens line b.target.value
+  pub overload_is : option_map overload_term b.overload ≡ overload_of list b.target.value
 
 abbrev pub IsOpening : DefsTerm → Line → Option Opening → Type 0
 IsOpening list line o = MatchOption o ((t : Target) → Opens line t → ⊥) (IsOpened list line)

@@ -3,6 +3,7 @@ use Rattle.std.specs.Prelude.{◌≡◌, ℕ, ◌<◌, Bool, ◌&&◌, nat_eq, b
 use Rattle.std.specs.Borrow.{Bor}
 use Rattle.std.specs.List.{list_any}
 use Rattle.widl_lines.specs.declared.reading.LineWords.{LineWords}
+use Rattle.widl_lines.specs.declared.grammar.Terminal.{Terminal}
 use Rattle.widl_lines.specs.declared.words.Word.{Word}
 use Rattle.widl_lines.specs.Blocks.{first_word}
 use Rattle.widl_lines.specs.LineTerms.{line_of}
@@ -31,6 +32,10 @@ word_list (Some word) = lexeme_of word.now ∷ []
 -- one of the pairs is this number with this text
 abbrev pub has_pair : List (ℕ × Bor (List ℕ)) → ℕ → List ℕ → Bool
 has_pair keys number text = list_any (λ key. nat_eq number key.0 && bytes_eq text key.1.now) keys
+
+-- the first word of each line
+abbrev pub first_words : List Line → List Terminal
+first_words lines = map (λ (line : Line). first_word line.words) lines
 
 -- what is open after these lines
 abbrev pub open_after : List Line → List Line → List Line

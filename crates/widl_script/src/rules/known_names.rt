@@ -3,10 +3,11 @@
 ghost use Rattle.std.specs.Prelude.{◌≡◌, ◌&&◌, ◌||◌, [], bytes_eq, length, List, nat_eq, IfOk, OnOk, Some, ℕ, option_map, if◌then◌else◌};
 ghost use Rattle.std.specs.Option.{option_eq};
 ghost use Rattle.widl_idl.specs.DefinitionTerms.{defs_term, DefsTerm};
+ghost use Rattle.widl_lines.specs.Blocks.{first_word};
 ghost use Rattle.widl_lines.specs.TextBreaks.{Line};
 ghost use Rattle.widl_script.specs.Names.{bound_in, globals_of, has_name, is_known, locals_of, parameters_in};
 ghost use Rattle.widl_script.specs.Standings.{function_around, standings};
-ghost use Rattle.widl_script.specs.Surroundings.{bound_by_global, has_key, has_pair, plain_line, plain_lines, word_list, AreAround, HasLocals, HasParameters, IsFunction};
+ghost use Rattle.widl_script.specs.Surroundings.{bound_by_global, first_words, has_key, has_pair, plain_line, plain_lines, word_list, AreAround, HasLocals, HasParameters, IsFunction};
 ghost use Rattle.widl_script.specs.KnownNames.{Knows};
 ghost use Rattle.widl_script.specs.Words.{is_name};
 
@@ -16,7 +17,7 @@ use crate::rules::standings::Around;
 use indexmap::IndexSet;
 use std::alloc::{AllocError, Global};
 use widl_idl::Defs;
-use widl_lines::{LineWords, Word};
+use widl_lines::{LineWords, Terminal, Word};
 
 /// The names that a script binds, and those of the interfaces and namespaces.
 #[derive(Drop)]
@@ -57,14 +58,17 @@ fn add_parameter<'s>(
     Ok(())
 }
 
+/// Adds the parameters of the line at the place, which begins with the word.
 fn add_parameters<'s>(
     names: &mut IndexSet<(usize, &'s [u8])>,
     place: usize,
+    word: Terminal,
     line: &LineWords<'s>,
 ) -> Result<(), AllocError>
+    requires { word ≡ first_word (plain_line line.now).words }
     ensures { OnOk result ((number : ℕ) (text : List ℕ) → has_pair names.new.keys number text ≡ (has_pair names.old.keys number text || (nat_eq number place && has_name (parameters_in (plain_line line.now)) text))) }
 {
-    let words = parameter_words(line);
+    let words = parameter_words(word, line);
     'words: for word in words {
         add_parameter(names, place, word)?;
     }
@@ -75,31 +79,36 @@ fn add_parameters<'s>(
 fn parameters_of<'s>(
     alloc: Global,
     lines: &[LineWords<'s>],
+    words: &[Terminal],
 ) -> Result<IndexSet<(usize, &'s [u8])>, AllocError>
+    requires words { words.now ≡ first_words (plain_lines lines.now) }
+    requires count { length words.now ≡ length lines.now }
     ensures { IfOk result (λ names. HasParameters (plain_lines lines.now) names.keys) }
 {
     let mut names = IndexSet::new(alloc);
     'lines: for (place, line) in lines.iter().enumerate() {
-        add_parameters(&mut names, place, line)?;
+        add_parameters(&mut names, place, words[place], line)?;
     }
     Ok(names)
 }
 
-/// Binds the name of a line in the function that the line of this number opens.
+/// Binds the name of a line, which begins with the word, in the function that the line of this number opens.
 fn add_local<'s>(
     names: &mut IndexSet<(u32, &'s [u8])>,
     function: Option<u32>,
+    word: Terminal,
     line: &LineWords<'s>,
 ) -> Result<(), AllocError>
+    requires { word ≡ first_word (plain_line line.now).words }
     ensures { OnOk result ((number : ℕ) (text : List ℕ) → has_pair names.new.keys number text ≡ (has_pair names.old.keys number text || has_name (if option_eq nat_eq (Some number) function then bound_in (plain_line line.now) else []) text)) }
 {
     let Some(number) = function else {
         return Ok(());
     };
-    let Some(word) = bound_word(line) else {
+    let Some(bound) = bound_word(word, line) else {
         return Ok(());
     };
-    names.insert((number, word.text))?;
+    names.insert((number, bound.text))?;
     Ok(())
 }
 
@@ -107,8 +116,11 @@ fn add_local<'s>(
 fn locals_of<'s>(
     alloc: Global,
     lines: &[LineWords<'s>],
+    words: &[Terminal],
     all: &[Around],
 ) -> Result<IndexSet<(u32, &'s [u8])>, AllocError>
+    requires words { words.now ≡ first_words (plain_lines lines.now) }
+    requires words_count { length words.now ≡ length lines.now }
     requires each { AreAround (plain_lines lines.now) all.now }
     requires count { length all.now ≡ length lines.now }
     ensures { IfOk result (λ names. HasLocals (plain_lines lines.now) names.keys) }
@@ -116,7 +128,7 @@ fn locals_of<'s>(
     let mut names = IndexSet::new(alloc);
     'lines: for (place, line) in lines.iter().enumerate() {
         let function = function_number(lines, all[place].function);
-        add_local(&mut names, function, line)?;
+        add_local(&mut names, function, words[place], line)?;
     }
     Ok(names)
 }
@@ -131,19 +143,21 @@ fn add_word<'s>(names: &mut IndexSet<&'s [u8]>, word: Option<&Word<'s>>) -> Resu
     Ok(())
 }
 
-/// Binds the names of a line that stands in no function.
+/// Binds the names of a line, which begins with the word, that stands in no function.
 fn add_globals<'s>(
     names: &mut IndexSet<&'s [u8]>,
     function: Option<usize>,
+    word: Terminal,
     line: &LineWords<'s>,
 ) -> Result<(), AllocError>
+    requires { word ≡ first_word (plain_line line.now).words }
     ensures { OnOk result ((lines : List Line) (around : List Line) (text : List ℕ) → IsFunction lines function around → has_key names.new.keys text ≡ (has_key names.old.keys text || has_name (bound_by_global (record { around = around; line = plain_line line.now })) text)) }
 {
     if function.is_some() {
         return Ok(());
     }
-    add_word(names, bound_word(line))?;
-    add_word(names, function_name(line))?;
+    add_word(names, bound_word(word, line))?;
+    add_word(names, function_name(word, line))?;
     Ok(())
 }
 
@@ -151,15 +165,18 @@ fn add_globals<'s>(
 fn globals_of<'s>(
     alloc: Global,
     lines: &[LineWords<'s>],
+    words: &[Terminal],
     all: &[Around],
 ) -> Result<IndexSet<&'s [u8]>, AllocError>
+    requires words { words.now ≡ first_words (plain_lines lines.now) }
+    requires words_count { length words.now ≡ length lines.now }
     requires each { AreAround (plain_lines lines.now) all.now }
     requires count { length all.now ≡ length lines.now }
     ensures { IfOk result (λ names. (text : List ℕ) → has_key names.keys text ≡ has_name (globals_of (standings (plain_lines lines.now))) text) }
 {
     let mut names = IndexSet::new(alloc);
     'lines: for (place, line) in lines.iter().enumerate() {
-        add_globals(&mut names, all[place].function, line)?;
+        add_globals(&mut names, all[place].function, words[place], line)?;
     }
     Ok(names)
 }
@@ -169,17 +186,20 @@ impl<'s, 'd> KnownNames<'s, 'd> {
     pub(crate) fn of(
         alloc: Global,
         lines: &[LineWords<'s>],
+        words: &[Terminal],
         all: &[Around],
         list: &'d Defs,
     ) -> Result<KnownNames<'s, 'd>, AllocError>
+        requires words { words.now ≡ first_words (plain_lines lines.now) }
+        requires words_count { length words.now ≡ length lines.now }
         requires each { AreAround (plain_lines lines.now) all.now }
         requires count { length all.now ≡ length lines.now }
         ensures { IfOk result (Knows (defs_term list.now) (plain_lines lines.now)) }
     {
         Ok(KnownNames {
-            parameters: parameters_of(alloc, lines)?,
-            locals: locals_of(alloc, lines, all)?,
-            globals: globals_of(alloc, lines, all)?,
+            parameters: parameters_of(alloc, lines, words)?,
+            locals: locals_of(alloc, lines, words, all)?,
+            globals: globals_of(alloc, lines, words, all)?,
             owners: owner_names(alloc, list)?,
         })
     }

@@ -8,34 +8,37 @@ ghost use Rattle.widl_script.specs.BrokenRules.{BreaksNames};
 ghost use Rattle.widl_script.specs.LeastBreak.{place_key, IsLeastBreak};
 ghost use Rattle.widl_script.specs.Scripts.{HasRules};
 ghost use Rattle.widl_script.specs.Standings.{standings};
-ghost use Rattle.widl_script.specs.Surroundings.{plain_lines, AreAround};
+ghost use Rattle.widl_script.specs.Surroundings.{first_words, plain_lines, AreAround};
 
 use crate::rules::blocks::first_block_break;
 use crate::rules::places::first_of;
 use crate::rules::placing::first_misplaced_word;
 use crate::rules::repeated_functions::first_repeated_function;
 use crate::rules::repeated_parameters::first_repeated_parameter;
-use crate::rules::standings::{Around, surroundings};
+use crate::rules::standings::{Around, first_words, surroundings};
 use crate::rules::unknown_names::first_unknown_name;
 use std::alloc::{AllocError, Global};
 use widl_idl::Defs;
-use widl_lines::{LineWords, ScriptPlace};
+use widl_lines::{LineWords, ScriptPlace, Terminal};
 
 /// The first of the rules on names and places, 5, 7 and 8, that lines break.
 fn first_break_of_names(
     alloc: Global,
     lines: &[LineWords<'_>],
+    words: &[Terminal],
     all: &[Around],
     list: &Defs,
 ) -> Result<Option<ScriptPlace>, AllocError>
+    requires words { words.now ≡ first_words (plain_lines lines.now) }
+    requires words_count { length words.now ≡ length lines.now }
     requires each { AreAround (plain_lines lines.now) all.now }
     requires count { length all.now ≡ length lines.now }
     ensures { IfOk result (IsFirst place_key (BreaksNames (defs_term list.now) (standings (plain_lines lines.now)))) }
 {
-    let unknown = first_unknown_name(alloc, lines, all, list)?;
-    let misplaced = first_misplaced_word(lines, all);
-    let function = first_repeated_function(alloc, lines, list)?;
-    let parameter = first_repeated_parameter(alloc, lines)?;
+    let unknown = first_unknown_name(alloc, lines, words, all, list)?;
+    let misplaced = first_misplaced_word(lines, words, all);
+    let function = first_repeated_function(alloc, lines, words, list)?;
+    let parameter = first_repeated_parameter(alloc, lines, words)?;
     let first = first_of(unknown, misplaced);
     let first = first_of(first, function);
     Ok(first_of(first, parameter))
@@ -52,8 +55,9 @@ pub(crate) fn least_break(
     requires formed { TextBreak 1 [] (plain_lines lines.now) None }
     ensures { IfOk result (IsLeastBreak (defs_term list.now) (plain_lines lines.now)) }
 {
-    let around = surroundings(alloc, lines)?;
-    let names = first_break_of_names(alloc, lines, &around, list)?;
-    let blocks = first_block_break(alloc, list, lines, &around)?;
+    let words = first_words(alloc, lines)?;
+    let around = surroundings(alloc, lines, &words)?;
+    let names = first_break_of_names(alloc, lines, &words, &around, list)?;
+    let blocks = first_block_break(alloc, list, lines, &words, &around)?;
     Ok(first_of(names, blocks))
 }

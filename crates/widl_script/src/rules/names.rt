@@ -1,13 +1,13 @@
 //! Which words are names, and what the lines of a script name.
 
 ghost use Rattle.std.specs.Prelude.{◌≡◌, [], drop, map, if◌then◌else◌};
+ghost use Rattle.widl_lines.specs.Blocks.{first_word};
 ghost use Rattle.widl_lines.specs.WordTerms.{lexeme_of};
 ghost use Rattle.widl_script.specs.Names.{bound_in, function_name};
 ghost use Rattle.widl_script.specs.Standings.{opens_function, second_word};
 ghost use Rattle.widl_script.specs.Surroundings.{plain_line, word_list};
 ghost use Rattle.widl_script.specs.Words.{is_name};
 
-use crate::rules::standings::first_word;
 use widl_lines::{LineWords, Terminal, Word};
 
 /// Whether a terminal is a name: the words that only targets and step lines use are names too.
@@ -49,31 +49,35 @@ fn second_word<'l, 's>(line: &'l LineWords<'s>) -> Option<&'l Word<'s>>
     line.words.get(1)
 }
 
-/// The name that a line binds by `let` or `catch`.
-pub(crate) fn bound_word<'l, 's>(line: &'l LineWords<'s>) -> Option<&'l Word<'s>>
+/// The name that a line binds by `let` or `catch`, which begins with the word.
+pub(crate) fn bound_word<'l, 's>(word: Terminal, line: &'l LineWords<'s>) -> Option<&'l Word<'s>>
+    requires { word ≡ first_word (plain_line line.now).words }
     ensures { word_list result ≡ bound_in (plain_line line.now) }
 {
-    match first_word(line) {
+    match word {
         Terminal::Let | Terminal::Catch => second_word(line),
         _ => None,
     }
 }
 
-/// The name of the function that a line opens.
-pub(crate) fn function_name<'l, 's>(line: &'l LineWords<'s>) -> Option<&'l Word<'s>>
+/// The name of the function that a line opens, which begins with the word.
+pub(crate) fn function_name<'l, 's>(word: Terminal, line: &'l LineWords<'s>) -> Option<&'l Word<'s>>
+    requires { word ≡ first_word (plain_line line.now).words }
     ensures { word_list result ≡ function_name (plain_line line.now) }
 {
-    match first_word(line) {
+    match word {
         Terminal::Function => second_word(line),
         _ => None,
     }
 }
 
-/// The words behind the name of the function that a line opens: the parameters, with what stands between them.
-pub(crate) fn parameter_words<'l, 's>(line: &'l LineWords<'s>) -> &'l [Word<'s>]
+/// The words behind the name of the function that a line opens, which begins with the word: the parameters, with what
+/// stands between them.
+pub(crate) fn parameter_words<'l, 's>(word: Terminal, line: &'l LineWords<'s>) -> &'l [Word<'s>]
+    requires { word ≡ first_word (plain_line line.now).words }
     ensures { map lexeme_of result.now ≡ (if opens_function (plain_line line.now) then drop 2 (plain_line line.now).words else []) }
 {
-    match first_word(line) {
+    match word {
         Terminal::Function => words_behind(line, 2),
         _ => &[],
     }

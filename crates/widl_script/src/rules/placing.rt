@@ -1,12 +1,13 @@
 //! Where functions, steps blocks and `return` may stand.
 
 ghost use Rattle.std.specs.Prelude.{◌≡◌, ◌<◌, ℕ, length, Contains, List};
+ghost use Rattle.widl_lines.specs.Blocks.{first_word};
 ghost use Rattle.widl_first.specs.First.{IsFirst};
 ghost use Rattle.widl_lines.specs.TextBreaks.{Line};
 ghost use Rattle.widl_script.specs.LeastBreak.{place_key};
 ghost use Rattle.widl_script.specs.Placing.{is_misplaced, misplaced_in, misplaced_words};
 ghost use Rattle.widl_script.specs.Standings.{is_in_steps, standings};
-ghost use Rattle.widl_script.specs.Surroundings.{plain_line, plain_lines, AreAround, IsAround};
+ghost use Rattle.widl_script.specs.Surroundings.{first_words, plain_line, plain_lines, AreAround, IsAround};
 
 use crate::rules::places::{first_of, place_at};
 use crate::rules::standings::{Around, first_word};
@@ -36,15 +37,17 @@ fn is_misplaced(lines: &[LineWords<'_>], around: Around, word: Terminal) -> bool
     }
 }
 
-/// What a line breaks.
+/// What a line breaks that begins with the word.
 fn misplaced_in(
     lines: &[LineWords<'_>],
     around: Around,
+    word: Terminal,
     line: &LineWords<'_>,
 ) -> Option<ScriptPlace>
+    requires { word ≡ first_word (plain_line line.now).words }
     ensures { (limit : ℕ) (outer : List Line) → IsAround (plain_lines lines.now) limit around outer → IsFirst place_key (Contains (misplaced_in (record { around = outer; line = plain_line line.now }))) result }
 {
-    if is_misplaced(lines, around, first_word(line)) {
+    if is_misplaced(lines, around, word) {
         place_at(7, line, 0)
     } else {
         None
@@ -52,14 +55,20 @@ fn misplaced_in(
 }
 
 /// Rule 7: the first `function` or `steps` in a block, or `return` outside functions.
-pub(crate) fn first_misplaced_word(lines: &[LineWords<'_>], all: &[Around]) -> Option<ScriptPlace>
+pub(crate) fn first_misplaced_word(
+    lines: &[LineWords<'_>],
+    words: &[Terminal],
+    all: &[Around],
+) -> Option<ScriptPlace>
+    requires words { words.now ≡ first_words (plain_lines lines.now) }
+    requires words_count { length words.now ≡ length lines.now }
     requires each { AreAround (plain_lines lines.now) all.now }
     requires count { length all.now ≡ length lines.now }
     ensures { IsFirst place_key (Contains (misplaced_words (standings (plain_lines lines.now)))) result }
 {
     let mut first = None;
     'lines: for (place, line) in lines.iter().enumerate() {
-        first = first_of(first, misplaced_in(lines, all[place], line));
+        first = first_of(first, misplaced_in(lines, all[place], words[place], line));
     }
     first
 }

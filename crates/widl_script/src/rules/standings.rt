@@ -4,7 +4,7 @@ ghost use Rattle.std.specs.Prelude.{◌≡◌, ◌<◌, length, slice_get, List,
 ghost use Rattle.widl_lines.specs.Blocks.{first_word};
 ghost use Rattle.widl_lines.specs.TextBreaks.{Line};
 ghost use Rattle.widl_script.specs.Standings.{around_after};
-ghost use Rattle.widl_script.specs.Surroundings.{around_at, plain_line, plain_lines, AreAround, IsAround};
+ghost use Rattle.widl_script.specs.Surroundings.{around_at, first_words, plain_line, plain_lines, AreAround, IsAround};
 
 use std::alloc::{AllocError, Global};
 use widl_lines::{LineWords, Terminal};
@@ -61,19 +61,38 @@ impl Around {
     }
 }
 
-/// What is around each of the lines.
+/// The first word of each of the lines. The rules walk over this list: it is short, and the words of a line lie
+/// far from those of another.
+pub(crate) fn first_words(
+    alloc: Global,
+    lines: &[LineWords<'_>],
+) -> Result<Vec<Terminal>, AllocError>
+    ensures words { IfOk result (λ words. words.items ≡ first_words (plain_lines lines.now)) }
+    ensures count { IfOk result (λ words. length words.items ≡ length lines.now) }
+{
+    let mut words = Vec::with_capacity(alloc, lines.len())?;
+    'lines: for line in lines {
+        words.push(first_word(line))?;
+    }
+    Ok(words)
+}
+
+/// What is around each of the lines, which begin with these words.
 pub(crate) fn surroundings(
     alloc: Global,
     lines: &[LineWords<'_>],
+    words: &[Terminal],
 ) -> Result<Vec<Around>, AllocError>
+    requires words { words.now ≡ first_words (plain_lines lines.now) }
+    requires count { length words.now ≡ length lines.now }
     ensures each { IfOk result (λ all. AreAround (plain_lines lines.now) all.items) }
     ensures count { IfOk result (λ all. length all.items ≡ length lines.now) }
 {
     let mut all = Vec::with_capacity(alloc, lines.len())?;
     let mut around = Around::NOWHERE;
-    'lines: for (place, line) in lines.iter().enumerate() {
+    'lines: for (place, word) in words.iter().enumerate() {
         all.push(around)?;
-        around = around.after(&all, place, first_word(line));
+        around = around.after(&all, place, *word);
     }
     Ok(all)
 }

@@ -3,17 +3,17 @@
 ghost use Rattle.std.specs.Prelude.{◌≡◌, length, IfOk, List};
 ghost use Rattle.widl_first.specs.First.{IsFirst};
 ghost use Rattle.widl_idl.specs.DefinitionTerms.{DefsTerm};
+ghost use Rattle.widl_lines.specs.Blocks.{first_word};
 ghost use Rattle.widl_lines.specs.TextBreaks.{Line};
 ghost use Rattle.widl_script.specs.FormedLines.{AreFormed, IsFormed};
 ghost use Rattle.widl_script.specs.LeastBreak.{place_key};
 ghost use Rattle.widl_script.specs.Lookups.{AreNamespaces, AreOpenings, IsOpening, LacksIn};
 ghost use Rattle.widl_script.specs.Standings.{standings};
-ghost use Rattle.widl_script.specs.Surroundings.{plain_line, plain_lines};
+ghost use Rattle.widl_script.specs.Surroundings.{first_words, plain_line, plain_lines};
 ghost use Rattle.widl_script.specs.Targets.{LacksTarget};
 
 use crate::rules::overloads::{Namespaces, Overload};
 use crate::rules::places::{first_of, place_at};
-use crate::rules::standings::first_word;
 use crate::rules::step_lines::target_of;
 use std::alloc::{AllocError, Global};
 use widl_lines::{LineWords, ScriptPlace, Terminal};
@@ -23,24 +23,29 @@ use widl_script_tree::Target;
 #[derive(Drop)]
 pub(crate) struct Opening<'d> {
     /// What the block is for.
-    pub(crate) target: Target,
+    pub(crate) target: Box<Target>,
     /// The overload that the target names, where it is there.
     pub(crate) overload: Option<Overload<'d>>,
 }
 
-/// What a line says, if it opens a steps block.
+/// What a line says, which begins with the word, if it opens a steps block.
 fn opening_of<'d>(
     alloc: Global,
     namespaces: &Namespaces<'d>,
+    word: Terminal,
     line: &LineWords<'_>,
 ) -> Result<Option<Opening<'d>>, AllocError>
+    requires { word ≡ first_word (plain_line line.now).words }
     ensures { IfOk result (λ opening. (list : DefsTerm) (around : List Line) → AreNamespaces list namespaces.now → IsFormed around (plain_line line.now) → IsOpening list (plain_line line.now) opening) }
 {
-    match first_word(line) {
+    match word {
         Terminal::Steps => {
             let target = target_of(alloc, line)?;
             let overload = namespaces.overload(&target);
-            Ok(Some(Opening { target, overload }))
+            Ok(Some(Opening {
+                target: Box::new(alloc, target)?,
+                overload,
+            }))
         }
         _ => Ok(None),
     }
@@ -51,14 +56,17 @@ pub(crate) fn openings<'d>(
     alloc: Global,
     namespaces: &Namespaces<'d>,
     lines: &[LineWords<'_>],
+    words: &[Terminal],
 ) -> Result<Vec<Option<Opening<'d>>>, AllocError>
-    requires { AreFormed (plain_lines lines.now) }
+    requires formed { AreFormed (plain_lines lines.now) }
+    requires words { words.now ≡ first_words (plain_lines lines.now) }
+    requires words_count { length words.now ≡ length lines.now }
     ensures each { IfOk result (λ all. (list : DefsTerm) → AreNamespaces list namespaces.now → AreOpenings list (plain_lines lines.now) all.items) }
     ensures count { IfOk result (λ all. length all.items ≡ length lines.now) }
 {
     let mut all = Vec::with_capacity(alloc, lines.len())?;
-    'lines: for line in lines {
-        let opening = opening_of(alloc, namespaces, line)?;
+    'lines: for (place, line) in lines.iter().enumerate() {
+        let opening = opening_of(alloc, namespaces, words[place], line)?;
         all.push(opening)?;
     }
     Ok(all)

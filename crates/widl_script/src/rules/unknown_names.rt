@@ -11,7 +11,7 @@ ghost use Rattle.widl_script.specs.LeastBreak.{place_key};
 ghost use Rattle.widl_script.specs.KnownNames.{place_unless, unknown_words, used_where, InScope, Knows};
 ghost use Rattle.widl_script.specs.Names.{is_dot, is_known, names_in, unknown_in, unknown_names, used_behind};
 ghost use Rattle.widl_script.specs.Standings.{function_around, places_of, standings};
-ghost use Rattle.widl_script.specs.Surroundings.{plain_line, plain_lines, AreAround, IsAround};
+ghost use Rattle.widl_script.specs.Surroundings.{first_words, plain_line, plain_lines, AreAround, IsAround};
 ghost use Rattle.widl_script.specs.Words.{is_name};
 
 use crate::rules::known_names::KnownNames;
@@ -127,14 +127,17 @@ fn first_unknown_in<'s>(
 pub(crate) fn first_unknown_name(
     alloc: Global,
     lines: &[LineWords<'_>],
+    words: &[Terminal],
     all: &[Around],
     list: &Defs,
 ) -> Result<Option<ScriptPlace>, AllocError>
+    requires words { words.now ≡ first_words (plain_lines lines.now) }
+    requires words_count { length words.now ≡ length lines.now }
     requires each { AreAround (plain_lines lines.now) all.now }
     requires count { length all.now ≡ length lines.now }
     ensures { IfOk result (λ first. IsFirst place_key (Contains (unknown_names (defs_term list.now) (standings (plain_lines lines.now)))) first) }
 {
-    let known = KnownNames::of(alloc, lines, all, list)?;
+    let known = KnownNames::of(alloc, lines, words, all, list)?;
     let mut room = Vec::new(alloc);
     let mut first = None;
     'lines: for (place, line) in lines.iter().enumerate() {

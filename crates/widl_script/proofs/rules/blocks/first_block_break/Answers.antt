@@ -11,8 +11,8 @@ use Rattle.widl_script.proofs.LeastBreaks.{First, one_more}
 use Rattle.widl_script.proofs.StepWalks.{each_rule}
 use Rattle.widl_script.proofs.rules.blocks.first_block_break.Goals as goal
 
-pub openings-requires : goal.openings-requires
-openings-requires c = formed (plain_lines c.args.lines.now) c.requires.formed
+pub openings-requires-clause-formed : goal.openings-requires-clause-formed
+openings-requires-clause-formed c = formed (plain_lines c.args.lines.now) c.requires.formed
 
 pub first_step_break-requires-clause-formed : goal.first_step_break-requires-clause-formed
 first_step_break-requires-clause-formed c = formed (plain_lines c.args.lines.now) c.requires.formed

@@ -8,7 +8,7 @@ use Rattle.widl_script.proofs.rules.known_names.add_local.Goals as goal
 
 pub returns : goal.returns
 returns c = λ number text.
-    let word = c.in-Some-bound_word.word.now in
+    let word = c.in-Some-bound_word.bound.now in
     let function = c.in-Some.number in
     let old = has_pair c.args.names.now.keys number text in
     c.in_ok-insert.ensures.updates.0 (number, record { ref_ptr = (0, 0); now = text }) ∙ pair_turned number function text word.text.now old

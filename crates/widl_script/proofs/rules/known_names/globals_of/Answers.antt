@@ -6,8 +6,11 @@ use Rattle.widl_script.specs.Standings.{Standing, standings}
 use Rattle.widl_script.specs.Surroundings.{around_at, bound_by_global, plain_line, plain_lines}
 use Rattle.widl_script.proofs.BoundWords.{all_globals, names_next}
 use Rattle.widl_script.proofs.FirstPlaces.{taken_whole}
-use Rattle.widl_script.proofs.Surrounding.{at_place}
+use Rattle.widl_script.proofs.Surrounding.{at_place, word_of}
 use Rattle.widl_script.proofs.rules.known_names.globals_of.Goals as goal
+
+pub add_globals-requires : goal.add_globals-requires
+add_globals-requires c = word_of c.args.lines.now c.args.words.now c.lines.place c.index-lines-place.result _ c.requires.words c.requires.words_count c.lines-test.true c.index-lines-place.is
 
 pub lines-preserved : goal.lines-preserved
 lines-preserved c = λ text.

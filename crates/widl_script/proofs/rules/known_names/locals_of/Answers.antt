@@ -7,8 +7,11 @@ use Rattle.widl_script.specs.Standings.{Standing, function_around, standings}
 use Rattle.widl_script.specs.Surroundings.{around_at, plain_line, plain_lines}
 use Rattle.widl_script.proofs.BoundWords.{names_next, same_function}
 use Rattle.widl_script.proofs.FirstPlaces.{taken_whole}
-use Rattle.widl_script.proofs.Surrounding.{at_place}
+use Rattle.widl_script.proofs.Surrounding.{at_place, word_of}
 use Rattle.widl_script.proofs.rules.known_names.locals_of.Goals as goal
+
+pub add_local-requires : goal.add_local-requires
+add_local-requires c = word_of c.args.lines.now c.args.words.now c.lines.place c.index-lines-place.result _ c.requires.words c.requires.words_count c.lines-test.true c.index-lines-place.is
 
 pub lines-preserved : goal.lines-preserved
 lines-preserved c = λ function text.

@@ -5,8 +5,11 @@ use Rattle.widl_lines.specs.TextBreaks.{Line}
 use Rattle.widl_script.specs.Names.{has_name, parameters_in}
 use Rattle.widl_script.specs.Surroundings.{plain_line, plain_lines}
 use Rattle.widl_script.proofs.BoundWords.{next_opening}
-use Rattle.widl_script.proofs.Surrounding.{at_place}
+use Rattle.widl_script.proofs.Surrounding.{at_place, word_of}
 use Rattle.widl_script.proofs.rules.known_names.parameters_of.Goals as goal
+
+pub add_parameters-requires : goal.add_parameters-requires
+add_parameters-requires c = word_of c.args.lines.now c.args.words.now c.lines.place c.index-lines-place.result _ c.requires.words c.requires.count c.lines-test.true c.index-lines-place.is
 
 pub lines-preserved : goal.lines-preserved
 lines-preserved c = λ place opening text at.

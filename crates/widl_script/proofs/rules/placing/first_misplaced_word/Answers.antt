@@ -5,8 +5,11 @@ use Rattle.widl_script.specs.Placing.{misplaced_in}
 use Rattle.widl_script.specs.Standings.{standings}
 use Rattle.widl_script.specs.Surroundings.{around_at, plain_line, plain_lines}
 use Rattle.widl_script.proofs.FirstPlaces.{Firsts, next_first, whole_first}
-use Rattle.widl_script.proofs.Surrounding.{at_place}
+use Rattle.widl_script.proofs.Surrounding.{at_place, word_of}
 use Rattle.widl_script.proofs.rules.placing.first_misplaced_word.Goals as goal
+
+pub misplaced_in-requires : goal.misplaced_in-requires
+misplaced_in-requires c = word_of c.args.lines.now c.args.words.now c.lines.place c.index-lines-place.result _ c.requires.words c.requires.words_count c.lines-test.true c.index-lines-place.is
 
 pub lines-preserved : goal.lines-preserved
 lines-preserved c =

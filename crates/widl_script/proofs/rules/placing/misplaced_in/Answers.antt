@@ -10,6 +10,6 @@ pub returns-then-is_misplaced : goal.returns-then-is_misplaced
 returns-then-is_misplaced c = λ limit outer around.
     let line = plain_line c.args.line.now in
     let yes : is_misplaced (first_word line.words) outer ≡ true =
-    ap (λ w. is_misplaced w outer) (sym c.first_word.ensures) ∙ sym (c.is_misplaced.ensures limit outer around) ∙ c.if-is_misplaced.true in
+    ap (λ w. is_misplaced w outer) (sym c.requires) ∙ sym (c.is_misplaced.ensures limit outer around) ∙ c.if-is_misplaced.true in
     subst (λ b. Firsts (if b then places_of 7 line (take 1 line.words) else []) c.place_at.result) (sym yes)
     (subst (λ r. Firsts (places_of 7 line (take 1 line.words)) r) (sym c.place_at.ensures) (head_first (place_of 7 line) line.words))

@@ -9,17 +9,20 @@ use Rattle.widl_script.specs.Surroundings.{has_key, plain_line, plain_lines}
 use Rattle.widl_script.proofs.BoundWords.{names_next}
 use Rattle.widl_script.proofs.FirstPlaces.{Firsts, lines_taken}
 use Rattle.widl_script.proofs.RepeatedNames.{name_in, next_taken}
-use Rattle.widl_script.proofs.Surrounding.{at_place}
+use Rattle.widl_script.proofs.Surrounding.{at_place, word_of}
 use Rattle.widl_script.proofs.rules.repeated_functions.first_repeated_function.Goals as goal
+
+pub repeated_in-requires : goal.repeated_in-requires
+repeated_in-requires c = word_of c.args.lines.now c.args.words.now c.lines.place c.index-lines-place.result _ c.requires.words c.requires.count c.lines-test.true c.index-lines-place.is
 
 pub lines-preserved : goal.lines-preserved
 lines-preserved c =
     let raw = c.args.lines.now in
     let lines = plain_lines raw in
     let list = defs_term c.args.list.now in
-    let k = c.lines.line-index in
-    let line = plain_line c.line-item.result in
-    let is : slice_get lines k ≡ Some line = slice_get-map plain_line raw k ∙ ap (option_map plain_line) (at_place raw k c.line-item.result c.lines-test.true c.line-item.is) in (
+    let k = c.lines.place in
+    let line = plain_line c.index-lines-place.result in
+    let is : slice_get lines k ≡ Some line = slice_get-map plain_line raw k ∙ ap (option_map plain_line) (at_place raw k c.index-lines-place.result c.lines-test.true c.index-lines-place.is) in (
       λ text. c.in_ok-repeated.ensures.functions text ∙ ap (λ b. b || has_name (function_name line) text) (c.lines.invariant.0 text) ∙ sym (names_next name_in lines k line text is),
       λ text. ap (λ keys. has_key keys text) c.in_ok-repeated.ensures.owners ∙ c.lines.invariant.1 text,
       subst (λ r. Firsts (repeated_after list [] (take (k + 1) (standings lines))) r) (sym c.first_of-first.ensures)
@@ -30,5 +33,5 @@ lines-preserved c =
 pub returns : goal.returns
 returns c =
     let lines = plain_lines c.args.lines.now in
-    let end : c.lines.line-index ≡ length lines = omega (arith, c.lines-test.false, c.lines.auto.line-index-end) ∙ sym (length-map c.args.lines.now plain_line) in
-    subst (λ script. Firsts (repeated_after (defs_term c.args.list.now) [] script) c.lines.first) (lines_taken lines c.lines.line-index end) c.lines.invariant.2
+    let end : c.lines.place ≡ length lines = omega (arith, c.lines-test.false, c.lines.auto.place-end) ∙ sym (length-map c.args.lines.now plain_line) in
+    subst (λ script. Firsts (repeated_after (defs_term c.args.list.now) [] script) c.lines.first) (lines_taken lines c.lines.place end) c.lines.invariant.2

@@ -10,6 +10,6 @@ use Rattle.widl_script.proofs.rules.repeated_functions.first_repeated_function.G
 
 abbrev pub invariant-lines : goal.invariant-lines
 invariant-lines l =
-    ((text : List ℕ) → has_key l.taken.functions.keys text ≡ has_name (names_before (plain_lines l.lines) l.line-index) text) ×
+    ((text : List ℕ) → has_key l.taken.functions.keys text ≡ has_name (names_before (plain_lines l.lines) l.place) text) ×
     ((text : List ℕ) → has_key l.taken.owners.keys text ≡ is_owner_name (defs_term l.list) text) ×
-    Firsts (repeated_after (defs_term l.list) [] (take l.line-index (standings (plain_lines l.lines)))) l.first
+    Firsts (repeated_after (defs_term l.list) [] (take l.place (standings (plain_lines l.lines)))) l.first

@@ -5,19 +5,22 @@ use Rattle.widl_script.specs.RepeatedParameters.{repeated_parameters_in}
 use Rattle.widl_script.specs.Standings.{standings}
 use Rattle.widl_script.specs.Surroundings.{plain_line, plain_lines}
 use Rattle.widl_script.proofs.FirstPlaces.{Firsts, next_first, whole_first}
-use Rattle.widl_script.proofs.Surrounding.{at_place}
+use Rattle.widl_script.proofs.Surrounding.{at_place, word_of}
 use Rattle.widl_script.proofs.rules.repeated_parameters.first_repeated_parameter.Goals as goal
+
+pub repeated_in-requires : goal.repeated_in-requires
+repeated_in-requires c = word_of c.args.lines.now c.args.words.now c.lines.place c.index-lines-place.result _ c.requires.words c.requires.count c.lines-test.true c.index-lines-place.is
 
 pub lines-preserved : goal.lines-preserved
 lines-preserved c =
     let raw = c.args.lines.now in
-    let k = c.lines.line-index in
+    let k = c.lines.place in
     subst (λ r. Firsts (flat_map repeated_parameters_in (take (k + 1) (standings (plain_lines raw)))) r) (sym c.first_of-first.ensures)
-    (next_first repeated_parameters_in (plain_lines raw) k (plain_line c.line-item.result) c.lines.first c.in_ok-repeated.repeated
-    (slice_get-map plain_line raw k ∙ ap (option_map plain_line) (at_place raw k c.line-item.result c.lines-test.true c.line-item.is)) c.lines.invariant c.in_ok-repeated.ensures)
+    (next_first repeated_parameters_in (plain_lines raw) k (plain_line c.index-lines-place.result) c.lines.first c.in_ok-repeated.repeated
+    (slice_get-map plain_line raw k ∙ ap (option_map plain_line) (at_place raw k c.index-lines-place.result c.lines-test.true c.index-lines-place.is)) c.lines.invariant c.in_ok-repeated.ensures)
 
 pub returns : goal.returns
 returns c =
     let lines = plain_lines c.args.lines.now in
-    let end : c.lines.line-index ≡ length lines = omega (arith, c.lines-test.false, c.lines.auto.line-index-end) ∙ sym (length-map c.args.lines.now plain_line) in
-    whole_first repeated_parameters_in lines c.lines.line-index c.lines.first end c.lines.invariant
+    let end : c.lines.place ≡ length lines = omega (arith, c.lines-test.false, c.lines.auto.place-end) ∙ sym (length-map c.args.lines.now plain_line) in
+    whole_first repeated_parameters_in lines c.lines.place c.lines.first end c.lines.invariant

@@ -6,4 +6,4 @@ use Rattle.widl_script.proofs.FirstPlaces.{Firsts}
 use Rattle.widl_script.proofs.rules.repeated_parameters.first_repeated_parameter.Given as goal
 
 abbrev pub invariant-lines : goal.invariant-lines
-invariant-lines l = Firsts (flat_map repeated_parameters_in (take l.line-index (standings (plain_lines l.lines)))) l.first
+invariant-lines l = Firsts (flat_map repeated_parameters_in (take l.place (standings (plain_lines l.lines)))) l.first

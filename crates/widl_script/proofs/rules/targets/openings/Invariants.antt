@@ -5,4 +5,4 @@ use Rattle.widl_script.specs.Surroundings.{plain_lines}
 use Rattle.widl_script.proofs.rules.targets.openings.Given as goal
 
 abbrev pub invariant-lines : goal.invariant-lines
-invariant-lines l = (length l.all.items ≡ l.line-index) × ((list : DefsTerm) → AreNamespaces list l.namespaces → AreOpenings list (plain_lines l.lines) l.all.items)
+invariant-lines l = (length l.all.items ≡ l.place) × ((list : DefsTerm) → AreNamespaces list l.namespaces → AreOpenings list (plain_lines l.lines) l.all.items)
