@@ -157,6 +157,7 @@ fn bound(script: &Script, then: Then) -> Move
 }
 
 /// A value is bound to a name.
+#[inline(always)]
 pub(crate) fn bind_name(
     script: &Script,
     store: &Store,

@@ -62,6 +62,7 @@ fn new_object(script: &Script, proto: Option<u32>) -> Move
 }
 
 /// The first move of an expression.
+#[inline(always)]
 pub(crate) fn evaluate(alloc: Global, script: &Script, place: u32) -> Result<Move, AllocError>
     ensures { IfOk result (λ m. (p : Program) → move_of p script.now m ≡ evaluate (expression_tree script.now place)) }
 {

@@ -58,6 +58,7 @@ pub(crate) fn reaches(end: u8) -> Move
 }
 
 /// The first move of a job.
+#[inline(always)]
 pub(crate) fn begin(alloc: Global, script: &Script, job: Job) -> Result<Move, AllocError>
     ensures { IfOk result (λ m. (p : Program) → move_of p script.now m ≡ rule p (job_of script.now job)) }
 {
@@ -96,6 +97,7 @@ fn adds(new: New, then: Made) -> Move
 }
 
 /// The move after a unit.
+#[inline(always)]
 fn unit_paid(script: &Script, unit: Unit) -> Result<Move, AllocError>
     ensures { IfOk result (λ m. (p : Program) → move_of p script.now m ≡ after_unit script.now unit) }
 {
@@ -134,6 +136,7 @@ fn ends_thrown(event: Event) -> Move
 }
 
 /// The move after a line.
+#[inline(always)]
 fn line_written(
     alloc: Global,
     script: &Script,
@@ -155,6 +158,7 @@ fn line_written(
 }
 
 /// The move after a charge was taken.
+#[inline(always)]
 pub(crate) fn charged(alloc: Global, script: &Script, charge: Charge) -> Result<Move, AllocError>
     ensures { IfOk result (λ m. (p : Program) → move_of p script.now m ≡ after_charge p script.now charge) }
 {
@@ -186,6 +190,7 @@ fn shows(value: Value) -> Move
 }
 
 /// A frame goes on with a value.
+#[inline(always)]
 fn valued(
     alloc: Global,
     script: &Script,
@@ -272,6 +277,7 @@ fn calls_with(alloc: Global, f: Value, this: Value, args: Row) -> Move
 }
 
 /// A frame goes on with a value, and passes any other end on.
+#[inline(always)]
 fn gone_on(
     alloc: Global,
     script: &Script,
@@ -325,6 +331,7 @@ fn last_line(completion: Completion) -> Move
 }
 
 /// The move after the end of another job.
+#[inline(always)]
 pub(crate) fn returned(
     alloc: Global,
     script: &Script,

@@ -30,6 +30,7 @@ fn row_done(what: RowUse, made: Values) -> Move
 }
 
 /// The next expression of a row.
+#[inline(always)]
 pub(crate) fn evaluate_row(script: &Script, what: RowUse, made: Values, row: Row) -> Move
     ensures { (p : Program) → move_of p script.now result ≡ evaluate_row (row_use_of what) made (expressions_tree script.now row) }
 {

@@ -20,6 +20,7 @@ use widl_script_tree::{Row, Script, Statement};
 use widl_value::Value;
 
 /// The next statement of a row.
+#[inline(always)]
 pub(crate) fn run_statements(script: &Script, row: Row) -> Move
     ensures { (p : Program) → move_of p script.now result ≡ run_statements (statements_tree script.now row) }
 {
@@ -34,7 +35,7 @@ pub(crate) fn run_statements(script: &Script, row: Row) -> Move
 }
 
 /// Whether the statement at a place is a steps block.
-fn is_steps(script: &Script, place: u32) -> bool
+pub(crate) fn is_steps(script: &Script, place: u32) -> bool
     ensures yes { IsTrue result → run_statement (statement_tree script.now place) ≡ nothing }
     ensures no { IsTrue (not result) → run_statement (statement_tree script.now place) ≡ Say Pay (λ r. performs (statement_tree script.now place)) }
 {
@@ -45,6 +46,7 @@ fn is_steps(script: &Script, place: u32) -> bool
 }
 
 /// The unit of a statement.
+#[inline(always)]
 pub(crate) fn run_statement(script: &Script, place: u32) -> Move
     ensures { (p : Program) → move_of p script.now result ≡ run_statement (statement_tree script.now place) }
 {
