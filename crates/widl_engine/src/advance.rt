@@ -38,6 +38,7 @@ pub(crate) fn push(frames: &mut Vec<Frame>, frame: Frame) -> Result<(), AllocErr
 }
 
 /// Lets a charge go.
+#[inline(always)]
 fn discard(_charge: Charge) {}
 
 impl Machine {

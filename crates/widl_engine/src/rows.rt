@@ -15,6 +15,7 @@ use widl_script_tree::{Row, Script};
 use widl_value::Values;
 
 /// All values of a row are there.
+#[inline(always)]
 fn row_done(what: RowUse, made: Values) -> Move
     ensures { (p : Program) (s : Tables) → move_of p s result ≡ row_done (row_use_of what) made }
 {
