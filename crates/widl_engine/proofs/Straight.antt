@@ -4,7 +4,7 @@ use Rattle.widl_dialog.specs.Dialog.{End, bind}
 use Rattle.widl_dialog.proofs.Following.{follows_same, follows_steps, follows_then}
 use Rattle.widl_script_tree.specs.declared.row.Row.{Row}
 use Rattle.widl_script_tree.specs.Rows.{rest_of}
-use Rattle.widl_script_tree.specs.Tables.{Tables, expression_tree, statement_tree, statements_tree, name_at}
+use Rattle.widl_script_tree.specs.Tables.{Tables, expression_tree, name_at}
 use Rattle.widl_script_tree.specs.Trees.{StatementTrees}
 use Rattle.widl_value.specs.declared.value.Value.{Value}
 use Rattle.widl_value.specs.declared.value.Value.TheVariants as values

@@ -1,7 +1,7 @@
 //! Statements that bind a literal. What a machine does from their unit up to the next one is known
 //! beforehand, so it is done at once.
 
-ghost use Rattle.std.specs.Prelude.{◌≡◌, IfSome, IsTrue, not};
+ghost use Rattle.std.specs.Prelude.{◌≡◌, IfSome};
 ghost use Rattle.widl_dialog.specs.Dialog.{End};
 ghost use Rattle.widl_runs.specs.declared.completion.Completion.TheVariants.{Normal};
 ghost use Rattle.widl_value.specs.declared.value.Value.TheVariants.{Undefined};
