@@ -10,6 +10,7 @@ pub mod Operated
 pub mod NewObjects
 pub mod Coming
 pub mod Leading
+pub mod Straight
 pub mod Charging
 pub mod Measuring
 pub mod Items

@@ -1,5 +1,5 @@
 -- For proofs alone. What is owed for a charge, and the step that pays it.
-use Rattle.std.proofs.Common.{◌≡◌, ℕ, Option, Some, None, ◌+◌, ◌-◌, ◌≤◌, ◌<◌, List, ◌⊎◌, inl, inr, length, sym, subst, refl, arith}
+use Rattle.std.proofs.Common.{◌≡◌, ℕ, Option, Some, None, ◌+◌, ◌-◌, ◌≤◌, ◌<◌, List, inr, length, sym, subst, refl, arith}
 use Rattle.widl_script_tree.specs.Tables.{Tables}
 use Rattle.widl_store.specs.Objects.{StoreState}
 use Rattle.widl_runs.specs.Jobs.{Program}

@@ -1,9 +1,8 @@
 -- For proofs alone. What became of a whole run, as its trace.
-use Rattle.std.proofs.Common.{◌≡◌, ℕ, ◌+◌, ◌-◌, ◌≤◌, List, [], ◌∷◌, ◌++◌, length, map, sym, ap, subst, ◌∙◌, refl, arith, append-nil, append_assoc, length-append}
+use Rattle.std.proofs.Common.{◌≡◌, ℕ, ◌+◌, List, [], ◌∷◌, ◌++◌, map, sym, ap, subst, ◌∙◌, refl, arith, append-nil, append_assoc, length-append}
 use Rattle.std.proofs.lemmas.List.{map-append, length-map}
 use Rattle.widl_dialog.specs.Runs.{Finish, Ended, Halted}
 use Rattle.widl_dialog.proofs.Running.{one_outcome}
-use Rattle.widl_sink.specs.Lines.{ended}
 use Rattle.widl_sink.proofs.Grows.{sends_then, sends_prefix, prefix_longer}
 use Rattle.widl_store.specs.Objects.{StoreState}
 use Rattle.widl_store.specs.Realm.{realm_of}
@@ -15,7 +14,7 @@ use Rattle.widl_runs.specs.declared.stop.Stop.{Stop}
 use Rattle.widl_runs.specs.Actions.{act}
 use Rattle.widl_runs.specs.Jobs.{Program}
 use Rattle.widl_runs.specs.Rules.{rule}
-use Rattle.widl_runs.specs.Traces.{whole, Ending, EndsStopped, ending_of, stop_event, stop_events, IsTrace}
+use Rattle.widl_runs.specs.Traces.{Ending, EndsStopped, ending_of, stop_event, stop_events}
 use Rattle.widl_runs.specs.Worlds.{World}
 use Rattle.widl_engine.specs.declared.machine.Way.{Way}
 use Rattle.widl_engine.specs.declared.machine.Way.TheVariants as way
@@ -24,7 +23,7 @@ use Rattle.widl_engine.specs.declared.runs.End.{End}
 use Rattle.widl_engine.specs.declared.runs.End.TheVariants as ends
 use Rattle.widl_engine.specs.Outcomes.{IsWhole, IsFirstPart, IsTorn, RanAs}
 use Rattle.widl_engine.specs.Output.{Output, Emits, Tears, bytes_of_lines}
-use Rattle.widl_engine.specs.Running.{bytes_of_events, WholeRun, Finished, Begun, Broken, Became}
+use Rattle.widl_engine.specs.Running.{bytes_of_events, Finished, Begun, Broken, Became}
 use Rattle.widl_engine.specs.Stops.{ends_with, bytes_of_stop, Said}
 use Rattle.widl_engine.proofs.WholeRuns.{bytes_append}
 

@@ -1,9 +1,9 @@
 -- For proofs alone. A whole run, from its begin to what becomes of it.
-use Rattle.std.proofs.Common.{◌≡◌, ℕ, ◌+◌, ◌-◌, ◌≤◌, List, [], ◌∷◌, ◌++◌, ◌⊎◌, inl, inr, length, map, sym, ap, subst, ◌∙◌, refl, arith, append-nil, append_assoc, length-append}
+use Rattle.std.proofs.Common.{◌≡◌, ℕ, ◌+◌, ◌-◌, ◌≤◌, List, [], ◌++◌, inl, inr, length, map, sym, ap, subst, ◌∙◌, refl, arith, append-nil, append_assoc, length-append}
 use Rattle.std.proofs.lemmas.Grind.{flat_map-append}
 use Rattle.std.proofs.lemmas.List.{map-append}
 use Rattle.widl_dialog.specs.Dialog.{bind}
-use Rattle.widl_dialog.specs.Runs.{Finish, Ended, Halted}
+use Rattle.widl_dialog.specs.Runs.{Finish, Halted}
 use Rattle.widl_dialog.proofs.Bind.{bind_end}
 use Rattle.widl_dialog.proofs.Running.{one_outcome}
 use Rattle.widl_script_tree.specs.Tables.{Tables, script_tree, statements_tree}

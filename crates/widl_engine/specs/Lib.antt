@@ -1,4 +1,5 @@
 pub mod Frames
+pub mod AtOnce
 pub mod Tested
 pub mod ReadOver
 pub mod Place

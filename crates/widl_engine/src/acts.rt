@@ -41,6 +41,7 @@ pub enum Acted {
 const MOST_CALLS: usize = 100;
 
 /// Whether one more call may be open.
+#[inline(always)]
 fn has_room(place: &Place) -> bool
     ensures { (s : Tables) → result ≡ nat_lt (length (contexts_in s place.now)) most_calls }
 {
@@ -51,6 +52,7 @@ fn has_room(place: &Place) -> bool
 }
 
 /// The line of a call.
+#[inline(always)]
 fn call_line(f: ObjRef, this: Value, args: Values, body: Body) -> Move
     ensures { result ≡ Move.Pays (Charge.Line (Event.Call f this args) (AfterLine.Enters body)) }
 {
@@ -61,6 +63,7 @@ fn call_line(f: ObjRef, this: Value, args: Values, body: Body) -> Move
 }
 
 /// The line of a construction.
+#[inline(always)]
 fn new_line(f: ObjRef, args: Values) -> Move
     ensures { result ≡ Move.Pays (Charge.Line (Event.New f args) AfterLine.Constructs) }
 {
@@ -71,6 +74,7 @@ fn new_line(f: ObjRef, args: Values) -> Move
 }
 
 /// What the call of an object does.
+#[inline(always)]
 fn body_of(store: &Store, f: ObjRef) -> Body
     requires { IsLive store.now.objects f }
     ensures { body_of result ≡ body_at store.now.objects f }
@@ -84,6 +88,7 @@ fn body_of(store: &Store, f: ObjRef) -> Body
 }
 
 /// The body of a call is found.
+#[inline(always)]
 pub(crate) fn find_body(store: &Store, place: &Place, f: ObjRef, this: Value, args: Values) -> Move
     requires { IsLive store.now.objects f }
     ensures { (p : Program) (s : Tables) → Performed p s (Due.FindBody f this args) store.now place.now store.now place.now result }
@@ -98,6 +103,7 @@ pub(crate) fn find_body(store: &Store, place: &Place, f: ObjRef, this: Value, ar
 }
 
 /// What an object constructs.
+#[inline(always)]
 fn constructor_move(f: ObjRef, args: Values, body: Body) -> Move
     ensures { (p : Program) (s : Tables) → move_of p s result ≡ construct_body f args (body_of body) }
 {
@@ -110,6 +116,7 @@ fn constructor_move(f: ObjRef, args: Values, body: Body) -> Move
 }
 
 /// What an object constructs is found.
+#[inline(always)]
 pub(crate) fn find_constructor(store: &Store, place: &Place, f: ObjRef, args: Values) -> Move
     requires { IsLive store.now.objects f }
     ensures { (p : Program) (s : Tables) → Performed p s (Due.FindConstructor f args) store.now place.now store.now place.now result }
@@ -118,6 +125,7 @@ pub(crate) fn find_constructor(store: &Store, place: &Place, f: ObjRef, args: Va
 }
 
 /// The value of `this`.
+#[inline(always)]
 fn this_value(place: &Place) -> Result<Value, AllocError>
     ensures { IfOk result (λ v. (s : Tables) → v ≡ this_value (contexts_in s place.now)) }
 {
@@ -128,6 +136,7 @@ fn this_value(place: &Place) -> Result<Value, AllocError>
 }
 
 /// `this` is read.
+#[inline(always)]
 pub(crate) fn read_this(store: &Store, place: &Place) -> Result<Move, AllocError>
     ensures { IfOk result (λ m. (p : Program) (s : Tables) → Performed p s Due.ReadThis store.now place.now store.now place.now m) }
 {
@@ -135,6 +144,7 @@ pub(crate) fn read_this(store: &Store, place: &Place) -> Result<Move, AllocError
 }
 
 /// A name is read.
+#[inline(always)]
 pub(crate) fn read_name(
     script: &Script,
     store: &Store,
@@ -147,6 +157,7 @@ pub(crate) fn read_name(
 }
 
 /// What comes after a name is bound.
+#[inline(always)]
 fn bound(script: &Script, then: Then) -> Move
     ensures { (p : Program) → move_of p script.now result ≡ after_bind script.now then IsDone }
 {
@@ -157,6 +168,7 @@ fn bound(script: &Script, then: Then) -> Move
 }
 
 /// A value is bound to a name.
+#[inline(always)]
 pub(crate) fn bind_name(
     script: &Script,
     store: &Store,
@@ -172,6 +184,7 @@ pub(crate) fn bind_name(
 }
 
 /// The next symbol is taken.
+#[inline(always)]
 pub(crate) fn take_symbol(store: &Store, place: &mut Place) -> Move
     requires { place.old.next_symbol < 2 ^ 32 - 1 }
     ensures { (p : Program) (s : Tables) → Performed p s Due.TakeSymbol store.now place.old store.now place.new result }
@@ -182,6 +195,7 @@ pub(crate) fn take_symbol(store: &Store, place: &mut Place) -> Move
 }
 
 /// Whether one more call may be open, and then the call's line.
+#[inline(always)]
 pub(crate) fn deepen(
     store: &Store,
     place: &Place,
@@ -199,6 +213,7 @@ pub(crate) fn deepen(
 }
 
 /// Whether one more call may be open, and then the line of the construction.
+#[inline(always)]
 pub(crate) fn deepen_new(store: &Store, place: &Place, f: ObjRef, args: Values) -> Acted
     ensures { (p : Program) (s : Tables) → Performs p s (Due.DepthOfNew f args) store.now place.now store.now place.now result }
 {
@@ -209,6 +224,7 @@ pub(crate) fn deepen_new(store: &Store, place: &Place, f: ObjRef, args: Values) 
 }
 
 /// An end of the profile.
+#[inline(always)]
 pub(crate) fn reach(store: &Store, place: &Place, end: u8) -> Acted
     ensures { (p : Program) (s : Tables) → Performs p s (Due.Reach end) store.now place.now store.now place.now result }
 {
@@ -216,6 +232,7 @@ pub(crate) fn reach(store: &Store, place: &Place, end: u8) -> Acted
 }
 
 /// What a new object is for.
+#[inline(always)]
 pub(crate) fn made(then: Made, obj: ObjRef) -> Move
     ensures { (p : Program) (s : Tables) → move_of p s result ≡ after_add s then (IsObject obj) }
 {

@@ -7,6 +7,7 @@ ghost use Rattle.widl_engine.specs.Machine.{Advances, MachineFits, StepsTo, Turn
 ghost use Rattle.widl_engine.specs.ReadOver.{IsReadOver};
 
 use crate::acts::Acted;
+use crate::at_once::bound_by;
 use crate::charges::{Charge, Unit};
 use crate::frames::Frame;
 use crate::machine::{Machine, Moved, Turn};
@@ -19,7 +20,8 @@ use widl_store::Store;
 use widl_tables::Tables;
 
 /// Takes the next frame.
-fn pop(frames: &mut Vec<Frame>) -> Option<Frame>
+#[inline(always)]
+pub(crate) fn pop(frames: &mut Vec<Frame>) -> Option<Frame>
     ensures some { IfSome result (λ f. frames.old.items ≡ frames.new.items ++ f ∷ []) }
     ensures none { IfNone result ((frames.old.items ≡ []) × (frames.new.items ≡ [])) }
 {
@@ -27,7 +29,8 @@ fn pop(frames: &mut Vec<Frame>) -> Option<Frame>
 }
 
 /// Puts a frame on the others.
-fn push(frames: &mut Vec<Frame>, frame: Frame) -> Result<(), AllocError>
+#[inline(always)]
+pub(crate) fn push(frames: &mut Vec<Frame>, frame: Frame) -> Result<(), AllocError>
     ensures { OnOk result (frames.new.items ≡ frames.old.items ++ frame ∷ []) }
 {
     frames.push(frame)?;
@@ -35,10 +38,12 @@ fn push(frames: &mut Vec<Frame>, frame: Frame) -> Result<(), AllocError>
 }
 
 /// Lets a charge go.
+#[inline(always)]
 fn discard(_charge: Charge) {}
 
 impl Machine {
     /// One move that takes no unit.
+    #[inline(always)]
     fn turn(
         &mut self,
         alloc: Global,
@@ -109,6 +114,7 @@ impl Machine {
 
     /// Takes the units of the charge that is due, and makes all moves up to the next one. Its line was
     /// written before.
+    #[inline(always)]
     pub(crate) fn take(
         &mut self,
         alloc: Global,
@@ -124,10 +130,15 @@ impl Machine {
         ensures { StepsTo (program_of tables.now script.now) script.now store.old self.old store.new self.new result }
     {
         self.taken += units;
-        let due = mem::replace(&mut self.due, Charge::Unit(Unit::Symbol));
-        match charged(alloc, script, due) {
-            Ok(next) => self.advance(alloc, tables, script, store, next),
-            Err(_) => Moved::Memory,
+        match bound_by(script, &self.due) {
+            Some(literal) => self.bind_literal(alloc, tables, script, store, literal),
+            None => {
+                let due = mem::replace(&mut self.due, Charge::Unit(Unit::Symbol));
+                match charged(alloc, script, due) {
+                    Ok(next) => self.advance(alloc, tables, script, store, next),
+                    Err(_) => Moved::Memory,
+                }
+            }
         }
     }
 }

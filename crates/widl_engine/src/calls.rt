@@ -20,6 +20,7 @@ use widl_value::{ObjRef, Shape, Value, Values};
 pub(crate) const NOT_YET: u8 = 99;
 
 /// The object, where a value can be called (ECMA-262, "IsCallable").
+#[inline(always)]
 pub(crate) fn callable(value: &Value) -> Option<ObjRef>
     ensures { (k : ObjRef → Doing) → callable k value.now ≡ if_function k result }
 {
@@ -33,6 +34,7 @@ pub(crate) fn callable(value: &Value) -> Option<ObjRef>
 }
 
 /// A value is called.
+#[inline(always)]
 pub(crate) fn call(f: Value, this: Value, args: Values) -> Move
     ensures { (p : Program) (s : Tables) → move_of p s result ≡ call p f this args }
 {
@@ -43,6 +45,7 @@ pub(crate) fn call(f: Value, this: Value, args: Values) -> Move
 }
 
 /// A value constructs.
+#[inline(always)]
 pub(crate) fn construct(f: Value, args: Values) -> Move
     ensures { (p : Program) (s : Tables) → move_of p s result ≡ construct f args }
 {
@@ -53,6 +56,7 @@ pub(crate) fn construct(f: Value, args: Values) -> Move
 }
 
 /// The call of a body, after its line.
+#[inline(always)]
 pub(crate) fn enters(body: Body, event: Event) -> Move
     ensures { (p : Program) (s : Tables) → move_of p s result ≡ enters_by p body event }
 {
@@ -71,6 +75,7 @@ pub(crate) fn enters(body: Body, event: Event) -> Move
 }
 
 /// The line of a call's end.
+#[inline(always)]
 pub(crate) fn called(completion: Completion) -> Move
     ensures { (p : Program) (s : Tables) → move_of p s result ≡ called completion }
 {
@@ -86,6 +91,7 @@ pub(crate) fn called(completion: Completion) -> Move
 }
 
 /// The end of a call, after its line.
+#[inline(always)]
 pub(crate) fn leaves(event: Event) -> Move
     ensures { (p : Program) (s : Tables) → move_of p s result ≡ leaves_by event }
 {

@@ -12,6 +12,7 @@ use crate::moves::Move;
 use widl_trace::Code;
 
 /// The unit of an error.
+#[inline(always)]
 pub(crate) fn fail(code: Code) -> Move
     ensures { (p : Program) (s : Tables) → move_of p s result ≡ fail code }
 {
@@ -19,6 +20,7 @@ pub(crate) fn fail(code: Code) -> Move
 }
 
 /// An error is thrown.
+#[inline(always)]
 pub(crate) fn fails(code: Code) -> Move
     ensures { (p : Program) (s : Tables) → move_of p s result ≡ fails code }
 {

@@ -25,6 +25,7 @@ const OBJECT_PROTOTYPE: ObjRef = ObjRef {
 };
 
 /// A member is evaluated.
+#[inline(always)]
 pub(crate) fn member(script: &Script, what: MemberUse, member: MemberOf) -> Move
     ensures { (p : Program) → move_of p script.now result ≡ the_member (member_use_of script.now what) (member_at script.now member) }
 {
@@ -36,6 +37,7 @@ pub(crate) fn member(script: &Script, what: MemberUse, member: MemberOf) -> Move
 }
 
 /// A call is evaluated: of a member, or of any other value.
+#[inline(always)]
 fn call(script: &Script, callee: u32, args: Row) -> Move
     ensures { (p : Program) → move_of p script.now result ≡ call_tree (expression_tree script.now callee) (expressions_tree script.now args) }
 {
@@ -52,6 +54,7 @@ fn call(script: &Script, callee: u32, args: Row) -> Move
 }
 
 /// A new object is evaluated.
+#[inline(always)]
 fn new_object(script: &Script, proto: Option<u32>) -> Move
     ensures { (p : Program) → move_of p script.now result ≡ evaluate (object_tree (expression_tree script.now) proto) }
 {
@@ -62,6 +65,7 @@ fn new_object(script: &Script, proto: Option<u32>) -> Move
 }
 
 /// The first move of an expression.
+#[inline(always)]
 pub(crate) fn evaluate(alloc: Global, script: &Script, place: u32) -> Result<Move, AllocError>
     ensures { IfOk result (λ m. (p : Program) → move_of p script.now m ≡ evaluate (expression_tree script.now place)) }
 {
@@ -99,6 +103,7 @@ pub(crate) fn evaluate(alloc: Global, script: &Script, place: u32) -> Result<Mov
 }
 
 /// A new object with a value as its prototype.
+#[inline(always)]
 pub(crate) fn object_of(value: Value) -> Move
     ensures { (p : Program) (s : Tables) → move_of p s result ≡ object_of value }
 {
@@ -110,6 +115,7 @@ pub(crate) fn object_of(value: Value) -> Move
 }
 
 /// A row has one value more.
+#[inline(always)]
 pub(crate) fn next_in_row(
     script: &Script,
     what: RowUse,

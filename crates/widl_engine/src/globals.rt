@@ -19,6 +19,7 @@ use widl_store::{Home, Store};
 use widl_value::Value;
 
 /// Whether a name is local in the function of a context.
+#[inline(always)]
 fn has_local(script: &Script, context: &Context, name: u32) -> bool
     ensures { result ≡ list_any (bytes_eq (name_at script.now name)) (names_of script.now context.now.function) }
 {
@@ -30,6 +31,7 @@ fn has_local(script: &Script, context: &Context, name: u32) -> bool
 }
 
 /// The interface object or the namespace object of a name.
+#[inline(always)]
 fn owner(script: &Script, store: &Store, name: u32) -> Value
     ensures { (p : Program) → IsReadOver p.list script.now → result ≡ global_value None (owner_object store.now (owner_named p.list (name_at script.now name))) }
 {
@@ -43,6 +45,7 @@ fn owner(script: &Script, store: &Store, name: u32) -> Value
 }
 
 /// What a name stands for that isn't local.
+#[inline(always)]
 fn global(script: &Script, store: &Store, place: &Place, name: u32) -> Result<Value, AllocError>
     ensures { IfOk result (λ v. (p : Program) → IsReadOver p.list script.now → v ≡ global_value (global_of script.now place.now name) (owner_object store.now (owner_named p.list (name_at script.now name)))) }
 {
@@ -55,6 +58,7 @@ fn global(script: &Script, store: &Store, place: &Place, name: u32) -> Result<Va
 
 /// What a name stands for: a local, where the function has the name, else a global, else an interface
 /// or a namespace.
+#[inline(always)]
 pub(crate) fn read(
     script: &Script,
     store: &Store,
@@ -80,6 +84,7 @@ pub(crate) fn read(
 }
 
 /// Binds a value to a name: a local where the function has the name, else a global.
+#[inline(always)]
 pub(crate) fn bind(
     script: &Script,
     place: &mut Place,

@@ -6,6 +6,7 @@
 mod acts;
 mod advance;
 mod arrays;
+mod at_once;
 mod bindings;
 mod builtins;
 mod calls;

@@ -43,6 +43,7 @@ pub enum Tested {
 }
 
 /// What a member is used for, once the value before it and its key are there.
+#[inline(always)]
 pub(crate) fn uses(
     script: &Script,
     what: MemberUse,
@@ -75,6 +76,7 @@ pub(crate) fn uses(
 }
 
 /// The setter comes after the getter, where there is one.
+#[inline(always)]
 pub(crate) fn with_getter(
     script: &Script,
     of: Value,
@@ -99,6 +101,7 @@ pub(crate) fn with_getter(
 }
 
 /// The key that a text is.
+#[inline(always)]
 fn text_key(text: ValueText) -> Option<Key>
     ensures { result ≡ text_key text }
 {
@@ -110,6 +113,7 @@ fn text_key(text: ValueText) -> Option<Key>
 }
 
 /// The key that a value is.
+#[inline(always)]
 fn value_key(alloc: Global, value: Value) -> Result<Option<Key>, AllocError>
     ensures { IfOk result (λ k. k ≡ key_of (Computed value)) }
 {
@@ -121,6 +125,7 @@ fn value_key(alloc: Global, value: Value) -> Result<Option<Key>, AllocError>
 }
 
 /// The key of a member.
+#[inline(always)]
 fn key_of(alloc: Global, script: &Script, key: KeyPart) -> Result<Option<Key>, AllocError>
     ensures { IfOk result (λ k. k ≡ key_of (key_part_of script.now key)) }
 {
@@ -131,6 +136,7 @@ fn key_of(alloc: Global, script: &Script, key: KeyPart) -> Result<Option<Key>, A
 }
 
 /// The tests of a member: the value before it, then the key.
+#[inline(always)]
 fn test_member(
     alloc: Global,
     script: &Script,
@@ -150,6 +156,7 @@ fn test_member(
 }
 
 /// A member is read.
+#[inline(always)]
 pub(crate) fn read_member(
     alloc: Global,
     script: &Script,
@@ -166,6 +173,7 @@ pub(crate) fn read_member(
 }
 
 /// A member is set.
+#[inline(always)]
 pub(crate) fn set_member(
     alloc: Global,
     script: &Script,
@@ -183,6 +191,7 @@ pub(crate) fn set_member(
 }
 
 /// The flags of a property that a script defines.
+#[inline(always)]
 fn plain_flags(hidden: bool) -> Flags
     ensures { result ≡ plain_flags hidden }
 {
@@ -194,6 +203,7 @@ fn plain_flags(hidden: bool) -> Flags
 }
 
 /// A member is defined.
+#[inline(always)]
 pub(crate) fn define_member(
     alloc: Global,
     script: &Script,
@@ -219,6 +229,7 @@ pub(crate) fn define_member(
 }
 
 /// An accessor with these parts.
+#[inline(always)]
 fn accessor(obj: ObjRef, key: Key, get: ObjRef, set: Option<ObjRef>) -> Move
     ensures { result ≡ Move.Acts (Due.Define obj key (Prop.Accessor (Some get) set accessor_flags)) }
 {
@@ -234,6 +245,7 @@ fn accessor(obj: ObjRef, key: Key, get: ObjRef, set: Option<ObjRef>) -> Move
 }
 
 /// The parts of an accessor are tested, the getter first.
+#[inline(always)]
 fn tests_parts(obj: ObjRef, key: Key, getter: Value, setter: Option<Value>) -> Move
     ensures { (p : Program) (s : Tables) → move_of p s result ≡ tests_parts getter setter obj key }
 {
@@ -250,6 +262,7 @@ fn tests_parts(obj: ObjRef, key: Key, getter: Value, setter: Option<Value>) -> M
 }
 
 /// A member is defined as an accessor.
+#[inline(always)]
 pub(crate) fn define_accessor(
     alloc: Global,
     script: &Script,
@@ -268,6 +281,7 @@ pub(crate) fn define_accessor(
 }
 
 /// A member is deleted.
+#[inline(always)]
 pub(crate) fn delete_member(
     alloc: Global,
     script: &Script,

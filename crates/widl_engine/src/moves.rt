@@ -37,6 +37,7 @@ pub enum Move {
 }
 
 /// The end with a value.
+#[inline(always)]
 pub(crate) fn gives(value: Value) -> Move
     ensures { (p : Program) (s : Tables) → move_of p s result ≡ End (Normal value) }
 {
@@ -44,6 +45,7 @@ pub(crate) fn gives(value: Value) -> Move
 }
 
 /// The end without a value.
+#[inline(always)]
 pub(crate) fn ends() -> Move
     ensures { (p : Program) (s : Tables) → move_of p s result ≡ nothing }
 {
@@ -51,6 +53,7 @@ pub(crate) fn ends() -> Move
 }
 
 /// An end of the profile.
+#[inline(always)]
 pub(crate) fn reaches(end: u8) -> Move
     ensures { (p : Program) (s : Tables) → move_of p s result ≡ reaches end }
 {
@@ -58,6 +61,7 @@ pub(crate) fn reaches(end: u8) -> Move
 }
 
 /// The first move of a job.
+#[inline(always)]
 pub(crate) fn begin(alloc: Global, script: &Script, job: Job) -> Result<Move, AllocError>
     ensures { IfOk result (λ m. (p : Program) → move_of p script.now m ≡ rule p (job_of script.now job)) }
 {
@@ -89,6 +93,7 @@ pub(crate) fn begin(alloc: Global, script: &Script, job: Job) -> Result<Move, Al
 }
 
 /// A new object is added.
+#[inline(always)]
 fn adds(new: New, then: Made) -> Move
     ensures { result ≡ Move.Acts (Due.Add new then) }
 {
@@ -96,6 +101,7 @@ fn adds(new: New, then: Made) -> Move
 }
 
 /// The move after a unit.
+#[inline(always)]
 fn unit_paid(script: &Script, unit: Unit) -> Result<Move, AllocError>
     ensures { IfOk result (λ m. (p : Program) → move_of p script.now m ≡ after_unit script.now unit) }
 {
@@ -114,6 +120,7 @@ fn unit_paid(script: &Script, unit: Unit) -> Result<Move, AllocError>
 }
 
 /// The object of an error's line is thrown.
+#[inline(always)]
 fn throws(event: Event) -> Move
     ensures { (p : Program) (s : Tables) → move_of p s result ≡ throws_by event }
 {
@@ -124,6 +131,7 @@ fn throws(event: Event) -> Move
 }
 
 /// The script ends with the value that its last line shows.
+#[inline(always)]
 fn ends_thrown(event: Event) -> Move
     ensures { (p : Program) (s : Tables) → move_of p s result ≡ ends_by event }
 {
@@ -134,6 +142,7 @@ fn ends_thrown(event: Event) -> Move
 }
 
 /// The move after a line.
+#[inline(always)]
 fn line_written(
     alloc: Global,
     script: &Script,
@@ -155,6 +164,7 @@ fn line_written(
 }
 
 /// The move after a charge was taken.
+#[inline(always)]
 pub(crate) fn charged(alloc: Global, script: &Script, charge: Charge) -> Result<Move, AllocError>
     ensures { IfOk result (λ m. (p : Program) → move_of p script.now m ≡ after_charge p script.now charge) }
 {
@@ -165,6 +175,7 @@ pub(crate) fn charged(alloc: Global, script: &Script, charge: Charge) -> Result<
 }
 
 /// A value is bound to a name.
+#[inline(always)]
 fn binds(name: u32, value: Value) -> Move
     ensures { result ≡ Move.Acts (Due.Bind name value Then.Ends) }
 {
@@ -176,6 +187,7 @@ fn binds(name: u32, value: Value) -> Move
 }
 
 /// A value is shown.
+#[inline(always)]
 fn shows(value: Value) -> Move
     ensures { result ≡ Move.Pays (Charge.Line (Event.Show value) AfterLine.Shown) }
 {
@@ -186,6 +198,7 @@ fn shows(value: Value) -> Move
 }
 
 /// A frame goes on with a value.
+#[inline(always)]
 fn valued(
     alloc: Global,
     script: &Script,
@@ -261,6 +274,7 @@ fn valued(
 }
 
 /// The arguments of a call are evaluated.
+#[inline(always)]
 fn calls_with(alloc: Global, f: Value, this: Value, args: Row) -> Move
     ensures { result ≡ Move.Goes (Job.Row (RowUse.Arguments f this) [] args) }
 {
@@ -272,6 +286,7 @@ fn calls_with(alloc: Global, f: Value, this: Value, args: Row) -> Move
 }
 
 /// A frame goes on with a value, and passes any other end on.
+#[inline(always)]
 fn gone_on(
     alloc: Global,
     script: &Script,
@@ -288,6 +303,7 @@ fn gone_on(
 }
 
 /// A thrown value is bound for its handler.
+#[inline(always)]
 fn caught(script: &Script, name: u32, handler: Row, completion: Completion) -> Move
     ensures { (p : Program) → move_of p script.now result ≡ back_to script.now (Frame.Catches name handler) completion }
 {
@@ -303,6 +319,7 @@ fn caught(script: &Script, name: u32, handler: Row, completion: Completion) -> M
 }
 
 /// A line that ends the script.
+#[inline(always)]
 fn ends_script(event: Event, then: AfterLine) -> Move
     ensures { result ≡ Move.Pays (Charge.Line event then) }
 {
@@ -310,6 +327,7 @@ fn ends_script(event: Event, then: AfterLine) -> Move
 }
 
 /// The last line.
+#[inline(always)]
 fn last_line(completion: Completion) -> Move
     ensures { (p : Program) (s : Tables) → move_of p s result ≡ the_last_line completion }
 {
@@ -325,6 +343,7 @@ fn last_line(completion: Completion) -> Move
 }
 
 /// The move after the end of another job.
+#[inline(always)]
 pub(crate) fn returned(
     alloc: Global,
     script: &Script,

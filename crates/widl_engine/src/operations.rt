@@ -30,6 +30,7 @@ fn lines_at<'a>(script: &'a Script, callee: &Callee) -> &'a [StepLine]
 }
 
 /// The unit of the first step of an operation.
+#[inline(always)]
 pub(crate) fn run_steps(script: &Script, callee: Callee, args: Values) -> Move
     ensures { (p : Program) → move_of p script.now result ≡ run_steps args (lines_at script.now callee) }
 {
@@ -84,6 +85,7 @@ fn step(args: Values, line: &StepLine) -> Result<Move, AllocError>
 }
 
 /// The first step of an operation, after its unit.
+#[inline(always)]
 pub(crate) fn first_step(script: &Script, callee: Callee, args: Values) -> Result<Move, AllocError>
     ensures { IfOk result (λ m. (p : Program) (s : Tables) → move_of p s m ≡ first_step args (lines_at script.now callee)) }
 {

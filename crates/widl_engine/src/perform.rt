@@ -66,6 +66,7 @@ fn add(
 }
 
 /// Does an action that takes no unit.
+#[inline(always)]
 pub(crate) fn perform(
     alloc: Global,
     tables: &Tables,

@@ -15,6 +15,7 @@ use widl_script_tree::{Row, Script};
 use widl_value::Values;
 
 /// All values of a row are there.
+#[inline(always)]
 fn row_done(what: RowUse, made: Values) -> Move
     ensures { (p : Program) (s : Tables) → move_of p s result ≡ row_done (row_use_of what) made }
 {
@@ -30,6 +31,7 @@ fn row_done(what: RowUse, made: Values) -> Move
 }
 
 /// The next expression of a row.
+#[inline(always)]
 pub(crate) fn evaluate_row(script: &Script, what: RowUse, made: Values, row: Row) -> Move
     ensures { (p : Program) → move_of p script.now result ≡ evaluate_row (row_use_of what) made (expressions_tree script.now row) }
 {

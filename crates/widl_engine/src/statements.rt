@@ -20,6 +20,7 @@ use widl_script_tree::{Row, Script, Statement};
 use widl_value::Value;
 
 /// The next statement of a row.
+#[inline(always)]
 pub(crate) fn run_statements(script: &Script, row: Row) -> Move
     ensures { (p : Program) → move_of p script.now result ≡ run_statements (statements_tree script.now row) }
 {
@@ -34,7 +35,8 @@ pub(crate) fn run_statements(script: &Script, row: Row) -> Move
 }
 
 /// Whether the statement at a place is a steps block.
-fn is_steps(script: &Script, place: u32) -> bool
+#[inline(always)]
+pub(crate) fn is_steps(script: &Script, place: u32) -> bool
     ensures yes { IsTrue result → run_statement (statement_tree script.now place) ≡ nothing }
     ensures no { IsTrue (not result) → run_statement (statement_tree script.now place) ≡ Say Pay (λ r. performs (statement_tree script.now place)) }
 {
@@ -45,6 +47,7 @@ fn is_steps(script: &Script, place: u32) -> bool
 }
 
 /// The unit of a statement.
+#[inline(always)]
 pub(crate) fn run_statement(script: &Script, place: u32) -> Move
     ensures { (p : Program) → move_of p script.now result ≡ run_statement (statement_tree script.now place) }
 {
@@ -55,6 +58,7 @@ pub(crate) fn run_statement(script: &Script, place: u32) -> Move
 }
 
 /// The value of an expression is for a frame.
+#[inline(always)]
 fn evaluates(frame: ValueFrame, place: u32) -> Move
     ensures { result ≡ Move.Steps (Frame.Value frame) (Job.Evaluate place) }
 {
@@ -62,6 +66,7 @@ fn evaluates(frame: ValueFrame, place: u32) -> Move
 }
 
 /// A steps block does nothing.
+#[inline(always)]
 fn performs_steps(script: &Script, number: u32) -> Move
     ensures { (p : Program) → move_of p script.now result ≡ performs (steps_statement (slice_get script.now.blocks number)) }
 {
@@ -74,6 +79,7 @@ fn performs_steps(script: &Script, number: u32) -> Move
 }
 
 /// What a statement does after its unit.
+#[inline(always)]
 pub(crate) fn performs(script: &Script, place: u32) -> Move
     ensures { (p : Program) → move_of p script.now result ≡ performs (statement_tree script.now place) }
 {
@@ -120,6 +126,7 @@ pub(crate) fn performs(script: &Script, place: u32) -> Move
 }
 
 /// The statements where two values are the same, or else the others.
+#[inline(always)]
 pub(crate) fn chooses(script: &Script, left: Value, same: Row, otherwise: Row, right: Value) -> Move
     ensures { (p : Program) → move_of p script.now result ≡ chooses left (statements_tree script.now same) (statements_tree script.now otherwise) right }
 {

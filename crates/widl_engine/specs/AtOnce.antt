@@ -1,0 +1,37 @@
+-- Statements that bind a literal, and the frames that go on with a statement. No rule names any of it.
+use Rattle.std.specs.Prelude.{◌≡◌, ◌<◌}
+use Rattle.widl_dialog.specs.Dialog.{End, Say}
+use Rattle.widl_script_tree.specs.declared.row.Row.{Row}
+use Rattle.widl_script_tree.specs.Rows.{rest_of}
+use Rattle.widl_script_tree.specs.Tables.{Tables, expression_tree, statement_tree, statements_tree}
+use Rattle.widl_script_tree.specs.Trees.{then_more}
+use Rattle.widl_runs.specs.declared.completion.Completion.TheVariants.{Normal}
+use Rattle.widl_runs.specs.Actions.{Pay}
+use Rattle.widl_runs.specs.Expressions.{evaluate}
+use Rattle.widl_runs.specs.Jobs.{Program}
+use Rattle.widl_runs.specs.Statements.{performs, run_statement}
+use Rattle.widl_engine.specs.declared.at_once.Binding.{Binding}
+use Rattle.widl_engine.specs.declared.charges.Charge.{Charge}
+use Rattle.widl_engine.specs.declared.frames.Frame.{Frame}
+use Rattle.widl_engine.specs.declared.frames.Frame.TheVariants as frame
+use Rattle.widl_engine.specs.declared.frames.ValueFrame.TheVariants as goes_on
+use Rattle.widl_engine.specs.declared.jobs.Job.TheVariants as job
+use Rattle.widl_engine.specs.declared.moves.Move.{Move}
+use Rattle.widl_engine.specs.declared.moves.Move.TheVariants as move
+use Rattle.widl_engine.specs.Frames.{after_charge, move_of}
+
+-- the literal is evaluated, and then bound to the name
+abbrev pub binding : Binding → Move
+binding b = move.Steps (frame.Value (goes_on.Binds b.name)) (job.Evaluate b.place)
+
+-- after the charge this literal is bound
+pub record BindsLiteral (s : Tables) (c : Charge) (b : Binding) : Type 0 where
+  pub performs : (p : Program) → move_of p s (binding b) ≡ after_charge p s c
+  pub value : evaluate (expression_tree s b.place) ≡ End (Normal b.value)
+
+-- a frame goes on with these statements, of which the first takes a unit
+pub record GoesOnWith (s : Tables) (f : Frame) (row : Row) : Type 0 where
+  pub next : f ≡ frame.Value (goes_on.NextStatements row)
+  pub some : 0 < row.count
+  pub opens : statements_tree s row ≡ then_more (statement_tree s row.first) (statements_tree s (rest_of row))
+  pub pays : run_statement (statement_tree s row.first) ≡ Say Pay (λ r. performs (statement_tree s row.first))
