@@ -32,8 +32,6 @@ mod scalar;
 mod settle;
 mod stack;
 mod steps;
-#[cfg(test)]
-mod tests;
 mod waits;
 
 pub use answer::{Answer, CursorState, KindName};

@@ -1,8 +1,16 @@
 //! IDL values to values of the script.
 
 ghost use Rattle.std.specs.Prelude.{◌≡◌, ◌≤◌, IfOk};
-ghost use Rattle.widl_idl.specs.DefinitionTerms.{defs_term};
+ghost use Rattle.std.specs.Option.{option_copied};
+ghost use Rattle.widl_idl.specs.DefinitionTerms.{DefsTerm, defs_term};
+ghost use Rattle.widl_idl.specs.Terms.{TypeTerm};
+ghost use Rattle.widl_value.specs.IdlTerms.{idl_term};
+ghost use Rattle.widl_trace.specs.IdlValueTexts.{enumeration_value};
+ghost use Rattle.widl_convert.specs.Built.{built_today};
 ghost use Rattle.widl_convert.specs.Frames.{move_dialog};
+ghost use Rattle.widl_convert.specs.Loads.{object_load, weight};
+ghost use Rattle.widl_convert.specs.Results.{enumeration_text, integer_to_script, out};
+ghost use Rattle.widl_convert.specs.Words.{returns};
 
 use crate::convert::not_built;
 use crate::moves::{Ending, Move};
@@ -22,7 +30,10 @@ const GREATEST: i128 = 18_446_744_073_709_551_616;
 /// # Errors
 ///
 /// `AllocError` where there is no memory.
-pub(crate) fn out(alloc: Global, tables: &Tables, value: IdlValue) -> Result<Move, AllocError> {
+pub(crate) fn out(alloc: Global, tables: &Tables, value: IdlValue) -> Result<Move, AllocError>
+    ensures dialog { IfOk result (λ m. (t : TypeTerm) → move_dialog (defs_term tables.now.defs) m ≡ out built_today (defs_term tables.now.defs) t (idl_term value)) }
+    ensures weight { IfOk result (λ m. weight (defs_term tables.now.defs) m ≤ object_load) }
+{
     match value {
         IdlValue::Undefined => Ok(returns(Value::Undefined)),
         IdlValue::Null => Ok(returns(Value::Null)),
@@ -44,12 +55,18 @@ pub(crate) fn out(alloc: Global, tables: &Tables, value: IdlValue) -> Result<Mov
 }
 
 /// The end with a value of the script.
-fn returns(value: Value) -> Move {
+fn returns(value: Value) -> Move
+    ensures dialog { (list : DefsTerm) → move_dialog list result ≡ returns value }
+    ensures weight { (list : DefsTerm) → weight list result ≤ object_load }
+{
     Move::Gives(Ending::Done(Outcome::Script(value)))
 }
 
 /// The end with the Number that is nearest to an integer.
-fn integer(n: i128) -> Move {
+fn integer(n: i128) -> Move
+    ensures dialog { (list : DefsTerm) → move_dialog list result ≡ integer_to_script n }
+    ensures weight { (list : DefsTerm) → weight list result ≡ 0 }
+{
     if n < -GREATEST || n > GREATEST {
         Move::Gives(Ending::Profile(NO_WHOLE_NUMBER))
     } else {
@@ -62,7 +79,10 @@ fn integer(n: i128) -> Move {
 /// # Errors
 ///
 /// `AllocError` where there is no memory.
-fn choice(alloc: Global, defs: &Defs, enumeration: u32, index: u32) -> Result<Move, AllocError> {
+fn choice(alloc: Global, defs: &Defs, enumeration: u32, index: u32) -> Result<Move, AllocError>
+    ensures dialog { IfOk result (λ m. (list : DefsTerm) → move_dialog list m ≡ returns (Value.Str (enumeration_text (defs_term defs.now) enumeration index))) }
+    ensures weight { IfOk result (λ m. (list : DefsTerm) → weight list m ≡ 0) }
+{
     match choice_text(defs, enumeration, index) {
         None => Ok(gives_text(Units::new(alloc))),
         Some(text) => Ok(gives_text(text.copy()?)),
@@ -70,7 +90,9 @@ fn choice(alloc: Global, defs: &Defs, enumeration: u32, index: u32) -> Result<Mo
 }
 
 /// The text of a value of an enumeration.
-fn choice_text(defs: &Defs, enumeration: u32, index: u32) -> Option<&Units> {
+fn choice_text(defs: &Defs, enumeration: u32, index: u32) -> Option<&Units>
+    ensures { option_copied result ≡ enumeration_value (defs_term defs.now) enumeration index }
+{
     match defs.choices.as_slice().get(enumeration as usize) {
         None => None,
         Some(choice) => choice.values.as_slice().get(index as usize),

@@ -2,7 +2,7 @@
 
 use super::driver::{converted, expect, scalar};
 use super::{by_method, function, number, plain, text};
-use crate::Want;
+use widl_convert::Want;
 use std::alloc::{AllocError, Global};
 use std::test::Fail;
 use widl_idl::{IdlType, IdlTypes, IntKind, Mode, TextKind};

@@ -5,7 +5,7 @@ ghost use Rattle.widl_convert.specs.Stack.{Expects};
 
 use super::running::Running;
 use super::words::{ask_text, end_text};
-use crate::{Answer, Ask, Asker, Next, Want};
+use widl_convert::{Answer, Ask, Asker, Next, Want};
 use std::alloc::{AllocError, Global};
 use std::process::Abort;
 use widl_idl::{Defs, Fragments, IdlType, Merged};
@@ -32,19 +32,27 @@ pub enum Reply {
     Throws(Value),
 }
 
-/// Tables of the empty list.
-#[tactic(auto, using(widl_idl::proofs::Empty::empty_is_merged, crate::proofs::EmptySet::empty_is_valid))]
-pub fn no_definitions(alloc: Global) -> Result<Tables, AllocError> {
-    let defs = Defs {
-        ifaces: Items::new(alloc),
-        spaces: Items::new(alloc),
-        dicts: Items::new(alloc),
-        choices: Items::new(alloc),
-        callback_fns: Items::new(alloc),
-        callback_ifaces: Items::new(alloc),
-    };
-    let merged = Merged::new(defs, Fragments::new(alloc));
-    compile(alloc, Accepted::new(merged))
+/// The set of one file, if it is accepted.
+#[tactic(auto, using(crate::proofs::OneText::alone_short))]
+fn accepted(alloc: Global, file: &[u8]) -> Result<Option<Accepted>, AllocError>
+    requires { length file.now ≤ most_file_bytes }
+{
+    let mut texts = Texts::new(alloc);
+    texts.push(Vec::from_slice(alloc, file)?)?;
+    match judge(alloc, &texts)? {
+        Verdict::Accepted(list) => Ok(Some(list)),
+        Verdict::Fault(_) | Verdict::Broken(_) => Ok(None),
+    }
+}
+
+/// The tables of one file, which is accepted.
+pub fn tables_of(rt: &impl Abort, alloc: Global, file: &str) -> Result<Tables, AllocError> {
+    let bytes = file.as_bytes();
+    assert!(rt; bytes.len() <= MOST_FILE_BYTES);
+    match accepted(alloc, bytes)? {
+        Some(list) => compile(alloc, list),
+        None => panic!(rt; "{file}"),
+    }
 }
 
 /// Goes on with an answer.
@@ -69,7 +77,7 @@ fn answer(tables: &Tables, asker: Asker, reply: Reply) -> Came
 }
 
 /// Answers an ask, which is a read or a call.
-#[tactic(auto, using(crate::proofs::Resuming::expects))]
+#[tactic(auto, using(widl_convert::proofs::Resuming::expects))]
 pub fn goes_on(tables: &Tables, running: Running, reply: Reply) -> Came {
     let Running { asker, ask } = running;
     match ask {

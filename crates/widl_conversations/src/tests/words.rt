@@ -1,6 +1,6 @@
 //! What conversations ask and how they end, as texts.
 
-use crate::{Ask, Next, Outcome};
+use widl_convert::{Ask, Next, Outcome};
 use std::alloc::{AllocError, Global};
 use widl_text::{Key, Units};
 use widl_value::{IdlValue, Number, Value, Values};

@@ -2,7 +2,7 @@
 
 use super::driver::{Reply, scalar};
 use super::{function, number, plain, text};
-use crate::Want;
+use widl_convert::Want;
 use std::alloc::{AllocError, Global};
 use std::process::Abort;
 use std::test::Fail;

@@ -2,7 +2,7 @@
 
 use super::driver::{Came, Reply, converted, goes_on, no_definitions, resume};
 use super::{function, number, plain};
-use crate::{Answer, Asker, Next, Outcome};
+use widl_convert::{Answer, Asker, Next, Outcome};
 use std::alloc::{AllocError, Global};
 use std::test::Fail;
 use widl_idl::{IdlType, IntKind, Mode, TextKind};
