@@ -5,5 +5,6 @@ pub mod Suspending
 pub mod Resuming
 pub mod Standing
 pub mod EmptySet
+pub mod Resolving
 pub mod Worked
 mod Talks

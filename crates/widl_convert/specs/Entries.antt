@@ -26,6 +26,11 @@ abbrev pub entries_left : DefsTerm → Kept → Option ℕ → List TupleTerm
 entries_left list kept None = entries_for list kept.callee kept.argcount kept.overloads
 entries_left list kept (Some overload) = entry_in list kept overload ∷ []
 
+-- the one of several that is there alone
+abbrev pub sole : List ℕ → Option ℕ
+sole (e ∷ []) = Some e
+sole numbers = None
+
 -- the place that tells them apart
 abbrev pub place_in : Kept → ℕ
 place_in kept = unwrap_or kept.place 0

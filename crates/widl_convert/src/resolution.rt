@@ -30,7 +30,7 @@ pub struct Resolution {
     pub args: Values,
     /// The IDL values of those that were taken.
     pub made: IdlValues,
-    ghost open: { IsOpen kept overload },
+    ghost several: { IsOpen kept overload },
 }
 
 /// A resolution that waits for the method `@iterator` of the argument by which overloads are told apart.

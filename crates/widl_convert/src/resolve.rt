@@ -1,6 +1,6 @@
 //! The choice of an overload, with the conversion of the arguments.
 
-ghost use Rattle.std.specs.Prelude.{◌≡◌, ◌≤◌, ◌<◌, ◌+◌, length, false, true, IfOk, None, Some};
+ghost use Rattle.std.specs.Prelude.{◌≡◌, ◌≤◌, ◌<◌, ◌+◌, ◌∷◌, [], length, false, true, IfOk, None, Some};
 ghost use Rattle.widl_dialog.specs.Dialog.{Say, Steps};
 ghost use Rattle.widl_idl.specs.DefinitionTerms.{DefsTerm, defs_term};
 ghost use Rattle.widl_value.specs.Classes.{class_of};
@@ -9,7 +9,7 @@ ghost use Rattle.widl_tables.specs.Kept.{declared_args, entry_for, optionality_a
 ghost use Rattle.widl_tables.specs.Picks.{pick_of};
 ghost use Rattle.widl_tables.specs.Tests.{is_optional};
 ghost use Rattle.widl_convert.specs.AskTerms.{GetAsk};
-ghost use Rattle.widl_convert.specs.Entries.{IsAtPlace, entries_left, entry_in, left_from, place_in};
+ghost use Rattle.widl_convert.specs.Entries.{IsAtPlace, entries_left, entry_in, left_from, place_in, sole};
 ghost use Rattle.widl_convert.specs.Frames.{idl_to, job_of, move_dialog, probe_to};
 ghost use Rattle.widl_convert.specs.Loads.{argument_load, arguments_load, default_load, idl_frame_load, load, weight};
 ghost use Rattle.widl_convert.specs.Resolution.{argument, argument_given, argument_task, arguments, iterator_symbol, of_several, picked, resolve, without_method};
@@ -46,17 +46,26 @@ pub(crate) fn resolve(alloc: Global, tables: &Tables, call: Call) -> Result<Move
 {
     let Call { callee, args } = call;
     let kept = kept(alloc, tables.list().defs(), &callee, args.len() as u32)?;
-    let overload = match kept.overloads.as_slice() {
-        [] => return Ok(throws(Code::NoOverload)),
-        [overload] => Some(*overload),
-        _ => None,
-    };
+    if kept.overloads.len() == 0 {
+        return Ok(throws(Code::NoOverload));
+    }
+    let overload = sole(kept.overloads.as_slice());
     Ok(Move::Goes(Job::Arguments(Resolution {
         kept,
         overload,
         args,
         made: IdlValues::new(alloc),
     })))
+}
+
+/// The one of the overloads, where there is one alone.
+fn sole(overloads: &[u32]) -> Option<u32>
+    ensures { result ≡ sole overloads.now }
+{
+    match overloads {
+        [overload] => Some(*overload),
+        _ => None,
+    }
 }
 
 /// The end with a new TypeError.
@@ -163,10 +172,18 @@ fn picked(tables: &Tables, resolution: Resolution, value: Value) -> Move
     ensures weight { weight (defs_term tables.now.defs) result ≤ argument_load + arguments_load (defs_term tables.now.defs) resolution.kept.callee (length (left_from (length (idl_terms resolution.made) + 1) resolution.kept resolution.args)) }
 {
     match pick_overload(tables.list().defs(), &resolution.kept, value.class(), false) {
-        Pick::Entry(overload) => argument(tables, alone(resolution, overload), overload, value),
+        Pick::Entry(overload) => by_alone(tables, resolution, overload, value),
         Pick::Probe(_) => probe(resolution, value),
         Pick::Refuse => throws(Code::NoMatch),
     }
+}
+
+/// The move to an argument that was taken, by the entry of an overload that is left alone.
+fn by_alone(tables: &Tables, resolution: Resolution, overload: u32, value: Value) -> Move
+    ensures dialog { move_dialog (defs_term tables.now.defs) result ≡ argument (defs_term tables.now.defs) resolution.kept.callee (entry_in (defs_term tables.now.defs) resolution.kept overload ∷ []) (place_in resolution.kept) value (left_from (length (idl_terms resolution.made) + 1) resolution.kept resolution.args) (idl_terms resolution.made) }
+    ensures weight { weight (defs_term tables.now.defs) result ≤ argument_load + arguments_load (defs_term tables.now.defs) resolution.kept.callee (length (left_from (length (idl_terms resolution.made) + 1) resolution.kept resolution.args)) }
+{
+    argument(tables, alone(resolution, overload), overload, value)
 }
 
 /// The same choice, with an overload alone.
@@ -230,7 +247,7 @@ fn without_method(tables: &Tables, probe: Probe) -> Move
     let Probe { resolution, obj } = probe;
     let value = Value::Obj(obj);
     match pick_overload(tables.list().defs(), &resolution.kept, value.class(), true) {
-        Pick::Entry(overload) => argument(tables, alone(resolution, overload), overload, value),
+        Pick::Entry(overload) => by_alone(tables, resolution, overload, value),
         _ => throws(Code::NoMatch),
     }
 }

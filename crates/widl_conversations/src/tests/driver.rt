@@ -5,13 +5,14 @@ ghost use Rattle.widl_convert.specs.Stack.{Expects};
 
 use super::running::Running;
 use super::words::{ask_text, end_text};
-use widl_convert::{Answer, Ask, Asker, Next, Want};
 use std::alloc::{AllocError, Global};
 use std::process::Abort;
-use widl_idl::{Defs, Fragments, IdlType, Merged};
-use widl_overload::Accepted;
+use std::test::Fail;
+use widl_convert::{Answer, Ask, Asker, Next, Want};
+use widl_front::{Texts, Verdict, judge};
+use widl_idl::IdlType;
 use widl_tables::{Tables, compile};
-use widl_text::Items;
+use widl_text::limits::MOST_FILE_BYTES;
 use widl_value::Value;
 
 /// What a conversation has come to.
@@ -32,26 +33,18 @@ pub enum Reply {
     Throws(Value),
 }
 
-/// The set of one file, if it is accepted.
-#[tactic(auto, using(crate::proofs::OneText::alone_short))]
-fn accepted(alloc: Global, file: &[u8]) -> Result<Option<Accepted>, AllocError>
-    requires { length file.now ≤ most_file_bytes }
-{
-    let mut texts = Texts::new(alloc);
-    texts.push(Vec::from_slice(alloc, file)?)?;
-    match judge(alloc, &texts)? {
-        Verdict::Accepted(list) => Ok(Some(list)),
-        Verdict::Fault(_) | Verdict::Broken(_) => Ok(None),
-    }
-}
-
 /// The tables of one file, which is accepted.
-pub fn tables_of(rt: &impl Abort, alloc: Global, file: &str) -> Result<Tables, AllocError> {
+#[tactic(auto, using(crate::proofs::OneText::alone_short))]
+pub fn tables_of(alloc: Global, file: &str) -> Result<Tables, Fail> {
     let bytes = file.as_bytes();
-    assert!(rt; bytes.len() <= MOST_FILE_BYTES);
-    match accepted(alloc, bytes)? {
-        Some(list) => compile(alloc, list),
-        None => panic!(rt; "{file}"),
+    if bytes.len() > MOST_FILE_BYTES {
+        return Err(Fail::new("the file is too long"));
+    }
+    let mut texts = Texts::new(alloc);
+    texts.push(Vec::from_slice(alloc, bytes)?)?;
+    match judge(alloc, &texts)? {
+        Verdict::Accepted(list) => Ok(compile(alloc, list)?),
+        Verdict::Fault(_) | Verdict::Broken(_) => Err(Fail::new("the file is not accepted")),
     }
 }
 
@@ -92,7 +85,7 @@ pub fn goes_on(tables: &Tables, running: Running, reply: Reply) -> Came {
 }
 
 /// What a conversation asks with these answers, and its end, if it comes to one.
-fn talk(
+pub fn talk(
     alloc: Global,
     tables: &Tables,
     asker: Asker,
@@ -127,10 +120,10 @@ pub fn converted(
     ty: &IdlType,
     value: Value,
     replies: Vec<Reply>,
-) -> Result<String, AllocError> {
-    let tables = no_definitions(alloc)?;
+) -> Result<String, Fail> {
+    let tables = tables_of(alloc, "")?;
     let asker = Asker::start_convert(alloc, ty, value)?;
-    talk(alloc, &tables, asker, replies)
+    Ok(talk(alloc, &tables, asker, replies)?)
 }
 
 /// The conversion of a value to a Number, a String or a length.
@@ -139,10 +132,10 @@ pub fn scalar(
     want: Want,
     value: Value,
     replies: Vec<Reply>,
-) -> Result<String, AllocError> {
-    let tables = no_definitions(alloc)?;
+) -> Result<String, Fail> {
+    let tables = tables_of(alloc, "")?;
     let asker = Asker::start_scalar(alloc, want, value)?;
-    talk(alloc, &tables, asker, replies)
+    Ok(talk(alloc, &tables, asker, replies)?)
 }
 
 /// A value becomes an IDL value, or a fault, without an ask.
@@ -152,7 +145,7 @@ pub fn expect(
     ty: &IdlType,
     value: Value,
     end: &str,
-) -> Result<(), AllocError> {
+) -> Result<(), Fail> {
     let said = converted(alloc, ty, value, Vec::new(alloc))?;
     assert_eq!(rt; said.as_str(), end);
     Ok(())
