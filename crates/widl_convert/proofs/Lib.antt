@@ -6,5 +6,6 @@ pub mod Resuming
 pub mod Standing
 pub mod EmptySet
 pub mod Resolving
+pub mod Enumerations
 pub mod Worked
 mod Talks

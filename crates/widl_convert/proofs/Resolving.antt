@@ -1,5 +1,5 @@
 -- The entries and the arguments that are left of a resolution.
-use Rattle.std.proofs.Common.{◌≡◌, ℕ, zero, suc, ◌+◌, ◌<◌, ◌≤◌, max, Bool, true, false, cond, List, [], ◌∷◌, ◌++◌, length, take, drop, map, set, Option, None, Some, slice_get, arith, refl, sym, ap, subst, ◌∙◌}
+use Rattle.std.proofs.Common.{◌≡◌, ℕ, zero, suc, ◌+◌, ◌<◌, ◌≤◌, max, min, Bool, true, false, cond, List, [], ◌∷◌, ◌++◌, length, take, drop, map, set, Option, None, Some, slice_get, arith, refl, sym, ap, subst, ◌∙◌}
 use Rattle.std.specs.Prelude.{◌&&◌, nat_eq, nat_le}
 use Rattle.std.specs.List.{Contains, filter, slice_index_or}
 use Rattle.std.specs.Option.{option_map_or, unwrap_or}
@@ -23,15 +23,15 @@ use Rattle.widl_tables.proofs.Entries.{number_of_entry, numbers_more}
 use Rattle.widl_tables.proofs.FewOverloads.{place_or_0}
 use Rattle.widl_tables.proofs.PickLaws.{entry_is_kept}
 use Rattle.widl_tables.proofs.Picking.{of_several}
-use Rattle.widl_convert.specs.Entries.{AreSeveral, IsAtPlace, IsOpen, entries_left, entry_in, left_from, place_in, rise, sole}
+use Rattle.widl_convert.specs.Entries.{AreSeveral, IsAtPlace, IsOpen, after_arguments, entries_left, entry_in, left_from, place_in, rise, sole}
 use Rattle.widl_convert.specs.Resolution.{argument, argument_given, argument_task, arguments, of_several as several_by, picked, resolve, with_entries, without_method}
-use Rattle.widl_convert.specs.Tasks.{Arguments, Talk}
+use Rattle.widl_convert.specs.Tasks.{Arguments, Defaults, Talk}
 use Rattle.widl_convert.specs.Words.{fails}
 
 -- 1. The arguments
 
 -- the next one is taken, and another value stands in its place
-pub next_argument : {X : Type 0} (args : List X) (m k : ℕ) (v x : X) → k < m → slice_get args k ≡ Some v → drop k (take m args) ≡ v ∷ drop (k + 1) (take m (set args k x))
+next_argument : {X : Type 0} (args : List X) (m k : ℕ) (v x : X) → k < m → slice_get args k ≡ Some v → drop k (take m args) ≡ v ∷ drop (k + 1) (take m (set args k x))
 next_argument [] m k v x below is = absurd (grind arith)
 next_argument (a ∷ args) zero k v x below is = absurd (omega arith)
 next_argument (a ∷ args) (suc m) zero v x below is = (let same : a ≡ v = cc in ap (λ (w : _). w ∷ take m args) same)
@@ -39,11 +39,8 @@ next_argument (a ∷ args) (suc m) (suc k) v x below is =
     let on : suc k + 1 ≡ suc (k + 1) = omega arith in
     next_argument args m k v x (omega arith) is ∙ ap (λ n. v ∷ drop n (take (suc m) (a ∷ set args k x))) (sym on)
 
-pub none_left : {X : Type 0} (args : List X) (m k : ℕ) → m ≤ k → drop k (take m args) ≡ []
+none_left : {X : Type 0} (args : List X) (m k : ℕ) → min (length args) m ≤ k → drop k (take m args) ≡ []
 none_left args m k past = drop_all k (take m args) (omega (arith, length-take m args, past))
-
-pub all_taken : {X : Type 0} (args : List X) (m k : ℕ) → length args ≤ k → drop k (take m args) ≡ []
-all_taken args m k past = drop_all k (take m args) (omega (arith, length-take m args, past))
 
 -- 2. The numbers of overloads
 
@@ -259,3 +256,51 @@ none_kept list callee n args numbers long is none = none_by (kept_tuples list ca
     none_by : (entries : List TupleTerm) → length (numbers_of entries) ≡ 0 → with_entries list callee entries (take (argcount_of list callee (length args)) args) ≡ fails code.NoOverload
     none_by [] none = refl
     none_by (t ∷ more) none = absurd (omega arith)
+
+-- 7. From one argument to the next
+
+last_of : (list : DefsTerm) (kept : Kept) (overload : Option ℕ) (entries : List TupleTerm) (made : List IdlTerm) → (overload ≡ None → 2 ≤ length entries) → entries ≡ entries_left list kept overload
+    → arguments list kept.callee entries (place_in kept) [] made ≡ after_arguments kept.callee overload made
+last_of list kept None [] made several is = refl
+last_of list kept None (t ∷ []) made several is = absurd (let long : 2 ≤ length (t ∷ []) = several refl in omega (arith, long))
+last_of list kept None (t ∷ u ∷ more) made several is = refl
+last_of list kept (Some e) [] made several is = absurd (cc)
+last_of list kept (Some e) (t ∷ []) made several is =
+    let same : t ≡ entry_in list kept e = cc in
+    let number : t.overload ≡ e = ap (λ (u : TupleTerm). u.overload) same ∙ number_of_entry e (declared_args list kept.callee e) kept.argcount in
+    ap (λ (n : ℕ). let d : Talk = Steps (Defaults kept.callee n made) End in d) number
+last_of list kept (Some e) (t ∷ u ∷ more) made several is = absurd (cc)
+
+-- no argument is left
+pub last_is : (list : DefsTerm) (kept : Kept) (overload : Option ℕ) (args : List Value) (made : List IdlTerm) → IsOpen kept overload → min (length args) kept.argcount ≤ length made
+    → arguments list kept.callee (entries_left list kept overload) (place_in kept) (left_from (length made) kept args) made ≡ after_arguments kept.callee overload made
+last_is list kept overload args made several past =
+    let long : length (entries_for list kept.callee kept.argcount kept.overloads) ≡ length kept.overloads = length-map kept.overloads (λ (e : ℕ). entry_for e (declared_args list kept.callee e) kept.argcount) in
+    let many : overload ≡ None → 2 ≤ length (entries_left list kept overload) = λ none. subst (λ (o : Option ℕ). 2 ≤ length (entries_left list kept o)) (sym none) (omega (arith, long, (several none).several)) in
+    ap (λ (left : List Value). arguments list kept.callee (entries_left list kept overload) (place_in kept) left made) (none_left args kept.argcount (length made) past)
+    ∙ last_of list kept overload (entries_left list kept overload) made many refl
+
+left_is : (kept : Kept) (args rest : List Value) (k : ℕ) (v x : Value) → k < min (length args) kept.argcount → slice_get args k ≡ Some v → rest ≡ set args k x → left_from k kept args ≡ v ∷ left_from (k + 1) kept rest
+left_is kept args rest k v x below is taken = next_argument args kept.argcount k v x (omega (arith, below)) is ∙ ap (λ (l : List Value). v ∷ left_from (k + 1) kept l) (sym taken)
+
+-- the next argument, where an overload is left alone
+pub next_alone : (list : DefsTerm) (kept : Kept) (overload : Option ℕ) (e : ℕ) (args rest : List Value) (v x : Value) (made : List IdlTerm) → overload ≡ Some e → length made < min (length args) kept.argcount → slice_get args (length made) ≡ Some v → rest ≡ set args (length made) x
+    → arguments list kept.callee (entries_left list kept overload) (place_in kept) (left_from (length made) kept args) made
+    ≡ Steps (argument_task list kept.callee (entry_in list kept e) (length made) v) (argument_given kept.callee (entries_left list kept overload) (place_in kept) (left_from (length made + 1) kept rest) made)
+next_alone list kept overload e args rest v x made some below is taken =
+    subst (λ (o : Option ℕ). ◌≡◌ {A = Talk} (arguments list kept.callee (entries_left list kept o) (place_in kept) (left_from (length made) kept args) made) (Steps (argument_task list kept.callee (entry_in list kept e) (length made) v) (argument_given kept.callee (entries_left list kept o) (place_in kept) (left_from (length made + 1) kept rest) made)))
+    (sym some) (ap (λ (left : List Value). arguments list kept.callee (entry_in list kept e ∷ []) (place_in kept) left made) (left_is kept args rest (length made) v x below is taken))
+
+several_next : (list : DefsTerm) (callee : Callee) (entries : List TupleTerm) (place : ℕ) (v : Value) (left : List Value) (made : List IdlTerm) → 2 ≤ length entries → arguments list callee entries place (v ∷ left) made ≡ several_by list callee entries place v left made
+several_next list callee [] place v left made several = absurd (omega arith)
+several_next list callee (t ∷ []) place v left made several = absurd (omega arith)
+several_next list callee (t ∷ u ∷ more) place v left made several = refl
+
+-- the next argument, where several entries are left
+pub next_several : (list : DefsTerm) (kept : Kept) (overload : Option ℕ) (args rest : List Value) (v x : Value) (made : List IdlTerm) → overload ≡ None → AreSeveral kept → length made < min (length args) kept.argcount → slice_get args (length made) ≡ Some v → rest ≡ set args (length made) x
+    → arguments list kept.callee (entries_left list kept overload) (place_in kept) (left_from (length made) kept args) made ≡ several_by list kept.callee (entries_left list kept overload) (place_in kept) v (left_from (length made + 1) kept rest) made
+next_several list kept overload args rest v x made none several below is taken =
+    let long : length (entries_for list kept.callee kept.argcount kept.overloads) ≡ length kept.overloads = length-map kept.overloads (λ (e : ℕ). entry_for e (declared_args list kept.callee e) kept.argcount) in
+    let many : 2 ≤ length (entries_left list kept overload) = subst (λ (o : Option ℕ). 2 ≤ length (entries_left list kept o)) (sym none) (omega (arith, long, several.several)) in
+    ap (λ (left : List Value). arguments list kept.callee (entries_left list kept overload) (place_in kept) left made) (left_is kept args rest (length made) v x below is taken)
+    ∙ several_next list kept.callee (entries_left list kept overload) (place_in kept) v (left_from (length made + 1) kept rest) made many

@@ -83,7 +83,8 @@ pub(crate) fn arguments(tables: &Tables, resolution: Resolution) -> Move
 {
     let mut resolution = resolution;
     let place = resolution.made.len();
-    if place >= resolution.kept.argcount as usize || place >= resolution.args.len() {
+    let count = resolution.args.len().min(resolution.kept.argcount as usize);
+    if place >= count {
         return after_last(resolution);
     }
     let value = resolution.args.replace(place, Value::Undefined);

@@ -65,7 +65,7 @@ fn returns(value: Value) -> Move
 /// The end with the Number that is nearest to an integer.
 fn integer(n: i128) -> Move
     ensures dialog { (list : DefsTerm) → move_dialog list result ≡ integer_to_script n }
-    ensures weight { (list : DefsTerm) → weight list result ≡ 0 }
+    ensures weight { (list : DefsTerm) → weight list result ≤ object_load }
 {
     if n < -GREATEST || n > GREATEST {
         Move::Gives(Ending::Profile(NO_WHOLE_NUMBER))

@@ -21,7 +21,7 @@ invariant_of-result c =
     let some : 0 < length c.in_ok-kept.kept.overloads = grind (arith, c.len-2.ensures, c.if-len-eq0.false) in
     record {
       several = opened (defs_term c.defs.result.now) c.args.call.callee c.len.result c.in_ok-kept.kept c.sole-overload.result c.in_ok-kept.ensures.overloads c.in_ok-kept.ensures.place some
-      (c.sole-overload.ensures ∙ ap sole c.as_slice.ensures);
+          (c.sole-overload.ensures ∙ ap sole c.as_slice.ensures);
     }
 
 pub returns-clause-dialog : goal.returns-clause-dialog
