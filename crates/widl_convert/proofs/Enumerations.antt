@@ -42,4 +42,4 @@ found_at (x ∷ types) (suc i) t n below is none here =
     let split : option_or (enumeration_among (flattened_member (type_term x))) (enumeration_among (flattened_members (packed (map type_term (take i types))))) ≡ None
     = sym (among_append (flattened_member (type_term x)) (flattened_members (packed (map type_term (take i types))))) ∙ none in
     among_append (flattened_member (type_term x)) (flattened_members (packed (map type_term types)))
-    ∙ (λ k. option_or (or_left _ _ split k) (found_at types i t n (omega arith) is (or_right _ _ split) here k))
+    ∙ (λ k. option_or (or_left (enumeration_among (flattened_member (type_term x))) (enumeration_among (flattened_members (packed (map type_term (take i types))))) split k) (found_at types i t n (omega arith) is (or_right (enumeration_among (flattened_member (type_term x))) (enumeration_among (flattened_members (packed (map type_term (take i types))))) split) here k))

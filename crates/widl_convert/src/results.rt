@@ -3,7 +3,7 @@
 ghost use Rattle.std.specs.Prelude.{◌≡◌, ◌≤◌, IfOk};
 ghost use Rattle.std.specs.Option.{option_copied};
 ghost use Rattle.widl_idl.specs.DefinitionTerms.{DefsTerm, defs_term};
-ghost use Rattle.widl_idl.specs.Terms.{TypeTerm};
+ghost use Rattle.widl_idl.specs.Terms.{AnyType};
 ghost use Rattle.widl_value.specs.IdlTerms.{idl_term};
 ghost use Rattle.widl_trace.specs.IdlValueTexts.{enumeration_value};
 ghost use Rattle.widl_convert.specs.Built.{built_today};
@@ -25,13 +25,14 @@ use widl_value::{IdlValue, Value, nearest};
 /// The greatest magnitude of a Number that a conversion gives.
 const GREATEST: i128 = 18_446_744_073_709_551_616;
 
-/// The first move of an IDL value's conversion to a value of the script. A missing value is undefined.
+/// The first move of an IDL value's conversion to a value of the script, which is the same whatever its
+/// type. A missing value is undefined.
 ///
 /// # Errors
 ///
 /// `AllocError` where there is no memory.
 pub(crate) fn out(alloc: Global, tables: &Tables, value: IdlValue) -> Result<Move, AllocError>
-    ensures dialog { IfOk result (λ m. (t : TypeTerm) → move_dialog (defs_term tables.now.defs) m ≡ out built_today (defs_term tables.now.defs) t (idl_term value)) }
+    ensures dialog { IfOk result (λ m. move_dialog (defs_term tables.now.defs) m ≡ out built_today (defs_term tables.now.defs) AnyType (idl_term value)) }
     ensures weight { IfOk result (λ m. weight (defs_term tables.now.defs) m ≤ object_load) }
 {
     match value {
