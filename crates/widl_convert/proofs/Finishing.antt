@@ -1,6 +1,6 @@
 -- Each task ends in some conversation, and so it does after each answer that fits and each end of a task that it goes through.
 use Rattle.std.proofs.Common.{◌≡◌, ℕ, zero, suc, ◌+◌, ◌≤◌, Bool, true, false, if◌then◌else◌, List, [], ◌∷◌, ◌++◌, length, Option, None, Some, Result, refl, sym, subst, arith}
-use Rattle.std.specs.Prelude.{ℤ, nat_eq, slice_get}
+use Rattle.std.specs.Prelude.{◌^◌, ℤ, nat_abs, nat_eq, nat_le, slice_get}
 use Rattle.std.proofs.lemmas.List.{length-append}
 use Rattle.std.proofs.lemmas.Option.{slice_get_past}
 use Rattle.std.specs.declared.result.Result.TheVariants as results
@@ -374,7 +374,7 @@ module _ (built : Built) (list : DefsTerm) where
   fine_script NullValue = an_end _
   fine_script MissingValue = an_end _
   fine_script (BooleanValue b) = an_end _
-  fine_script (IntegerValue n) = an_end _
+  fine_script (IntegerValue n) = fine_if steps (nat_le (nat_abs n) (2 ^ 64)) _ _ (an_end _) (an_end _)
   fine_script (StringValue units) = an_end _
   fine_script (EnumerationValue n place) = an_end _
   fine_script (ObjectValue o) = an_end _

@@ -5,5 +5,7 @@ pub mod Suspending
 pub mod Resuming
 pub mod Standing
 pub mod EmptySet
+pub mod Resolving
+pub mod Enumerations
 pub mod Worked
 mod Talks

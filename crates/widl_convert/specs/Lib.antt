@@ -13,3 +13,4 @@ pub mod Waits
 pub mod Frames
 pub mod Loads
 pub mod Stack
+pub mod Entries

@@ -16,6 +16,8 @@ mod answer;
 mod ask;
 mod asker;
 mod convert;
+mod defaults;
+mod entry;
 mod frames;
 mod hint;
 mod jobs;
@@ -23,12 +25,13 @@ pub mod laws;
 mod moves;
 mod outcome;
 mod primitive;
+mod resolution;
+mod resolve;
+mod results;
 mod scalar;
 mod settle;
 mod stack;
 mod steps;
-#[cfg(test)]
-mod tests;
 mod waits;
 
 pub use answer::{Answer, CursorState, KindName};

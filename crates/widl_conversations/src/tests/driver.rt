@@ -5,13 +5,14 @@ ghost use Rattle.widl_convert.specs.Stack.{Expects};
 
 use super::running::Running;
 use super::words::{ask_text, end_text};
-use crate::{Answer, Ask, Asker, Next, Want};
 use std::alloc::{AllocError, Global};
 use std::process::Abort;
-use widl_idl::{Defs, Fragments, IdlType, Merged};
-use widl_overload::Accepted;
+use std::test::Fail;
+use widl_convert::{Answer, Ask, Asker, Next, Want};
+use widl_front::{Texts, Verdict, judge};
+use widl_idl::IdlType;
 use widl_tables::{Tables, compile};
-use widl_text::Items;
+use widl_text::limits::MOST_FILE_BYTES;
 use widl_value::Value;
 
 /// What a conversation has come to.
@@ -32,19 +33,19 @@ pub enum Reply {
     Throws(Value),
 }
 
-/// Tables of the empty list.
-#[tactic(auto, using(widl_idl::proofs::Empty::empty_is_merged, crate::proofs::EmptySet::empty_is_valid))]
-pub fn no_definitions(alloc: Global) -> Result<Tables, AllocError> {
-    let defs = Defs {
-        ifaces: Items::new(alloc),
-        spaces: Items::new(alloc),
-        dicts: Items::new(alloc),
-        choices: Items::new(alloc),
-        callback_fns: Items::new(alloc),
-        callback_ifaces: Items::new(alloc),
-    };
-    let merged = Merged::new(defs, Fragments::new(alloc));
-    compile(alloc, Accepted::new(merged))
+/// The tables of one file, which is accepted.
+#[tactic(auto, using(crate::proofs::OneText::alone_short))]
+pub fn tables_of(alloc: Global, file: &str) -> Result<Tables, Fail> {
+    let bytes = file.as_bytes();
+    if bytes.len() > MOST_FILE_BYTES {
+        return Err(Fail::new("the file is too long"));
+    }
+    let mut texts = Texts::new(alloc);
+    texts.push(Vec::from_slice(alloc, bytes)?)?;
+    match judge(alloc, &texts)? {
+        Verdict::Accepted(list) => Ok(compile(alloc, list)?),
+        Verdict::Fault(_) | Verdict::Broken(_) => Err(Fail::new("the file is not accepted")),
+    }
 }
 
 /// Goes on with an answer.
@@ -69,7 +70,7 @@ fn answer(tables: &Tables, asker: Asker, reply: Reply) -> Came
 }
 
 /// Answers an ask, which is a read or a call.
-#[tactic(auto, using(crate::proofs::Resuming::expects))]
+#[tactic(auto, using(widl_convert::proofs::Resuming::expects))]
 pub fn goes_on(tables: &Tables, running: Running, reply: Reply) -> Came {
     let Running { asker, ask } = running;
     match ask {
@@ -84,7 +85,7 @@ pub fn goes_on(tables: &Tables, running: Running, reply: Reply) -> Came {
 }
 
 /// What a conversation asks with these answers, and its end, if it comes to one.
-fn talk(
+pub fn talk(
     alloc: Global,
     tables: &Tables,
     asker: Asker,
@@ -119,10 +120,10 @@ pub fn converted(
     ty: &IdlType,
     value: Value,
     replies: Vec<Reply>,
-) -> Result<String, AllocError> {
-    let tables = no_definitions(alloc)?;
+) -> Result<String, Fail> {
+    let tables = tables_of(alloc, "")?;
     let asker = Asker::start_convert(alloc, ty, value)?;
-    talk(alloc, &tables, asker, replies)
+    Ok(talk(alloc, &tables, asker, replies)?)
 }
 
 /// The conversion of a value to a Number, a String or a length.
@@ -131,10 +132,10 @@ pub fn scalar(
     want: Want,
     value: Value,
     replies: Vec<Reply>,
-) -> Result<String, AllocError> {
-    let tables = no_definitions(alloc)?;
+) -> Result<String, Fail> {
+    let tables = tables_of(alloc, "")?;
     let asker = Asker::start_scalar(alloc, want, value)?;
-    talk(alloc, &tables, asker, replies)
+    Ok(talk(alloc, &tables, asker, replies)?)
 }
 
 /// A value becomes an IDL value, or a fault, without an ask.
@@ -144,7 +145,7 @@ pub fn expect(
     ty: &IdlType,
     value: Value,
     end: &str,
-) -> Result<(), AllocError> {
+) -> Result<(), Fail> {
     let said = converted(alloc, ty, value, Vec::new(alloc))?;
     assert_eq!(rt; said.as_str(), end);
     Ok(())

@@ -1,10 +1,10 @@
 //! Long texts, and many conversations at once.
 
-use super::driver::{Came, Reply, converted, goes_on, no_definitions, resume};
+use super::driver::{Came, Reply, converted, goes_on, resume, tables_of};
 use super::{function, number, plain};
-use crate::{Answer, Asker, Next, Outcome};
 use std::alloc::{AllocError, Global};
 use std::test::Fail;
+use widl_convert::{Answer, Asker, Next, Outcome};
 use widl_idl::{IdlType, IntKind, Mode, TextKind};
 use widl_tables::Tables;
 use widl_text::Units;
@@ -54,7 +54,7 @@ fn is_three(came: Came) -> bool {
 #[test]
 fn many_conversations_at_once(rt: HostRuntime) -> Result<(), Fail> {
     let alloc = rt.alloc();
-    let tables = no_definitions(alloc)?;
+    let tables = tables_of(alloc, "")?;
     let mut all = Vec::new(alloc);
     for _ in 0..10_000 {
         all.push(open(alloc, &tables)?)?;

@@ -1,9 +1,13 @@
 //! Askers that are driven by lists of answers.
 
+mod crowds;
 mod driver;
+mod given;
 mod hostile;
 mod integers;
 mod primitives;
+mod resolution;
+mod results;
 mod running;
 mod types;
 mod words;

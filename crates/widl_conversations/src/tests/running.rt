@@ -4,8 +4,7 @@ ghost use Rattle.std.specs.Prelude.{◌≡◌, Some};
 ghost use Rattle.widl_convert.specs.AskTerms.{ask_term, kind_of};
 ghost use Rattle.widl_convert.specs.Stack.{pending};
 
-use crate::ask::Ask;
-use crate::asker::Asker;
+use widl_convert::{Ask, Asker};
 
 /// A conversation that waits for the answer to an ask.
 #[derive(Drop)]

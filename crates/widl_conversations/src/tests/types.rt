@@ -2,9 +2,9 @@
 
 use super::driver::{converted, expect, scalar};
 use super::{by_method, function, number, plain, text};
-use crate::Want;
 use std::alloc::{AllocError, Global};
 use std::test::Fail;
+use widl_convert::Want;
 use widl_idl::{IdlType, IdlTypes, IntKind, Mode, TextKind};
 use widl_text::Units;
 use widl_value::{Number, Value};

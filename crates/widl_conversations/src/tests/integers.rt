@@ -2,13 +2,13 @@
 
 use super::driver::{converted, expect};
 use super::{by_method, number, plain, text};
-use std::alloc::{AllocError, Global};
+use std::alloc::Global;
 use std::test::Fail;
 use widl_idl::{IdlType, IntKind, Mode};
 use widl_value::{Number, Value};
 
 /// What -5, 300, Infinity and NaN become.
-fn all_ends(alloc: Global, kind: IntKind, mode: Mode) -> Result<String, AllocError> {
+fn all_ends(alloc: Global, kind: IntKind, mode: Mode) -> Result<String, Fail> {
     let values = [
         number(-5),
         number(300),

@@ -1,9 +1,9 @@
 //! What conversations ask and how they end, as texts.
 
-use crate::{Ask, Next, Outcome};
 use std::alloc::{AllocError, Global};
+use widl_convert::{Ask, Next, Outcome};
 use widl_text::{Key, Units};
-use widl_value::{IdlValue, Number, Value, Values};
+use widl_value::{IdlValue, IdlValues, Number, Value, Values};
 
 /// A text of units.
 fn units_text(alloc: Global, units: &Units) -> Result<String, AllocError> {
@@ -70,6 +70,8 @@ pub fn ask_text(alloc: Global, ask: &Ask) -> Result<String, AllocError> {
 fn idl_text(alloc: Global, value: &IdlValue) -> Result<String, AllocError> {
     match value {
         IdlValue::Undefined => String::from_str(alloc, "undefined"),
+        IdlValue::Null => String::from_str(alloc, "null"),
+        IdlValue::Missing => String::from_str(alloc, "missing"),
         IdlValue::Bool(b) => format!(in alloc; "{b}"),
         IdlValue::Int(n) => format!(in alloc; "{n}"),
         IdlValue::Text(units) => {
@@ -84,8 +86,26 @@ fn idl_text(alloc: Global, value: &IdlValue) -> Result<String, AllocError> {
             let value = value_text(alloc, value)?;
             format!(in alloc; "any {value}")
         }
+        IdlValue::Choice {
+            of: enumeration,
+            index,
+        } => format!(in alloc; "value {enumeration}.{index}"),
+        IdlValue::List(values) => format!(in alloc; "list of {}", values.len()),
         _ => String::from_str(alloc, "another value"),
     }
+}
+
+/// An overload with the values of its arguments.
+fn chosen_text(alloc: Global, overload: u32, values: &IdlValues) -> Result<String, AllocError> {
+    let mut all = format!(in alloc; "#{overload} (")?;
+    for place in 0..values.len() {
+        if place > 0 {
+            all.push_str(", ")?;
+        }
+        all.push_str(idl_text(alloc, values.at(place))?.as_str())?;
+    }
+    all.push_str(")")?;
+    Ok(all)
 }
 
 /// How a conversation ends.
@@ -94,7 +114,7 @@ pub fn end_text(alloc: Global, next: &Next) -> Result<String, AllocError> {
         Next::Ask(_) => String::from_str(alloc, "another ask"),
         Next::Done(Outcome::Idl(value)) => idl_text(alloc, value),
         Next::Done(Outcome::Script(value)) => value_text(alloc, value),
-        Next::Done(Outcome::Chosen { .. }) => String::from_str(alloc, "an overload"),
+        Next::Done(Outcome::Chosen { overload, values }) => chosen_text(alloc, *overload, values),
         Next::Throw(code) => format!(in alloc; "throws {code:?}"),
         Next::Rethrow(value) => {
             let value = value_text(alloc, value)?;

@@ -2,10 +2,10 @@
 
 use super::driver::{Reply, scalar};
 use super::{function, number, plain, text};
-use crate::Want;
 use std::alloc::{AllocError, Global};
 use std::process::Abort;
 use std::test::Fail;
+use widl_convert::Want;
 use widl_value::Value;
 
 /// What an object asks with these answers.
@@ -15,7 +15,7 @@ fn expect(
     want: Want,
     replies: Vec<Reply>,
     said: &str,
-) -> Result<(), AllocError> {
+) -> Result<(), Fail> {
     let told = scalar(alloc, want, plain(1), replies)?;
     assert_eq!(rt; told.as_str(), said);
     Ok(())
