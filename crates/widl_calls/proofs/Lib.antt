@@ -1,2 +1,6 @@
 pub mod CallFinishing
+pub mod InnerConversions
+pub mod CallSuspending
+pub mod CallResuming
+pub mod CallLeading
 mod CallTalks
