@@ -3,4 +3,5 @@ pub mod InnerConversions
 pub mod CallSuspending
 pub mod CallResuming
 pub mod CallLeading
+pub mod CallLawProofs
 mod CallTalks

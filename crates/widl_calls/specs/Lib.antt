@@ -5,6 +5,7 @@ pub mod Operations
 pub mod ObjectFunctions
 pub mod CallRules
 pub mod FoundSteps
+pub mod CallLaws
 pub mod NamedTerms
 pub mod Kinds
 pub mod Waits
