@@ -1,6 +1,7 @@
 -- Each task of a call ends in some conversation, and so it does after each answer that fits and each end of a task that it goes through.
 use Rattle.std.proofs.Common.{ℕ, Bool, List, [], ◌∷◌, Option, None, Some, refl}
-use Rattle.std.specs.Prelude.{nat_eq, slice_get}
+use Rattle.std.specs.Prelude.{nat_eq, nat_le, ◌++◌, codes, length}
+use Rattle.std.specs.Map.{lookup}
 use Rattle.widl_dialog.specs.Dialog.{End, Say, Steps}
 use Rattle.widl_dialog.specs.Conversation.{Finishes}
 use Rattle.widl_dialog.specs.Rename.{rename}
@@ -22,7 +23,6 @@ use Rattle.widl_script_tree.specs.declared.steps.Source.{Source}
 use Rattle.widl_script_tree.specs.declared.steps.Source.TheVariants as sources
 use Rattle.widl_script_tree.specs.declared.steps.StepLine.{StepLine}
 use Rattle.widl_script_tree.specs.declared.steps.StepLine.TheVariants as steps
-use Rattle.widl_script_tree.specs.Trees.{ScriptTree}
 use Rattle.widl_convert.specs.declared.answer.KindName.TheVariants as kinds
 use Rattle.widl_convert.specs.AskTerms.{UnitAsk, KindAsk, DoneAnswer, KindAnswer, Fits}
 use Rattle.widl_convert.specs.Laws.{AsksAreTalked}
@@ -31,14 +31,14 @@ use Rattle.widl_convert.specs.Tasks.{Task, Resolve, Default, Out, TaskEnd, Gives
 use Rattle.widl_convert.proofs.Finishing.{IsFine, fine, fine_if, fine_ask, fine_given, fine_rule}
 use Rattle.widl_calls.specs.BuiltCalls.{BuiltCalls}
 use Rattle.widl_calls.specs.CallRules.{call_rule, intrinsic, function}
-use Rattle.widl_calls.specs.CallTasks.{CallTask, Of, Function, Lines, CallTalk}
-use Rattle.widl_calls.specs.ObjectFunctions.{object_to_string, object_value_of, with_tag, by_kind}
-use Rattle.widl_calls.specs.Operations.{result_type, lines_of, returns_promise, steps_of, chosen, owned_operation}
-use Rattle.widl_calls.specs.StepLines.{argument_value, return_line, line, default_result, lines}
+use Rattle.widl_calls.specs.CallTasks.{CallTask, NamedValues, Of, Function, Lines, CallTalk}
+use Rattle.widl_calls.specs.ObjectFunctions.{kind_in, kind_tag, most_joined_units, object_to_string, object_value_of, tagged, with_tag, by_kind}
+use Rattle.widl_calls.specs.Operations.{StepsOf, result_type, returns_promise, steps_of, chosen, owned_operation}
+use Rattle.widl_calls.specs.StepLines.{argument_value, read_values, return_line, line, default_result, lines}
 
-module _ (built : BuiltCalls) (list : DefsTerm) (script : ScriptTree) where
+module _ (built : BuiltCalls) (list : DefsTerm) (blocks : StepsOf) where
   abbrev tasks : CallTask → CallTalk
-  tasks = call_rule built list script
+  tasks = call_rule built list blocks
 
   abbrev Is : CallTalk → Type 0
   Is d = IsFine tasks d
@@ -77,13 +77,13 @@ module _ (built : BuiltCalls) (list : DefsTerm) (script : ScriptTree) where
   fine_argument (Some (DictionaryValue n _)) = an_end _
   fine_argument (Some (PromiseValue o)) = an_end _
 
-  fine_return : (t : TypeTerm) (ws : List IdlTerm) (source : Source) → Is (return_line t ws source)
-  fine_return t ws (sources.Arg number) = fine_argument (slice_get ws number)
+  fine_return : (t : TypeTerm) (ws : NamedValues) (source : Source) → Is (return_line t ws source)
+  fine_return t ws (sources.Arg number) = fine_argument (lookup (nat_eq number) ws)
   fine_return t ws sources.This = an_end _
   fine_return t ws (sources.Slot name) = an_end _
   fine_return t ws (sources.Literal l) = converts (Default t (Some l))
 
-  fine_line : (t : TypeTerm) (ws : List IdlTerm) (l : StepLine) → Is (line t ws l)
+  fine_line : (t : TypeTerm) (ws : NamedValues) (l : StepLine) → Is (line t ws l)
   fine_line t ws (steps.Return source) = fine_return t ws source
   fine_line t ws (steps.ReturnInvoke invoke) = an_end _
   fine_line t ws (steps.SetSlot name source) = an_end _
@@ -110,18 +110,18 @@ module _ (built : BuiltCalls) (list : DefsTerm) (script : ScriptTree) where
   fine_default (NullableType t) = an_end _
   fine_default (UnionType ts) = an_end _
 
-  fine_lines : (t : TypeTerm) (ws : List IdlTerm) (ls : List StepLine) → Is (lines t ws ls)
+  fine_lines : (t : TypeTerm) (ws : NamedValues) (ls : List StepLine) → Is (lines t ws ls)
   fine_lines t ws [] = fine_default t
   fine_lines t ws (l ∷ more) = fine_say tasks Fits UnitAsk _ DoneAnswer tt (λ a f. fine_line t ws l)
 
   -- 2. Operations
 
-  fine_steps_of : (c : Callee) (e : ℕ) (ws : List IdlTerm) → Is (steps_of list script c e ws)
+  fine_steps_of : (c : Callee) (e : ℕ) (ws : List IdlTerm) → Is (steps_of list blocks c e ws)
   fine_steps_of c e ws =
-      through (Lines (result_type list c e) ws (lines_of list script c e)) _ (fine_lines _ ws (lines_of list script c e)).ends
+      through (Lines (result_type list c e) (read_values (blocks c e) ws) (blocks c e)) _ (fine_lines _ (read_values (blocks c e) ws) (blocks c e)).ends
       (fine_given tasks _ (λ w. converts (Out (result_type list c e) w)))
 
-  fine_chosen : (c : Callee) (r : TaskEnd) → Is (chosen list script c r)
+  fine_chosen : (c : Callee) (r : TaskEnd) → Is (chosen list blocks c r)
   fine_chosen c (Picks e ws) = fine_say tasks Fits _ _ DoneAnswer tt (λ a f. fine_steps_of c e ws)
   fine_chosen c (Gives w) = an_end _
   fine_chosen c (Plain v) = an_end _
@@ -129,17 +129,20 @@ module _ (built : BuiltCalls) (list : DefsTerm) (script : ScriptTree) where
   fine_chosen c (Rethrow v) = an_end _
   fine_chosen c (Profile n) = an_end _
 
-  fine_operation : (c : Callee) (args : List Value) (owner : Owner) → Is (owned_operation list script c args owner)
+  fine_operation : (c : Callee) (args : List Value) (owner : Owner) → Is (owned_operation list blocks c args owner)
   fine_operation c args (owners.Space n) = fine_if tasks (returns_promise list c) _ _ (an_end _) (through (Of (Resolve c args)) _ (fine_of (Resolve c args)).ends (fine_chosen c))
   fine_operation c args (owners.Iface n) = an_end _
 
   -- 3. Functions of objects
 
+  fine_tagged : (tag : List ℕ) → Is (tagged tag)
+  fine_tagged tag = fine_if tasks (nat_le (length (codes "[object " ++ tag ++ codes "]")) most_joined_units) _ _ (an_end _) (an_end _)
+
   fine_kind : (o : ObjRef) → Is (Say (KindAsk o) by_kind)
-  fine_kind o = fine_say tasks Fits (KindAsk o) by_kind (KindAnswer kinds.Other) tt (λ a f. an_end _)
+  fine_kind o = fine_say tasks Fits (KindAsk o) by_kind (KindAnswer kinds.Other) tt (λ a f. fine_tagged (kind_tag (kind_in a)))
 
   fine_tag : (o : ObjRef) (v : Value) → Is (with_tag o v)
-  fine_tag o (values.Str tag) = an_end _
+  fine_tag o (values.Str tag) = fine_tagged tag
   fine_tag o values.Undefined = fine_kind o
   fine_tag o values.Null = fine_kind o
   fine_tag o (values.Bool b) = fine_kind o
@@ -173,7 +176,7 @@ module _ (built : BuiltCalls) (list : DefsTerm) (script : ScriptTree) where
       (fine_if tasks (nat_eq n 16) _ _ (an_end _)
       (fine_if tasks (nat_eq n 17) _ _ (an_end _) (an_end _)))))
 
-  fine_function : (what : Builtin) (this : Value) (args : List Value) → Is (function list script what this args)
+  fine_function : (what : Builtin) (this : Value) (args : List Value) → Is (function list blocks what this args)
   fine_function (builtins.Intrinsic n) this args = fine_intrinsic n this
   fine_function (builtins.Callee c) this args = fine_operation c args c.owner
   fine_function (builtins.InterfaceObject n) this args = an_end _
@@ -181,10 +184,10 @@ module _ (built : BuiltCalls) (list : DefsTerm) (script : ScriptTree) where
 
   -- 4. All tasks
 
-  pub fine_call_rule : (t : CallTask) → IsFine (call_rule built list script) (call_rule built list script t)
+  pub fine_call_rule : (t : CallTask) → IsFine (call_rule built list blocks) (call_rule built list blocks t)
   fine_call_rule (Of t) = fine_of t
   fine_call_rule (Function f what this args construct) = fine_if tasks (built.functions what) _ _ (fine_function what this args) (an_end _)
   fine_call_rule (Lines t ws ls) = fine_lines t ws ls
 
-  pub all_talked : AsksAreTalked (call_rule built list script)
-  all_talked = asks_go_on (call_rule built list script) Fits (λ j. (fine_call_rule j).good)
+  pub all_talked : AsksAreTalked (call_rule built list blocks)
+  all_talked = asks_go_on (call_rule built list blocks) Fits (λ j. (fine_call_rule j).good)

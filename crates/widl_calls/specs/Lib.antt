@@ -4,3 +4,10 @@ pub mod StepLines
 pub mod Operations
 pub mod ObjectFunctions
 pub mod CallRules
+pub mod FoundSteps
+pub mod CallLaws
+pub mod NamedTerms
+pub mod Kinds
+pub mod Waits
+pub mod Frames
+pub mod Stack
