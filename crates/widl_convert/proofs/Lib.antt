@@ -7,5 +7,6 @@ pub mod Standing
 pub mod EmptySet
 pub mod Resolving
 pub mod Enumerations
+pub mod ValueCounts
 pub mod Worked
 mod Talks
