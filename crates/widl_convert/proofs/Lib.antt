@@ -4,7 +4,6 @@ pub mod Bytes
 pub mod Suspending
 pub mod Resuming
 pub mod Standing
-pub mod EmptySet
 pub mod Resolving
 pub mod Enumerations
 pub mod ValueCounts
