@@ -4,8 +4,8 @@ pub mod Bytes
 pub mod Suspending
 pub mod Resuming
 pub mod Standing
-pub mod EmptySet
 pub mod Resolving
 pub mod Enumerations
+pub mod ValueCounts
 pub mod Worked
 mod Talks

@@ -1,8 +1,10 @@
 -- For proofs and contracts alone; no step names these words. What a suspended conversation still does: the dialog of each thing that it is made of.
 use Rattle.std.specs.Prelude.{ℕ, ◌+◌, List, [], ◌∷◌, ◌++◌, length, codes}
 use Rattle.widl_dialog.specs.Dialog.{End, Say, Steps}
+use Rattle.widl_idl.specs.declared.callee.Callee.{Callee}
 use Rattle.widl_idl.specs.DefinitionTerms.{DefsTerm}
 use Rattle.widl_idl.specs.Terms.{type_term}
+use Rattle.widl_overload.specs.Sets.{TupleTerm}
 use Rattle.widl_value.specs.declared.number.Number.{Number}
 use Rattle.widl_value.specs.declared.object.ObjRef.{ObjRef}
 use Rattle.widl_value.specs.declared.value.Value.{Value}
@@ -51,6 +53,10 @@ use Rattle.widl_convert.specs.Words.{fails, given, normal, number, returned, ret
 -- a resolution goes on with the argument at a place, after these values
 abbrev pub resolution_task : DefsTerm → Resolution → ℕ → List IdlTerm → Task
 resolution_task list r place made = Arguments r.kept.callee (entries_left list r.kept r.overload) (place_in r.kept) (left_from place r.kept r.args) made
+
+-- a step of a resolution of which this argument is taken
+abbrev pub taken : (DefsTerm → Callee → List TupleTerm → ℕ → Value → List Value → List IdlTerm → Talk) → DefsTerm → Resolution → Value → Talk
+taken step list r v = step list r.kept.callee (entries_left list r.kept r.overload) (place_in r.kept) v (left_from (length (idl_terms r.made) + 1) r.kept r.args) (idl_terms r.made)
 
 abbrev pub job_of : DefsTerm → Job → Task
 job_of list (jobs.Primitive hint v) = Primitive hint v

@@ -9,6 +9,7 @@ pub mod Defaults
 pub mod Results
 pub mod Rules
 pub mod Laws
+pub mod ResolutionLaws
 pub mod Waits
 pub mod Frames
 pub mod Loads

@@ -14,6 +14,7 @@ use Rattle.widl_convert.specs.declared.moves.Move.{Move}
 use Rattle.widl_convert.specs.declared.moves.Move.TheVariants as moves
 use Rattle.widl_convert.specs.declared.outcome.Want.{Want}
 use Rattle.widl_convert.specs.declared.outcome.Want.TheVariants as wants
+use Rattle.widl_convert.specs.declared.resolution.Resolution.{Resolution}
 use Rattle.widl_convert.specs.declared.waits.Wait.{Wait}
 use Rattle.widl_convert.specs.declared.waits.Wait.TheVariants as waits
 use Rattle.widl_convert.specs.Entries.{left_from}
@@ -74,6 +75,10 @@ end_load (Plain v) = if_object v
 end_load _ = 0
 
 -- what a frame does after the task that it waits for, beside what comes of the end
+-- an argument that is taken, with those that are left after it
+abbrev pub taken_load : DefsTerm → Resolution → ℕ
+taken_load list r = argument_load + arguments_load list r.kept.callee (length (left_from (length (idl_terms r.made) + 1) r.kept r.args))
+
 abbrev pub idl_frame_load : DefsTerm → IdlFrame → ℕ
 idl_frame_load list (idls.Argument r) = 2 + arguments_load list r.kept.callee (length (left_from (length (idl_terms r.made) + 1) r.kept r.args))
 idl_frame_load list (idls.Defaulted b) = 2 + defaults_load list b.callee b.overload (length (idl_terms b.made) + 1)

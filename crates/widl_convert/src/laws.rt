@@ -4,6 +4,7 @@
 ghost use Rattle.widl_idl.specs.DefinitionTerms.{DefsTerm};
 ghost use Rattle.widl_convert.specs.Built.{Built};
 ghost use Rattle.widl_convert.specs.Laws.{AsksAreTalked, BeginningsHaveOneNext, PartsMakeWholes};
+ghost use Rattle.widl_convert.specs.ResolutionLaws.{OthersAreNotLookedAt, ValuesAreCounted};
 ghost use Rattle.widl_convert.specs.Rules.{rule};
 ghost use Rattle.widl_convert.specs.Stack.{EachAnswerGoesOn, HasOneLast};
 
@@ -30,4 +31,16 @@ pub fn has_one_last()
 /// A suspended conversation that stands at an ask has exactly one next, for each answer that fits.
 pub fn answers_go_on()
     ensures { (list : DefsTerm) → EachAnswerGoesOn list }
+{}
+
+/// The overload that is chosen has a value for each argument of the call that counts, and for each of its
+/// declared ones after them but a variadic one.
+pub fn values_are_counted()
+    ensures { (built : Built) (list : DefsTerm) → ValuesAreCounted (rule built list) list }
+{}
+
+/// Nothing is asked of an argument beyond those that count: what is said of a call is the same whatever
+/// stands there.
+pub fn others_are_not_looked_at()
+    ensures { (built : Built) (list : DefsTerm) → OthersAreNotLookedAt (rule built list) list }
 {}

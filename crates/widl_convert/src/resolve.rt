@@ -9,10 +9,12 @@ ghost use Rattle.widl_tables.specs.Kept.{declared_args, entry_for, optionality_a
 ghost use Rattle.widl_tables.specs.Picks.{pick_of};
 ghost use Rattle.widl_tables.specs.Tests.{is_optional};
 ghost use Rattle.widl_convert.specs.AskTerms.{GetAsk};
+ghost use Rattle.widl_convert.specs.Built.{built_today};
 ghost use Rattle.widl_convert.specs.Entries.{IsAtPlace, entries_left, entry_in, left_from, place_in, sole};
-ghost use Rattle.widl_convert.specs.Frames.{idl_to, job_of, move_dialog, probe_to};
-ghost use Rattle.widl_convert.specs.Loads.{argument_load, arguments_load, default_load, idl_frame_load, load, weight};
-ghost use Rattle.widl_convert.specs.Resolution.{argument, argument_given, argument_task, arguments, iterator_symbol, of_several, picked, resolve, without_method};
+ghost use Rattle.widl_convert.specs.Frames.{idl_to, job_of, move_dialog, probe_to, taken};
+ghost use Rattle.widl_convert.specs.Loads.{default_load, idl_frame_load, load, taken_load, weight};
+ghost use Rattle.widl_convert.specs.Resolution.{argument, argument_given, argument_task, iterator_symbol, of_several, picked, resolve, without_method};
+ghost use Rattle.widl_convert.specs.Rules.{rule};
 ghost use Rattle.widl_convert.specs.Tasks.{Resolve};
 ghost use Rattle.widl_convert.specs.Words.{fails, normal, object};
 
@@ -78,8 +80,8 @@ fn throws(reason: Code) -> Move
 
 /// The move from one argument to the next.
 pub(crate) fn arguments(tables: &Tables, resolution: Resolution) -> Move
-    ensures dialog { move_dialog (defs_term tables.now.defs) result ≡ arguments (defs_term tables.now.defs) resolution.kept.callee (entries_left (defs_term tables.now.defs) resolution.kept resolution.overload) (place_in resolution.kept) (left_from (length (idl_terms resolution.made)) resolution.kept resolution.args) (idl_terms resolution.made) }
-    ensures weight { weight (defs_term tables.now.defs) result ≤ arguments_load (defs_term tables.now.defs) resolution.kept.callee (length (left_from (length (idl_terms resolution.made)) resolution.kept resolution.args)) }
+    ensures dialog { move_dialog (defs_term tables.now.defs) result ≡ rule built_today (defs_term tables.now.defs) (job_of (defs_term tables.now.defs) (Job.Arguments resolution)) }
+    ensures weight { weight (defs_term tables.now.defs) result ≤ load (defs_term tables.now.defs) (job_of (defs_term tables.now.defs) (Job.Arguments resolution)) }
 {
     let mut resolution = resolution;
     let place = resolution.made.len();
@@ -97,7 +99,7 @@ pub(crate) fn arguments(tables: &Tables, resolution: Resolution) -> Move
 /// The move to an argument that was taken, by the entry of an overload.
 fn argument(tables: &Tables, resolution: Resolution, overload: u32, value: Value) -> Move
     ensures dialog { move_dialog (defs_term tables.now.defs) result ≡ Steps (argument_task (defs_term tables.now.defs) resolution.kept.callee (entry_in (defs_term tables.now.defs) resolution.kept overload) (length (idl_terms resolution.made)) value) (argument_given resolution.kept.callee (entries_left (defs_term tables.now.defs) resolution.kept resolution.overload) (place_in resolution.kept) (left_from (length (idl_terms resolution.made) + 1) resolution.kept resolution.args) (idl_terms resolution.made)) }
-    ensures weight { weight (defs_term tables.now.defs) result ≤ argument_load + arguments_load (defs_term tables.now.defs) resolution.kept.callee (length (left_from (length (idl_terms resolution.made) + 1) resolution.kept resolution.args)) }
+    ensures weight { weight (defs_term tables.now.defs) result ≤ taken_load (defs_term tables.now.defs) resolution }
 {
     let job = argument_job(tables, &resolution, overload, value);
     Move::Steps(Frame::Idl(IdlFrame::Argument(resolution)), job)
@@ -145,8 +147,8 @@ fn is_optional(tables: &Tables, at: ArgumentPlace, length: u32) -> bool
 /// The move to an argument that was taken where several entries are left.
 fn of_several(tables: &Tables, resolution: Resolution, value: Value) -> Move
     requires { resolution.overload ≡ None }
-    ensures dialog { move_dialog (defs_term tables.now.defs) result ≡ of_several (defs_term tables.now.defs) resolution.kept.callee (entries_left (defs_term tables.now.defs) resolution.kept resolution.overload) (place_in resolution.kept) value (left_from (length (idl_terms resolution.made) + 1) resolution.kept resolution.args) (idl_terms resolution.made) }
-    ensures weight { weight (defs_term tables.now.defs) result ≤ argument_load + arguments_load (defs_term tables.now.defs) resolution.kept.callee (length (left_from (length (idl_terms resolution.made) + 1) resolution.kept resolution.args)) }
+    ensures dialog { move_dialog (defs_term tables.now.defs) result ≡ taken of_several (defs_term tables.now.defs) resolution value }
+    ensures weight { weight (defs_term tables.now.defs) result ≤ taken_load (defs_term tables.now.defs) resolution }
 {
     if resolution.made.len() == resolution.kept.place.unwrap_or(0) as usize {
         picked(tables, resolution, value)
@@ -159,8 +161,8 @@ fn of_several(tables: &Tables, resolution: Resolution, value: Value) -> Move
 /// of them takes it.
 fn by_first(tables: &Tables, resolution: Resolution, value: Value) -> Move
     requires { resolution.overload ≡ None }
-    ensures dialog { move_dialog (defs_term tables.now.defs) result ≡ argument (defs_term tables.now.defs) resolution.kept.callee (entries_left (defs_term tables.now.defs) resolution.kept resolution.overload) (place_in resolution.kept) value (left_from (length (idl_terms resolution.made) + 1) resolution.kept resolution.args) (idl_terms resolution.made) }
-    ensures weight { weight (defs_term tables.now.defs) result ≤ argument_load + arguments_load (defs_term tables.now.defs) resolution.kept.callee (length (left_from (length (idl_terms resolution.made) + 1) resolution.kept resolution.args)) }
+    ensures dialog { move_dialog (defs_term tables.now.defs) result ≡ taken argument (defs_term tables.now.defs) resolution value }
+    ensures weight { weight (defs_term tables.now.defs) result ≤ taken_load (defs_term tables.now.defs) resolution }
 {
     let first = *resolution.kept.overloads.at(0);
     argument(tables, resolution, first, value)
@@ -170,7 +172,7 @@ fn by_first(tables: &Tables, resolution: Resolution, value: Value) -> Move
 fn picked(tables: &Tables, resolution: Resolution, value: Value) -> Move
     requires { IsAtPlace resolution.kept resolution.overload (length (idl_terms resolution.made)) }
     ensures dialog { move_dialog (defs_term tables.now.defs) result ≡ picked (defs_term tables.now.defs) resolution.kept.callee (entries_left (defs_term tables.now.defs) resolution.kept resolution.overload) (place_in resolution.kept) value (left_from (length (idl_terms resolution.made) + 1) resolution.kept resolution.args) (idl_terms resolution.made) (pick_of (defs_term tables.now.defs) (entries_left (defs_term tables.now.defs) resolution.kept resolution.overload) (place_in resolution.kept) (class_of value) false) }
-    ensures weight { weight (defs_term tables.now.defs) result ≤ argument_load + arguments_load (defs_term tables.now.defs) resolution.kept.callee (length (left_from (length (idl_terms resolution.made) + 1) resolution.kept resolution.args)) }
+    ensures weight { weight (defs_term tables.now.defs) result ≤ taken_load (defs_term tables.now.defs) resolution }
 {
     match pick_overload(tables.list().defs(), &resolution.kept, value.class(), false) {
         Pick::Entry(overload) => by_alone(tables, resolution, overload, value),
@@ -182,7 +184,7 @@ fn picked(tables: &Tables, resolution: Resolution, value: Value) -> Move
 /// The move to an argument that was taken, by the entry of an overload that is left alone.
 fn by_alone(tables: &Tables, resolution: Resolution, overload: u32, value: Value) -> Move
     ensures dialog { move_dialog (defs_term tables.now.defs) result ≡ argument (defs_term tables.now.defs) resolution.kept.callee (entry_in (defs_term tables.now.defs) resolution.kept overload ∷ []) (place_in resolution.kept) value (left_from (length (idl_terms resolution.made) + 1) resolution.kept resolution.args) (idl_terms resolution.made) }
-    ensures weight { weight (defs_term tables.now.defs) result ≤ argument_load + arguments_load (defs_term tables.now.defs) resolution.kept.callee (length (left_from (length (idl_terms resolution.made) + 1) resolution.kept resolution.args)) }
+    ensures weight { weight (defs_term tables.now.defs) result ≤ taken_load (defs_term tables.now.defs) resolution }
 {
     argument(tables, alone(resolution, overload), overload, value)
 }
