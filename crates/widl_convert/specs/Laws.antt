@@ -1,14 +1,24 @@
 -- The laws of conversations, for these tasks and those of the crates above. The functions of `laws` have them as contracts.
 -- Source: this program's own.
-use Rattle.std.specs.Prelude.{◌≡◌, List, ◌++◌}
+use Rattle.std.specs.Prelude.{◌≡◌, ℕ, ◌+◌, true, List, ◌++◌}
 use Rattle.widl_dialog.specs.Conversation.{Next, Ends, Comes}
 use Rattle.widl_dialog.specs.Laws.{AsksGoOn, PartsAsk, PartsJoin, WholesSplit}
+use Rattle.widl_text.specs.Limits.{most_chained_dictionaries}
+use Rattle.widl_idl.specs.DefinitionTerms.{DefsTerm}
+use Rattle.widl_idl.specs.Terms.{DictionaryType}
+use Rattle.widl_overload.specs.Dictionaries.{BeginsChain}
 use Rattle.widl_convert.specs.AskTerms.{AskTerm, AnswerTerm, Fits}
+use Rattle.widl_convert.specs.Built.{Built}
 use Rattle.widl_convert.specs.Tasks.{TaskEnd, TalkOf}
 
 -- asks with their answers
 abbrev pub Said : Type 0
 Said = List (AskTerm × AnswerTerm)
+
+-- Where dictionaries are built, no chain begins with one that has more of them than it may have: each is the type of a member of the one before.
+-- A dictionary with a member `D d = {}` of its own type would never be done. Validity forbids both (Web IDL, "Dictionaries").
+abbrev pub ChainsEnd : Built → DefsTerm → Type 0
+ChainsEnd built list = (n : ℕ) → built.to_type (DictionaryType n) ≡ true → BeginsChain list.dicts (most_chained_dictionaries + 1) n → ⊥
 
 module _ {Job : Type 0} (rule : Job → TalkOf Job) where
   -- what comes next in a task's conversation, after these asks and answers

@@ -1,8 +1,14 @@
 pub mod AskTerms
+pub mod MemberOrder
 pub mod Tasks
 pub mod Words
 pub mod Built
 pub mod Primitives
+pub mod Sequences
+pub mod Records
+pub mod Dictionaries
+pub mod Nullables
+pub mod Unions
 pub mod Scalars
 pub mod Resolution
 pub mod Defaults

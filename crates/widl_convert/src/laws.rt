@@ -3,7 +3,7 @@
 
 ghost use Rattle.widl_idl.specs.DefinitionTerms.{DefsTerm};
 ghost use Rattle.widl_convert.specs.Built.{Built};
-ghost use Rattle.widl_convert.specs.Laws.{AsksAreTalked, BeginningsHaveOneNext, PartsMakeWholes};
+ghost use Rattle.widl_convert.specs.Laws.{AsksAreTalked, BeginningsHaveOneNext, ChainsEnd, PartsMakeWholes};
 ghost use Rattle.widl_convert.specs.Rules.{rule};
 ghost use Rattle.widl_convert.specs.Stack.{EachAnswerGoesOn, HasOneLast};
 
@@ -14,7 +14,7 @@ pub fn has_one_next()
 
 /// An ask comes next exactly where some whole conversation goes on with it.
 pub fn asks_are_talked()
-    ensures { (built : Built) (list : DefsTerm) → AsksAreTalked (rule built list) }
+    ensures { (built : Built) (list : DefsTerm) → ChainsEnd built list → AsksAreTalked (rule built list) }
 {}
 
 /// The conversation of a whole is those of its parts, one after another.
