@@ -50,9 +50,10 @@ module _ (dicts : List DictTerm) where
   all_declared_from : (n level number : ℕ) (members : List MemberTerm) → ((k : ℕ) → Contains (flat_map (λ (m : MemberTerm). dictionaries_in m.ty) members) k → HoldsIn dicts n k) → AllByRecursion (HeldBy n) (declared_from level number members)
   all_declared_from n level number [] inside = tt
   all_declared_from n level number (m ∷ members) inside =
-      let rest : List ℕ = flat_map (λ (m : MemberTerm). dictionaries_in m.ty) members in
-      (λ k there. inside k (Contains-append_left (dictionaries_in m.ty) rest k there),
-      all_declared_from n level (number + 1) members (λ k there. inside k (Contains-append_right (dictionaries_in m.ty) rest k there)))
+      let rest : List ℕ = flat_map (λ (m : MemberTerm). dictionaries_in m.ty) members in (
+        λ k there. inside k (Contains-append_left (dictionaries_in m.ty) rest k there),
+        all_declared_from n level (number + 1) members (λ k there. inside k (Contains-append_right (dictionaries_in m.ty) rest k there)),
+      )
 
   all_declared : (n level : ℕ) → IsOfLine dicts n level → AllByRecursion (HeldBy n) (declared_by dicts level)
   all_declared n level of_line = by (slice_get dicts level) refl
