@@ -8,9 +8,12 @@ use Rattle.widl_idl.specs.declared.argument.Optionality.{Optionality}
 use Rattle.widl_idl.specs.declared.callee.Callee.{Callee}
 use Rattle.widl_idl.specs.declared.callee.Owner.TheVariants as owners
 use Rattle.widl_idl.specs.declared.callee.Part.TheVariants as parts
+use Rattle.widl_idl.specs.declared.int_kind.IntKind.TheVariants.{Long}
+use Rattle.widl_idl.specs.declared.int_kind.Mode.TheVariants.{Wrap}
 use Rattle.widl_idl.specs.declared.literal.Literal.{Literal}
+use Rattle.widl_idl.specs.declared.literal.Literal.TheVariants as literals
 use Rattle.widl_idl.specs.DefinitionTerms.{DefsTerm, DictTerm, MemberTerm, ArgTerm, SigTerm}
-use Rattle.widl_idl.specs.Terms.{TypeTerm}
+use Rattle.widl_idl.specs.Terms.{TypeTerm, IntegerType}
 use Rattle.widl_value.specs.declared.flags.Flags.{Flags}
 use Rattle.widl_value.specs.declared.number.Number.TheVariants as numbers
 use Rattle.widl_value.specs.declared.object.ObjRef.{ObjRef}
@@ -69,7 +72,10 @@ hides_own o key = (OwnAsk o key, OwnAnswer (Some (flags false)))
 abbrev pub takes_unit : AskTerm × AnswerTerm
 takes_unit = (UnitAsk, DoneAnswer)
 
--- 3. Lists of definitions
+-- 3. Types and lists of definitions
+
+abbrev pub long : TypeTerm
+long = IntegerType Long Wrap
 
 abbrev pub place : Place
 place = record { file = 0; at = 0 }
@@ -109,6 +115,14 @@ required_member name t = record { at = place; name = name; ty = t; needed = true
 
 abbrev pub with_dictionaries : List DictTerm → DefsTerm
 with_dictionaries dicts = record nothing_defined { dicts = dicts }
+
+-- `dictionary B { long b = 1; }; dictionary D : B { long c = 9; long a; };`
+abbrev pub derived : DefsTerm
+derived =
+    with_dictionaries
+    (dictionary (codes "B") None (optional_member (codes "b") long (Some (literals.Int (pos 1))) ∷ [])
+    ∷ dictionary (codes "D") (Some 0) (optional_member (codes "c") long (Some (literals.Int (pos 9))) ∷ optional_member (codes "a") long None ∷ [])
+    ∷ [])
 
 -- 4. What is said
 

@@ -10,9 +10,7 @@ use Rattle.widl_value.specs.Rounding.{near_of, step_of}
 use Rattle.widl_convert.specs.AskTerms.{AskTerm, AnswerTerm, UnitAsk, NewArrayAsk, NewObjectAsk, NormalAnswer}
 use Rattle.widl_convert.specs.Laws.{Said}
 use Rattle.widl_convert.specs.Tasks.{Task, Out, Plain}
-use Rattle.widl_convert.proofs.Worked.{number, integer, plain, takes_unit, nothing_defined, Tells}
-use Rattle.widl_convert.proofs.Talks.DictionaryTalks.{derived}
-use Rattle.widl_convert.proofs.Talks.SequenceTalks.{long}
+use Rattle.widl_convert.proofs.Worked.{number, integer, plain, takes_unit, derived, long, nothing_defined, Tells}
 
 -- 1. A list of a record of texts: the items of each come first, then a unit for each, then the object or the array
 

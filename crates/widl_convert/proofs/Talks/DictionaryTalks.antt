@@ -12,17 +12,9 @@ use Rattle.widl_trace.specs.declared.code.Code.TheVariants as code
 use Rattle.widl_convert.specs.AskTerms.{GetAsk, UnitAsk, ThrownAnswer}
 use Rattle.widl_convert.specs.Laws.{Said}
 use Rattle.widl_convert.specs.Tasks.{Task, Convert, Gives, Throw, Rethrow}
-use Rattle.widl_convert.proofs.Worked.{number, integer, plain, gets_name, takes_unit, dictionary, optional_member, required_member, with_dictionaries, nothing_defined, Tells}
-use Rattle.widl_convert.proofs.Talks.SequenceTalks.{long}
+use Rattle.widl_convert.proofs.Worked.{number, integer, plain, gets_name, takes_unit, dictionary, optional_member, required_member, with_dictionaries, derived, long, nothing_defined, Tells}
 
--- 1. `dictionary B { long b = 1; }; dictionary D : B { long c = 9; long a; };`: the members of B come first, and those of D by their names
-
-abbrev pub derived : DefsTerm
-derived =
-    with_dictionaries
-    (dictionary (codes "B") None (optional_member (codes "b") long (Some (literals.Int (pos 1))) ∷ [])
-    ∷ dictionary (codes "D") (Some 0) (optional_member (codes "c") long (Some (literals.Int (pos 9))) ∷ optional_member (codes "a") long None ∷ [])
-    ∷ [])
+-- 1. `dictionary B { long b = 1; }; dictionary D : B { long c = 9; long a; };` (`derived`): the members of B come first, and those of D by their names
 
 abbrev pub of_object : Task
 of_object = Convert (DictionaryType 1) (values.Obj (plain 1))

@@ -12,10 +12,10 @@ use Rattle.widl_convert.specs.AskTerms.{AskTerm, GetAsk, CallAsk, OwnAsk, UnitAs
 use Rattle.widl_convert.specs.Laws.{Said}
 use Rattle.widl_convert.specs.Rules.{rule}
 use Rattle.widl_convert.specs.Tasks.{Task, TaskEnd, Convert, Resolve, Rethrow}
-use Rattle.widl_convert.proofs.Worked.{number, plain, function, call_throws, gets_name, nothing_defined, f, everything_built, Tells}
+use Rattle.widl_convert.proofs.Worked.{number, plain, function, call_throws, gets_name, derived, nothing_defined, f, everything_built, Tells}
 use Rattle.widl_convert.proofs.Talks.ContainerTalks.{list_of_records, units_are_first}
 use Rattle.widl_convert.proofs.Talks.DictionaryTalks as dictionary_talks
-use Rattle.widl_convert.proofs.Talks.DictionaryTalks.{derived, base_is_first, then_by_name}
+use Rattle.widl_convert.proofs.Talks.DictionaryTalks.{base_is_first, then_by_name}
 use Rattle.widl_convert.proofs.Talks.RecordTalks as record_talks
 use Rattle.widl_convert.proofs.Talks.RecordTalks.{listed, first_is_looked_at}
 use Rattle.widl_convert.proofs.Talks.SequenceTalks.{of_numbers, begun, next_is_called, turn_throws, method, with_sequence, of_object, found_is_called}

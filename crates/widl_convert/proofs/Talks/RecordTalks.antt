@@ -11,8 +11,7 @@ use Rattle.widl_trace.specs.declared.code.Code.TheVariants as code
 use Rattle.widl_convert.specs.AskTerms.{GetAsk, OwnKeysAsk, OwnAsk, OwnAnswer, ThrownAnswer}
 use Rattle.widl_convert.specs.Laws.{Said}
 use Rattle.widl_convert.specs.Tasks.{Task, Convert, Gives, Throw, Rethrow}
-use Rattle.widl_convert.proofs.Worked.{number, integer, plain, gets, gets_name, has_keys, shows_own, hides_own, nothing_defined, Tells}
-use Rattle.widl_convert.proofs.Talks.SequenceTalks.{long}
+use Rattle.widl_convert.proofs.Worked.{number, integer, plain, gets, gets_name, has_keys, shows_own, hides_own, long, nothing_defined, Tells}
 
 -- `record<DOMString, long>` of object 1, which has the keys `"2"`, `"10"`, `"b"`, `"h"`, which is hidden, and symbol 3
 abbrev pub of_numbers : Task

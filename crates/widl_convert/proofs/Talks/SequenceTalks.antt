@@ -3,11 +3,9 @@ use Rattle.std.specs.Prelude.{[], ◌∷◌, ◌++◌, None, false, codes, refl}
 use Rattle.widl_dialog.specs.Conversation.{Asks, Ends}
 use Rattle.widl_text.specs.declared.key.Key.TheVariants as keys
 use Rattle.widl_idl.specs.declared.argument.Optionality.TheVariants.{Required}
-use Rattle.widl_idl.specs.declared.int_kind.IntKind.TheVariants.{Long}
-use Rattle.widl_idl.specs.declared.int_kind.Mode.TheVariants.{Wrap}
 use Rattle.widl_idl.specs.declared.text_kind.TextKind.TheVariants as texts
 use Rattle.widl_idl.specs.DefinitionTerms.{DefsTerm}
-use Rattle.widl_idl.specs.Terms.{TypeTerm, UndefinedType, IntegerType, StringType, SequenceType}
+use Rattle.widl_idl.specs.Terms.{TypeTerm, UndefinedType, StringType, SequenceType}
 use Rattle.widl_value.specs.declared.value.Value.{Value}
 use Rattle.widl_value.specs.declared.value.Value.TheVariants as values
 use Rattle.widl_value.specs.IdlTerms.{IdlTerm, SequenceValue, StringValue, packed_values}
@@ -16,10 +14,7 @@ use Rattle.widl_trace.specs.declared.code.Code.TheVariants as code
 use Rattle.widl_convert.specs.AskTerms.{GetAsk, CallAsk, ThrownAnswer}
 use Rattle.widl_convert.specs.Laws.{Said}
 use Rattle.widl_convert.specs.Tasks.{Task, Convert, Resolve, Gives, Picks, Throw, Rethrow}
-use Rattle.widl_convert.proofs.Worked.{number, integer, plain, function, gets, gets_name, calls, call_throws, nothing_defined, argument, overload, with_overloads, f, Tells}
-
-abbrev pub long : TypeTerm
-long = IntegerType Long Wrap
+use Rattle.widl_convert.proofs.Worked.{number, integer, plain, function, gets, gets_name, calls, call_throws, long, nothing_defined, argument, overload, with_overloads, f, Tells}
 
 -- `sequence<long>` of object 1
 abbrev pub of_numbers : Task

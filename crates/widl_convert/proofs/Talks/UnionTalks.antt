@@ -19,8 +19,8 @@ use Rattle.widl_trace.specs.declared.code.Code.TheVariants as code
 use Rattle.widl_convert.specs.AskTerms.{GetAsk, CallAsk, OwnKeysAsk, UnitAsk}
 use Rattle.widl_convert.specs.Laws.{Said}
 use Rattle.widl_convert.specs.Tasks.{Task, Convert, Resolve, Gives, Picks, Throw, Profile}
-use Rattle.widl_convert.proofs.Worked.{number, integer, plain, function, gets, gets_name, takes_unit, nothing_defined, argument, overload, with_overloads, dictionary, optional_member, f, Tells}
-use Rattle.widl_convert.proofs.Talks.SequenceTalks.{long, method, begun, first_turn, last_turn}
+use Rattle.widl_convert.proofs.Worked.{number, integer, plain, function, gets, gets_name, takes_unit, long, nothing_defined, argument, overload, with_overloads, dictionary, optional_member, f, Tells}
+use Rattle.widl_convert.proofs.Talks.SequenceTalks.{method, begun, first_turn, last_turn}
 
 abbrev text : TypeTerm
 text = StringType texts.Dom false
