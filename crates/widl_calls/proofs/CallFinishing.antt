@@ -1,6 +1,6 @@
 -- Each task of a call ends in some conversation, and so it does after each answer that fits and each end of a task that it goes through.
 use Rattle.std.proofs.Common.{ℕ, ◌+◌, Bool, true, false, List, [], ◌∷◌, Option, None, Some, refl}
-use Rattle.std.specs.Prelude.{codes, nat_eq, nat_lt, slice_get}
+use Rattle.std.specs.Prelude.{codes, decimal, nat_eq, nat_lt, slice_get}
 use Rattle.widl_dialog.specs.Dialog.{End, Say, Steps}
 use Rattle.widl_dialog.specs.Conversation.{Finishes}
 use Rattle.widl_dialog.specs.Rename.{rename}
@@ -38,7 +38,7 @@ use Rattle.widl_convert.specs.Rules.{rule}
 use Rattle.widl_convert.specs.Tasks.{Task, Convert, Scalar, Resolve, Default, Out, TaskEnd, Gives, Plain, Picks, Throw, Rethrow, Profile}
 use Rattle.widl_convert.specs.Words.{done, normal, returns}
 use Rattle.widl_convert.proofs.Finishing.{IsFine, fine, fine_if, fine_normal, fine_ask, fine_object, fine_given, fine_number, fine_rule}
-use Rattle.widl_calls.specs.ArrayFunctions.{array_values, iterator_result, read_in_turn, given_in_turn, index_text, element_read, with_length, length_read, by_turn, cursor_in, by_cursor, array_iterator_next}
+use Rattle.widl_calls.specs.ArrayFunctions.{array_values, iterator_result, read_in_turn, given_in_turn, element_read, with_length, length_read, by_turn, cursor_in, by_cursor, array_iterator_next}
 use Rattle.widl_calls.specs.BuiltCalls.{BuiltCalls}
 use Rattle.widl_calls.specs.CallRules.{call_rule, intrinsic, function}
 use Rattle.widl_calls.specs.CallTasks.{CallTask, Of, Function, Lines, CallTalk}
@@ -179,7 +179,7 @@ module _ (built : BuiltCalls) (list : DefsTerm) (script : ScriptTree) (chains_en
   -- 4. Functions of arrays
 
   -- an answer that fits the ask for a new object
-  new_object : AnswerTerm
+  abbrev new_object : AnswerTerm
   new_object = NormalAnswer (values.Obj (record { id = 0; shape = shapes.Plain }))
 
   fine_new : (q : AskTerm) → Fits q new_object → Is (Say q (normal returns))
@@ -224,7 +224,7 @@ module _ (built : BuiltCalls) (list : DefsTerm) (script : ScriptTree) (chains_en
   fine_with_length : (iterator of : ObjRef) (next count : ℕ) → Is (with_length iterator of next count)
   fine_with_length iterator of next count =
       fine_if tasks (nat_lt next count) _ _
-      (fine_get_in_turn iterator of next (index_text next) (element_read iterator next) (λ v. fine_set iterator (next + 1) Idle _ (fine_iterator_result v false)))
+      (fine_get_in_turn iterator of next (decimal next) (element_read iterator next) (λ v. fine_set iterator (next + 1) Idle _ (fine_iterator_result v false)))
       (fine_set iterator next Ended _ (fine_iterator_result values.Undefined true))
 
   fine_turn : (iterator of : ObjRef) (next : ℕ) (turn : Turn) → Is (by_turn iterator of next turn)

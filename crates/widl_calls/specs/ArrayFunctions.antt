@@ -1,14 +1,12 @@
 -- The functions of Array.prototype and of iterators that make an array iterable.
 -- Source: ECMA-262, Array.prototype.values, CreateArrayIterator, %ArrayIteratorPrototype%.next, %IteratorPrototype%[@@iterator],
 -- CreateIterResultObject.
-use Rattle.std.specs.Prelude.{ℕ, ◌+◌, Bool, true, false, if◌then◌else◌, nat_lt, List, [], ◌∷◌, Option, None, Some, codes, pos}
+use Rattle.std.specs.Prelude.{ℕ, ◌+◌, Bool, true, false, if◌then◌else◌, nat_lt, List, [], ◌∷◌, Option, None, Some, codes, decimal}
 use Rattle.widl_dialog.specs.Dialog.{End, Say, Steps}
 use Rattle.widl_text.specs.declared.key.Key.TheVariants as keys
-use Rattle.widl_value.specs.declared.number.Number.TheVariants as numbers
 use Rattle.widl_value.specs.declared.object.ObjRef.{ObjRef}
 use Rattle.widl_value.specs.declared.value.Value.{Value}
 use Rattle.widl_value.specs.declared.value.Value.TheVariants as values
-use Rattle.widl_scalar.specs.NumberTexts.{number_text_of}
 use Rattle.widl_scalar.specs.Primitives.{length_of}
 use Rattle.widl_store.specs.declared.inner.Turn.{Turn}
 use Rattle.widl_store.specs.declared.inner.Turn.TheVariants.{Idle, Running, Ended}
@@ -47,18 +45,14 @@ given_in_turn iterator next k (Throw reason) = ends_iterator iterator next (End 
 given_in_turn iterator next k (Rethrow v) = ends_iterator iterator next (End (Rethrow v))
 given_in_turn iterator next k e = k e
 
--- the text of an index is that of the Number
-abbrev pub index_text : ℕ → List ℕ
-index_text n = number_text_of (numbers.Whole (pos n))
-
 abbrev pub element_read : ObjRef → ℕ → Value → CallTalk
 element_read iterator next v = Say (SetCursorAsk iterator (next + 1) Idle) (done (iterator_result v false))
 
--- at the end of the array, or past it, the iterator is ended
+-- The key is the index as a Number's text: its decimal digits. At the end of the array, or past it, the iterator is ended.
 abbrev pub with_length : ObjRef → ObjRef → ℕ → ℕ → CallTalk
 with_length iterator of next count =
     if nat_lt next count
-    then Say (GetAsk of (keys.Name (index_text next))) (read_in_turn iterator next (element_read iterator next))
+    then Say (GetAsk of (keys.Name (decimal next))) (read_in_turn iterator next (element_read iterator next))
     else ends_iterator iterator next (iterator_result values.Undefined true)
 
 abbrev pub length_read : ObjRef → ObjRef → ℕ → Value → CallTalk

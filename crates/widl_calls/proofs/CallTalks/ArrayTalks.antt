@@ -1,5 +1,6 @@
 -- Worked conversations with everything built: the functions of arrays and array iterators, and default results.
-use Rattle.std.specs.Prelude.{◌≡◌, ℕ, List, [], ◌∷◌, ◌++◌, Option, None, Some, Bool, true, false, codes, refl}
+use Rattle.std.specs.Prelude.{◌≡◌, ℕ, List, [], ◌∷◌, ◌++◌, Option, None, Some, Bool, true, false, codes, decimal, refl}
+use Rattle.std.specs.Fmt.{digits}
 use Rattle.widl_dialog.specs.Conversation.{Asks, Ends, Next}
 use Rattle.widl_dialog.proofs.Nexts.{one_next}
 use Rattle.widl_text.specs.declared.key.Key.TheVariants as keys
@@ -24,7 +25,6 @@ use Rattle.widl_convert.specs.AskTerms.{AskTerm, AnswerTerm, GetAsk, NewObjectAs
 use Rattle.widl_convert.specs.Laws.{Said, IsNext}
 use Rattle.widl_convert.specs.Tasks.{TaskEnd, Gives, Plain, Throw, Rethrow, Profile}
 use Rattle.widl_convert.proofs.Worked.{number, integer, plain, function, gets_name, takes_unit, dictionary, required_member, with_dictionaries, derived, long, nothing_defined, everything_built}
-use Rattle.widl_calls.specs.ArrayFunctions.{index_text}
 use Rattle.widl_calls.specs.BuiltCalls.{BuiltCalls}
 use Rattle.widl_calls.specs.CallRules.{call_rule}
 use Rattle.widl_calls.specs.CallTasks.{CallTask, Function, Lines}
@@ -75,13 +75,13 @@ values_of_text = (60, refl)
 turn_begins : Does 13 iterator (stands 0 Idle ∷ []) (Asks (SetCursorAsk (plain 22) 0 Running))
 turn_begins = (60, (refl, tt, refl))
 
-element_is_read : Does 13 iterator (stands 0 Idle ∷ set 0 Running ∷ gets_name (plain 21) (codes "length") (number 1) ∷ []) (Asks (GetAsk (plain 21) (keys.Name (index_text 0))))
+element_is_read : Does 13 iterator (stands 0 Idle ∷ set 0 Running ∷ gets_name (plain 21) (codes "length") (number 1) ∷ []) (Asks (GetAsk (plain 21) (keys.Name (decimal 0))))
 element_is_read = (60, (refl, tt, (refl, tt, (refl, tt, refl))))
 
-pub turn_is_over : Does 13 iterator (stands 0 Idle ∷ set 0 Running ∷ gets_name (plain 21) (codes "length") (number 1) ∷ gets_name (plain 21) (index_text 0) (number 7) ∷ []) (Asks (SetCursorAsk (plain 22) 1 Idle))
+pub turn_is_over : Does 13 iterator (stands 0 Idle ∷ set 0 Running ∷ gets_name (plain 21) (codes "length") (number 1) ∷ gets_name (plain 21) (decimal 0) (number 7) ∷ []) (Asks (SetCursorAsk (plain 22) 1 Idle))
 turn_is_over = (60, (refl, tt, (refl, tt, (refl, tt, (refl, tt, refl)))))
 
-element_is_given : Does 13 iterator (stands 0 Idle ∷ set 0 Running ∷ gets_name (plain 21) (codes "length") (number 1) ∷ gets_name (plain 21) (index_text 0) (number 7) ∷ set 1 Idle ∷ makes (result (number 7) false) 23 ∷ []) (Ends (Plain (values.Obj (plain 23))))
+element_is_given : Does 13 iterator (stands 0 Idle ∷ set 0 Running ∷ gets_name (plain 21) (codes "length") (number 1) ∷ gets_name (plain 21) (decimal 0) (number 7) ∷ set 1 Idle ∷ makes (result (number 7) false) 23 ∷ []) (Ends (Plain (values.Obj (plain 23))))
 element_is_given = (60, (refl, tt, (refl, tt, (refl, tt, (refl, tt, (refl, tt, (refl, refl, refl)))))))
 
 end_is_told : Does 13 iterator (stands 1 Idle ∷ set 1 Running ∷ gets_name (plain 21) (codes "length") (number 1) ∷ set 1 Ended ∷ makes (result values.Undefined true) 24 ∷ []) (Ends (Plain (values.Obj (plain 24))))
@@ -90,7 +90,7 @@ end_is_told = (60, (refl, tt, (refl, tt, (refl, tt, (refl, tt, (refl, refl, refl
 ended_stays_so : Does 13 iterator (stands 1 Ended ∷ makes (result values.Undefined true) 25 ∷ []) (Ends (Plain (values.Obj (plain 25))))
 ended_stays_so = (60, (refl, tt, (refl, refl, refl)))
 
-tenth_element : Does 13 iterator (stands 10 Idle ∷ set 10 Running ∷ gets_name (plain 21) (codes "length") (number 12) ∷ []) (Asks (GetAsk (plain 21) (keys.Name (index_text 10))))
+tenth_element : Does 13 iterator (stands 10 Idle ∷ set 10 Running ∷ gets_name (plain 21) (codes "length") (number 12) ∷ []) (Asks (GetAsk (plain 21) (keys.Name (decimal 10))))
 tenth_element = (60, (refl, tt, (refl, tt, (refl, tt, refl))))
 
 -- an object without a length is at its end
@@ -113,7 +113,7 @@ half_is_no_length : Does 13 iterator (stands 0 Idle ∷ set 0 Running ∷ gets_n
 unfolding trimmed is_white read_of read_unsigned exact_of
 half_is_no_length = (60, (refl, tt, (refl, tt, (refl, tt, refl))))
 
-element_throws : Does 13 iterator (stands 0 Idle ∷ set 0 Running ∷ gets_name (plain 21) (codes "length") (number 1) ∷ (GetAsk (plain 21) (keys.Name (index_text 0)), ThrownAnswer (number 9)) ∷ set 0 Ended ∷ []) (Ends (Rethrow (number 9)))
+element_throws : Does 13 iterator (stands 0 Idle ∷ set 0 Running ∷ gets_name (plain 21) (codes "length") (number 1) ∷ (GetAsk (plain 21) (keys.Name (decimal 0)), ThrownAnswer (number 9)) ∷ set 0 Ended ∷ []) (Ends (Rethrow (number 9)))
 element_throws = (60, (refl, tt, (refl, tt, (refl, tt, (refl, tt, (refl, tt, refl))))))
 
 pub turn_is_running : Does 13 iterator (stands 0 Running ∷ []) (Ends (Throw code.Running))
@@ -146,7 +146,7 @@ not_begun_again x =
     one_next (call_rule all_built nothing_defined no_steps) Fits _ _ _ _ turn_is_running x in
     absurd (cc)
 
-not_ended : Does 13 iterator (stands 0 Idle ∷ set 0 Running ∷ gets_name (plain 21) (codes "length") (number 1) ∷ gets_name (plain 21) (index_text 0) (number 7) ∷ []) (Asks (SetCursorAsk (plain 22) 1 Ended)) → ⊥
+not_ended : Does 13 iterator (stands 0 Idle ∷ set 0 Running ∷ gets_name (plain 21) (codes "length") (number 1) ∷ gets_name (plain 21) (decimal 0) (number 7) ∷ []) (Asks (SetCursorAsk (plain 22) 1 Ended)) → ⊥
 not_ended x =
     let e : ◌≡◌ {A = Next AskTerm TaskEnd} (Asks (SetCursorAsk (plain 22) 1 Idle)) (Asks (SetCursorAsk (plain 22) 1 Ended)) =
     one_next (call_rule all_built nothing_defined no_steps) Fits _ _ _ _ turn_is_over x in
@@ -181,3 +181,12 @@ none_of_union = (60, refl)
 
 none_of_object : Results nothing_defined ObjectType [] (Ends (Throw code.NoDefault))
 none_of_object = (60, refl)
+
+-- 7. The texts of indices
+text_of_zero : decimal 0 ≡ codes "0"
+unfolding digits
+text_of_zero = refl
+
+text_of_ten : decimal 10 ≡ codes "10"
+unfolding digits
+text_of_ten = refl
