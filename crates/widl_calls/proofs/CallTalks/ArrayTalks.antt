@@ -1,5 +1,5 @@
 -- Worked conversations with everything built: the functions of arrays and array iterators, and default results.
-use Rattle.std.specs.Prelude.{◌≡◌, ℕ, List, [], ◌∷◌, ◌++◌, Option, None, Some, Bool, true, false, codes, decimal, refl}
+use Rattle.std.specs.Prelude.{◌≡◌, ℕ, List, [], ◌∷◌, ◌++◌, Option, None, Some, Bool, true, false, codes, refl}
 use Rattle.std.specs.Fmt.{digits}
 use Rattle.widl_dialog.specs.Conversation.{Asks, Ends, Next}
 use Rattle.widl_dialog.proofs.Nexts.{one_next}
@@ -75,13 +75,16 @@ values_of_text = (60, refl)
 turn_begins : Does 13 iterator (stands 0 Idle ∷ []) (Asks (SetCursorAsk (plain 22) 0 Running))
 turn_begins = (60, (refl, tt, refl))
 
-element_is_read : Does 13 iterator (stands 0 Idle ∷ set 0 Running ∷ gets_name (plain 21) (codes "length") (number 1) ∷ []) (Asks (GetAsk (plain 21) (keys.Name (decimal 0))))
+element_is_read : Does 13 iterator (stands 0 Idle ∷ set 0 Running ∷ gets_name (plain 21) (codes "length") (number 1) ∷ []) (Asks (GetAsk (plain 21) (keys.Name (codes "0"))))
+unfolding digits
 element_is_read = (60, (refl, tt, (refl, tt, (refl, tt, refl))))
 
-pub turn_is_over : Does 13 iterator (stands 0 Idle ∷ set 0 Running ∷ gets_name (plain 21) (codes "length") (number 1) ∷ gets_name (plain 21) (decimal 0) (number 7) ∷ []) (Asks (SetCursorAsk (plain 22) 1 Idle))
+pub turn_is_over : Does 13 iterator (stands 0 Idle ∷ set 0 Running ∷ gets_name (plain 21) (codes "length") (number 1) ∷ gets_name (plain 21) (codes "0") (number 7) ∷ []) (Asks (SetCursorAsk (plain 22) 1 Idle))
+unfolding digits
 turn_is_over = (60, (refl, tt, (refl, tt, (refl, tt, (refl, tt, refl)))))
 
-element_is_given : Does 13 iterator (stands 0 Idle ∷ set 0 Running ∷ gets_name (plain 21) (codes "length") (number 1) ∷ gets_name (plain 21) (decimal 0) (number 7) ∷ set 1 Idle ∷ makes (result (number 7) false) 23 ∷ []) (Ends (Plain (values.Obj (plain 23))))
+element_is_given : Does 13 iterator (stands 0 Idle ∷ set 0 Running ∷ gets_name (plain 21) (codes "length") (number 1) ∷ gets_name (plain 21) (codes "0") (number 7) ∷ set 1 Idle ∷ makes (result (number 7) false) 23 ∷ []) (Ends (Plain (values.Obj (plain 23))))
+unfolding digits
 element_is_given = (60, (refl, tt, (refl, tt, (refl, tt, (refl, tt, (refl, tt, (refl, refl, refl)))))))
 
 end_is_told : Does 13 iterator (stands 1 Idle ∷ set 1 Running ∷ gets_name (plain 21) (codes "length") (number 1) ∷ set 1 Ended ∷ makes (result values.Undefined true) 24 ∷ []) (Ends (Plain (values.Obj (plain 24))))
@@ -90,7 +93,8 @@ end_is_told = (60, (refl, tt, (refl, tt, (refl, tt, (refl, tt, (refl, refl, refl
 ended_stays_so : Does 13 iterator (stands 1 Ended ∷ makes (result values.Undefined true) 25 ∷ []) (Ends (Plain (values.Obj (plain 25))))
 ended_stays_so = (60, (refl, tt, (refl, refl, refl)))
 
-tenth_element : Does 13 iterator (stands 10 Idle ∷ set 10 Running ∷ gets_name (plain 21) (codes "length") (number 12) ∷ []) (Asks (GetAsk (plain 21) (keys.Name (decimal 10))))
+tenth_element : Does 13 iterator (stands 10 Idle ∷ set 10 Running ∷ gets_name (plain 21) (codes "length") (number 12) ∷ []) (Asks (GetAsk (plain 21) (keys.Name (codes "10"))))
+unfolding digits
 tenth_element = (60, (refl, tt, (refl, tt, (refl, tt, refl))))
 
 -- an object without a length is at its end
@@ -113,7 +117,8 @@ half_is_no_length : Does 13 iterator (stands 0 Idle ∷ set 0 Running ∷ gets_n
 unfolding trimmed is_white read_of read_unsigned exact_of
 half_is_no_length = (60, (refl, tt, (refl, tt, (refl, tt, refl))))
 
-element_throws : Does 13 iterator (stands 0 Idle ∷ set 0 Running ∷ gets_name (plain 21) (codes "length") (number 1) ∷ (GetAsk (plain 21) (keys.Name (decimal 0)), ThrownAnswer (number 9)) ∷ set 0 Ended ∷ []) (Ends (Rethrow (number 9)))
+element_throws : Does 13 iterator (stands 0 Idle ∷ set 0 Running ∷ gets_name (plain 21) (codes "length") (number 1) ∷ (GetAsk (plain 21) (keys.Name (codes "0")), ThrownAnswer (number 9)) ∷ set 0 Ended ∷ []) (Ends (Rethrow (number 9)))
+unfolding digits
 element_throws = (60, (refl, tt, (refl, tt, (refl, tt, (refl, tt, (refl, tt, refl))))))
 
 pub turn_is_running : Does 13 iterator (stands 0 Running ∷ []) (Ends (Throw code.Running))
@@ -146,7 +151,8 @@ not_begun_again x =
     one_next (call_rule all_built nothing_defined no_steps) Fits _ _ _ _ turn_is_running x in
     absurd (cc)
 
-not_ended : Does 13 iterator (stands 0 Idle ∷ set 0 Running ∷ gets_name (plain 21) (codes "length") (number 1) ∷ gets_name (plain 21) (decimal 0) (number 7) ∷ []) (Asks (SetCursorAsk (plain 22) 1 Ended)) → ⊥
+not_ended : Does 13 iterator (stands 0 Idle ∷ set 0 Running ∷ gets_name (plain 21) (codes "length") (number 1) ∷ gets_name (plain 21) (codes "0") (number 7) ∷ []) (Asks (SetCursorAsk (plain 22) 1 Ended)) → ⊥
+unfolding digits
 not_ended x =
     let e : ◌≡◌ {A = Next AskTerm TaskEnd} (Asks (SetCursorAsk (plain 22) 1 Idle)) (Asks (SetCursorAsk (plain 22) 1 Ended)) =
     one_next (call_rule all_built nothing_defined no_steps) Fits _ _ _ _ turn_is_over x in
@@ -181,12 +187,3 @@ none_of_union = (60, refl)
 
 none_of_object : Results nothing_defined ObjectType [] (Ends (Throw code.NoDefault))
 none_of_object = (60, refl)
-
--- 7. The texts of indices
-text_of_zero : decimal 0 ≡ codes "0"
-unfolding digits
-text_of_zero = refl
-
-text_of_ten : decimal 10 ≡ codes "10"
-unfolding digits
-text_of_ten = refl
