@@ -1,6 +1,7 @@
 pub mod OneNexts
 pub mod MemberChains
 pub mod Finishing
+pub mod Faulting
 pub mod Bytes
 pub mod Suspending
 pub mod Resuming

@@ -1,15 +1,16 @@
 -- The laws of conversations, for these tasks and those of the crates above. The functions of `laws` have them as contracts.
 -- Source: this program's own.
-use Rattle.std.specs.Prelude.{◌≡◌, ℕ, ◌+◌, true, List, ◌++◌}
-use Rattle.widl_dialog.specs.Conversation.{Next, Ends, Comes}
+use Rattle.std.specs.Prelude.{◌≡◌, ℕ, ◌+◌, true, List, [], ◌∷◌, ◌++◌}
+use Rattle.widl_dialog.specs.Conversation.{Next, Asks, Ends, Comes}
 use Rattle.widl_dialog.specs.Laws.{AsksGoOn, PartsAsk, PartsJoin, WholesSplit}
 use Rattle.widl_text.specs.Limits.{most_chained_dictionaries}
 use Rattle.widl_idl.specs.DefinitionTerms.{DefsTerm}
 use Rattle.widl_idl.specs.Terms.{DictionaryType}
 use Rattle.widl_overload.specs.Dictionaries.{BeginsChain}
-use Rattle.widl_convert.specs.AskTerms.{AskTerm, AnswerTerm, Fits}
+use Rattle.widl_value.specs.declared.value.Value.{Value}
+use Rattle.widl_convert.specs.AskTerms.{AskTerm, AnswerTerm, ThrownAnswer, Fits}
 use Rattle.widl_convert.specs.Built.{Built}
-use Rattle.widl_convert.specs.Tasks.{TaskEnd, TalkOf}
+use Rattle.widl_convert.specs.Tasks.{TaskEnd, Rethrow, TalkOf}
 
 -- asks with their answers
 abbrev pub Said : Type 0
@@ -41,6 +42,10 @@ module _ {Job : Type 0} (rule : Job → TalkOf Job) where
   -- an ask comes next exactly where some whole conversation goes on with it, whichever answer it gets that fits
   abbrev pub AsksAreTalked : Type 0
   AsksAreTalked = (task : Job) → AsksGoOn rule Fits task
+
+  -- after a value that is thrown for an answer nothing is asked: the conversation ends with that value
+  abbrev pub FaultsEnd : Type 0
+  FaultsEnd = (task : Job) (said : Said) (ask : AskTerm) (v : Value) → IsNext task said (Asks ask) → Fits ask (ThrownAnswer v) → IsTalk task (said ++ (ask, ThrownAnswer v) ∷ []) (Rethrow v)
 
   -- a part's conversation followed by the rest's is the whole's, and the whole's is one of these; what a part asks, the whole asks
   pub record PartsMakeWholes : Type 0 where

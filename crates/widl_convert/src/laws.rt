@@ -3,7 +3,7 @@
 
 ghost use Rattle.widl_idl.specs.DefinitionTerms.{DefsTerm};
 ghost use Rattle.widl_convert.specs.Built.{Built};
-ghost use Rattle.widl_convert.specs.Laws.{AsksAreTalked, BeginningsHaveOneNext, ChainsEnd, PartsMakeWholes};
+ghost use Rattle.widl_convert.specs.Laws.{AsksAreTalked, BeginningsHaveOneNext, ChainsEnd, FaultsEnd, PartsMakeWholes};
 ghost use Rattle.widl_convert.specs.Rules.{rule};
 ghost use Rattle.widl_convert.specs.Stack.{EachAnswerGoesOn, HasOneLast};
 
@@ -15,6 +15,11 @@ pub fn has_one_next()
 /// An ask comes next exactly where some whole conversation goes on with it.
 pub fn asks_are_talked()
     ensures { (built : Built) (list : DefsTerm) → ChainsEnd built list → AsksAreTalked (rule built list) }
+{}
+
+/// After a thrown answer nothing is asked: the conversation ends with the value that was thrown.
+pub fn faults_end()
+    ensures { (built : Built) (list : DefsTerm) → FaultsEnd (rule built list) }
 {}
 
 /// The conversation of a whole is those of its parts, one after another.
