@@ -59,6 +59,7 @@ use Rattle.widl_convert.specs.Scalars.{to_number, to_text, to_scalar, integer_re
 use Rattle.widl_convert.specs.Sequences.{element, told_done, turn_given, turns, with_next, with_iterator, sequence_from, found_iterator_method, to_sequence, element_of, element_within}
 use Rattle.widl_convert.specs.Tasks.{Container, ArrayOf, ObjectOf, Task, Primitive, Scalar, Convert, SequenceFrom, Turns, Entries, Members, Resolve, Arguments, Default, Defaults, Out, OutItems, OutUnits, TaskEnd, Gives, Plain, Picks, Throw, Rethrow, Profile, Talk, TalkOf}
 use Rattle.widl_convert.specs.Unions.{to_member, without_iterator, member_from, member_probed, member_picked}
+use Rattle.widl_convert.proofs.WordCases.{of_if, of_normal, of_object, of_object_or, of_callable, of_method, of_given, of_returned, of_number, of_text, of_named}
 use Rattle.widl_convert.specs.Words.{returns, fails, normal, object, object_or, if_callable, callable_or, method_or, given, returned, number, text}
 
 -- 1. Generic: of steps that pass on what is thrown
@@ -104,122 +105,38 @@ module _ {Job : Type 0} where
   pass_end r = record { on = tt }
 
   pass_if : (b : Bool) (d e : TalkOf Job) → Is d → Is e → Is (if b then d else e)
-  pass_if true d e x y = x
-  pass_if false d e x y = y
-
-  pass_normal : (k : Value → TalkOf Job) → ((v : Value) → Is (k v)) → (a : AnswerTerm) → Is (normal k a)
-  pass_normal k all (NormalAnswer v) = all v
-  pass_normal k all (ThrownAnswer v) = pass_end _
-  pass_normal k all BeginAnswer = all values.Undefined
-  pass_normal k all DoneAnswer = all values.Undefined
-  pass_normal k all (KindAnswer kind) = all values.Undefined
-  pass_normal k all (KeysAnswer names) = all values.Undefined
-  pass_normal k all (OwnAnswer flags) = all values.Undefined
-  pass_normal k all (CursorAnswer state) = all values.Undefined
+  pass_if = of_if Is pass_end
 
   pass_ask : (q : AskTerm) (k : Value → TalkOf Job) → ((v : Value) → Is (k v)) → Is (Say q (normal k))
-  pass_ask q k all = record { on = (λ v f. refl, λ a f. (pass_normal k all a).on) }
+  pass_ask q k all = record { on = (λ v f. refl, λ a f. (of_normal Is pass_end k all a).on) }
 
   -- an ask that doesn't throw
   pass_say : (q : AskTerm) (k : AnswerTerm → TalkOf Job) → ((v : Value) → Fits q (ThrownAnswer v) → ⊥) → ((a : AnswerTerm) → Is (k a)) → Is (Say q k)
   pass_say q k never all = record { on = (λ v f. absurd (never v f), λ a f. (all a).on) }
 
   pass_object : (c : Code) (k : ObjRef → TalkOf Job) → ((o : ObjRef) → Is (k o)) → (v : Value) → Is (object c k v)
-  pass_object c k all values.Undefined = pass_end _
-  pass_object c k all values.Null = pass_end _
-  pass_object c k all (values.Bool b) = pass_end _
-  pass_object c k all (values.Num n) = pass_end _
-  pass_object c k all (values.Str units) = pass_end _
-  pass_object c k all (values.Sym n) = pass_end _
-  pass_object c k all (values.Obj o) = all o
+  pass_object = of_object Is pass_end
 
   pass_object_or : (d : Value → TalkOf Job) (k : ObjRef → TalkOf Job) → ((v : Value) → Is (d v)) → ((o : ObjRef) → Is (k o)) → (v : Value) → Is (object_or d k v)
-  pass_object_or d k x all values.Undefined = x _
-  pass_object_or d k x all values.Null = x _
-  pass_object_or d k x all (values.Bool b) = x _
-  pass_object_or d k x all (values.Num n) = x _
-  pass_object_or d k x all (values.Str units) = x _
-  pass_object_or d k x all (values.Sym n) = x _
-  pass_object_or d k x all (values.Obj o) = all o
-
-  pass_shape : (s : Shape) (d e : TalkOf Job) → Is d → Is e → Is (if_callable s d e)
-  pass_shape shapes.Callable d e x y = x
-  pass_shape shapes.Plain d e x y = y
-  pass_shape (shapes.Platform n) d e x y = y
+  pass_object_or = of_object_or Is pass_end
 
   pass_callable : (d : TalkOf Job) (k : ObjRef → TalkOf Job) → Is d → ((o : ObjRef) → Is (k o)) → (v : Value) → Is (callable_or d k v)
-  pass_callable d k x all values.Undefined = x
-  pass_callable d k x all values.Null = x
-  pass_callable d k x all (values.Bool b) = x
-  pass_callable d k x all (values.Num n) = x
-  pass_callable d k x all (values.Str units) = x
-  pass_callable d k x all (values.Sym n) = x
-  pass_callable d k x all (values.Obj o) = pass_shape o.shape (k o) d (all o) x
+  pass_callable = of_callable Is pass_end
 
   pass_method : (d : TalkOf Job) (k : ObjRef → TalkOf Job) → Is d → ((o : ObjRef) → Is (k o)) → (v : Value) → Is (method_or d k v)
-  pass_method d k x all values.Undefined = x
-  pass_method d k x all values.Null = x
-  pass_method d k x all (values.Bool b) = pass_end _
-  pass_method d k x all (values.Num n) = pass_end _
-  pass_method d k x all (values.Str units) = pass_end _
-  pass_method d k x all (values.Sym n) = pass_end _
-  pass_method d k x all (values.Obj o) = pass_shape o.shape (k o) _ (all o) (pass_end _)
+  pass_method = of_method Is pass_end
 
-  pass_given : (j : Job) (k : IdlTerm → TalkOf Job) → ((x : IdlTerm) → Is (k x)) → Is (Steps j (given k))
-  pass_given j k all = record { on = (λ v. refl, λ r. (go r).on) }
-    where
-      go : (r : TaskEnd) → Is (given k r)
-      go (Gives w) = all w
-      go (Plain v) = pass_end _
-      go (Picks e ws) = pass_end _
-      go (Throw c) = pass_end _
-      go (Rethrow v) = pass_end _
-      go (Profile n) = pass_end _
+  pass_given : (j : Job) (k : IdlTerm → TalkOf Job) → ((w : IdlTerm) → Is (k w)) → Is (Steps j (given k))
+  pass_given j k all = record { on = (λ v. refl, λ r. (of_given Is pass_end k all r).on) }
 
-  pass_returned : (j : Job) (k : Value → TalkOf Job) → ((x : Value) → Is (k x)) → Is (Steps j (returned k))
-  pass_returned j k all = record { on = (λ v. refl, λ r. (go r).on) }
-    where
-      go : (r : TaskEnd) → Is (returned k r)
-      go (Gives w) = pass_end _
-      go (Plain v) = all v
-      go (Picks e ws) = pass_end _
-      go (Throw c) = pass_end _
-      go (Rethrow v) = pass_end _
-      go (Profile n) = pass_end _
+  pass_returned : (j : Job) (k : Value → TalkOf Job) → ((v : Value) → Is (k v)) → Is (Steps j (returned k))
+  pass_returned j k all = record { on = (λ v. refl, λ r. (of_returned Is pass_end k all r).on) }
 
-  pass_number : (j : Job) (k : Number → TalkOf Job) → ((x : Number) → Is (k x)) → Is (Steps j (number k))
-  pass_number j k all = record { on = (λ v. refl, λ r. (go r).on) }
-    where
-      go : (r : TaskEnd) → Is (number k r)
-      go (Plain values.Undefined) = pass_end _
-      go (Plain values.Null) = pass_end _
-      go (Plain (values.Bool b)) = pass_end _
-      go (Plain (values.Num n)) = all n
-      go (Plain (values.Str units)) = pass_end _
-      go (Plain (values.Sym n)) = pass_end _
-      go (Plain (values.Obj o)) = pass_end _
-      go (Gives w) = pass_end _
-      go (Picks e ws) = pass_end _
-      go (Throw c) = pass_end _
-      go (Rethrow v) = pass_end _
-      go (Profile n) = pass_end _
+  pass_number : (j : Job) (k : Number → TalkOf Job) → ((n : Number) → Is (k n)) → Is (Steps j (number k))
+  pass_number j k all = record { on = (λ v. refl, λ r. (of_number Is pass_end k all r).on) }
 
-  pass_text : (j : Job) (k : List ℕ → TalkOf Job) → ((x : List ℕ) → Is (k x)) → Is (Steps j (text k))
-  pass_text j k all = record { on = (λ v. refl, λ r. (go r).on) }
-    where
-      go : (r : TaskEnd) → Is (text k r)
-      go (Plain values.Undefined) = pass_end _
-      go (Plain values.Null) = pass_end _
-      go (Plain (values.Bool b)) = pass_end _
-      go (Plain (values.Num n)) = pass_end _
-      go (Plain (values.Str units)) = all units
-      go (Plain (values.Sym n)) = pass_end _
-      go (Plain (values.Obj o)) = pass_end _
-      go (Gives w) = pass_end _
-      go (Picks e ws) = pass_end _
-      go (Throw c) = pass_end _
-      go (Rethrow v) = pass_end _
-      go (Profile n) = pass_end _
+  pass_text : (j : Job) (k : List ℕ → TalkOf Job) → ((units : List ℕ) → Is (k units)) → Is (Steps j (text k))
+  pass_text j k all = record { on = (λ v. refl, λ r. (of_text Is pass_end k all r).on) }
 
   pass_on : (j : Job) → Is (Steps j End)
   pass_on j = record { on = (λ v. refl, λ r. tt) }
@@ -300,27 +217,7 @@ module _ (built : Built) (list : DefsTerm) where
   pass_sequence t v = pass_object _ _ (λ o. pass_ask _ (found_iterator_method t o) (pass_method _ _ (pass_end _) (λ method. pass_on (SequenceFrom t o method)))) v
 
   pass_named : (j : Task) (k : List ℕ → Talk) → ((name : List ℕ) → Is (k name)) → Is (Steps j (named k))
-  pass_named j k all = record { on = (λ v. refl, λ r. (go r).on) }
-    where
-      go : (r : TaskEnd) → Is (named k r)
-      go (Gives (StringValue name)) = all name
-      go (Gives UndefinedValue) = pass_end _
-      go (Gives NullValue) = pass_end _
-      go (Gives MissingValue) = pass_end _
-      go (Gives (BooleanValue b)) = pass_end _
-      go (Gives (IntegerValue n)) = pass_end _
-      go (Gives (EnumerationValue n place)) = pass_end _
-      go (Gives (ObjectValue o)) = pass_end _
-      go (Gives (AnyValue v)) = pass_end _
-      go (Gives (SequenceValue _)) = pass_end _
-      go (Gives (RecordValue _)) = pass_end _
-      go (Gives (DictionaryValue n _)) = pass_end _
-      go (Gives (PromiseValue o)) = pass_end _
-      go (Plain v) = pass_end _
-      go (Picks e ws) = pass_end _
-      go (Throw c) = pass_end _
-      go (Rethrow v) = pass_end _
-      go (Profile n) = pass_end _
+  pass_named j k all = record { on = (λ v. refl, λ r. (of_named Is pass_end k all r).on) }
 
   pass_entries : (key : TextKind) (t : TypeTerm) (o : ObjRef) (left : List Key) (made : List (List ℕ × IdlTerm)) → Is (entries key t o left made)
   pass_entries key t o [] made = pass_end _

@@ -72,6 +72,7 @@ use Rattle.widl_convert.specs.Scalars.{to_number, to_text, to_scalar, integer_re
 use Rattle.widl_convert.specs.Sequences.{element, told_done, turn_given, turns, with_next, with_iterator, sequence_from, found_iterator_method, to_sequence, element_of, element_within}
 use Rattle.widl_convert.specs.Tasks.{Container, ArrayOf, ObjectOf, OutItems, OutUnits, SequenceFrom, Turns, Entries, Members, Task, Primitive, Scalar, Convert, Resolve, Arguments, Default, Defaults, Out, TaskEnd, Gives, Plain, Picks, Throw, Rethrow, Profile, Talk, TalkOf}
 use Rattle.widl_convert.specs.Unions.{to_member, without_iterator, member_from, member_probed, member_picked, to_union}
+use Rattle.widl_convert.proofs.WordCases.{of_if, of_normal, of_object, of_object_or, of_callable, of_method, of_given, of_returned, of_number, of_text, of_named}
 use Rattle.widl_convert.proofs.MemberChains.{HeldBy, all_held, all_weaker}
 use Rattle.widl_convert.specs.Words.{returns, fails, not_built, normal, object, object_or, if_callable, callable_or, method_or, given, returned, number, text}
 
@@ -85,107 +86,38 @@ module _ {Job : Type 0} (steps : Job → TalkOf Job) where
   fine r = fine_end steps Fits r
 
   pub fine_if : (b : Bool) (d e : TalkOf Job) → IsFine d → IsFine e → IsFine (if b then d else e)
-  fine_if true d e x y = x
-  fine_if false d e x y = y
+  fine_if = of_if IsFine fine
 
   pub fine_normal : (k : Value → TalkOf Job) → ((v : Value) → IsFine (k v)) → (a : AnswerTerm) → IsFine (normal k a)
-  fine_normal k all (NormalAnswer v) = all v
-  fine_normal k all (ThrownAnswer v) = fine (Rethrow v)
-  fine_normal k all BeginAnswer = all values.Undefined
-  fine_normal k all DoneAnswer = all values.Undefined
-  fine_normal k all (KindAnswer kind) = all values.Undefined
-  fine_normal k all (KeysAnswer keys) = all values.Undefined
-  fine_normal k all (OwnAnswer flags) = all values.Undefined
-  fine_normal k all (CursorAnswer state) = all values.Undefined
+  fine_normal = of_normal IsFine fine
 
   -- an ask that may throw
   pub fine_ask : (q : AskTerm) (k : Value → TalkOf Job) → Fits q (ThrownAnswer values.Undefined) → ((v : Value) → IsFine (k v)) → IsFine (Say q (normal k))
   fine_ask q k throws all = fine_say steps Fits q (normal k) (ThrownAnswer values.Undefined) throws (λ a f. fine_normal k all a)
 
   pub fine_object : (c : Code) (k : ObjRef → TalkOf Job) → ((o : ObjRef) → IsFine (k o)) → (v : Value) → IsFine (object c k v)
-  fine_object c k all (values.Obj o) = all o
-  fine_object c k all values.Undefined = fine _
-  fine_object c k all values.Null = fine _
-  fine_object c k all (values.Bool b) = fine _
-  fine_object c k all (values.Num n) = fine _
-  fine_object c k all (values.Str units) = fine _
-  fine_object c k all (values.Sym n) = fine _
+  fine_object = of_object IsFine fine
 
   pub fine_object_or : (d : Value → TalkOf Job) (k : ObjRef → TalkOf Job) → ((v : Value) → IsFine (d v)) → ((o : ObjRef) → IsFine (k o)) → (v : Value) → IsFine (object_or d k v)
-  fine_object_or d k x all (values.Obj o) = all o
-  fine_object_or d k x all values.Undefined = x _
-  fine_object_or d k x all values.Null = x _
-  fine_object_or d k x all (values.Bool b) = x _
-  fine_object_or d k x all (values.Num n) = x _
-  fine_object_or d k x all (values.Str units) = x _
-  fine_object_or d k x all (values.Sym n) = x _
-
-  fine_shape : (s : Shape) (d e : TalkOf Job) → IsFine d → IsFine e → IsFine (if_callable s d e)
-  fine_shape shapes.Callable d e x y = x
-  fine_shape shapes.Plain d e x y = y
-  fine_shape (shapes.Platform n) d e x y = y
+  fine_object_or = of_object_or IsFine fine
 
   pub fine_callable : (d : TalkOf Job) (k : ObjRef → TalkOf Job) → IsFine d → ((o : ObjRef) → IsFine (k o)) → (v : Value) → IsFine (callable_or d k v)
-  fine_callable d k x all (values.Obj o) = fine_shape o.shape (k o) d (all o) x
-  fine_callable d k x all values.Undefined = x
-  fine_callable d k x all values.Null = x
-  fine_callable d k x all (values.Bool b) = x
-  fine_callable d k x all (values.Num n) = x
-  fine_callable d k x all (values.Str units) = x
-  fine_callable d k x all (values.Sym n) = x
+  fine_callable = of_callable IsFine fine
 
   pub fine_method : (d : TalkOf Job) (k : ObjRef → TalkOf Job) → IsFine d → ((o : ObjRef) → IsFine (k o)) → (v : Value) → IsFine (method_or d k v)
-  fine_method d k x all values.Undefined = x
-  fine_method d k x all values.Null = x
-  fine_method d k x all (values.Obj o) = fine_shape o.shape (k o) _ (all o) (fine _)
-  fine_method d k x all (values.Bool b) = fine _
-  fine_method d k x all (values.Num n) = fine _
-  fine_method d k x all (values.Str units) = fine _
-  fine_method d k x all (values.Sym n) = fine _
+  fine_method = of_method IsFine fine
 
   pub fine_given : (k : IdlTerm → TalkOf Job) → ((w : IdlTerm) → IsFine (k w)) → (r : TaskEnd) → IsFine (given k r)
-  fine_given k all (Gives w) = all w
-  fine_given k all (Plain v) = fine _
-  fine_given k all (Picks e ws) = fine _
-  fine_given k all (Throw c) = fine _
-  fine_given k all (Rethrow v) = fine _
-  fine_given k all (Profile n) = fine _
+  fine_given = of_given IsFine fine
 
   pub fine_returned : (k : Value → TalkOf Job) → ((v : Value) → IsFine (k v)) → (r : TaskEnd) → IsFine (returned k r)
-  fine_returned k all (Plain v) = all v
-  fine_returned k all (Gives w) = fine _
-  fine_returned k all (Picks e ws) = fine _
-  fine_returned k all (Throw c) = fine _
-  fine_returned k all (Rethrow v) = fine _
-  fine_returned k all (Profile n) = fine _
+  fine_returned = of_returned IsFine fine
 
   pub fine_number : (k : Number → TalkOf Job) → ((n : Number) → IsFine (k n)) → (r : TaskEnd) → IsFine (number k r)
-  fine_number k all (Plain (values.Num n)) = all n
-  fine_number k all (Plain values.Undefined) = fine _
-  fine_number k all (Plain values.Null) = fine _
-  fine_number k all (Plain (values.Bool b)) = fine _
-  fine_number k all (Plain (values.Str units)) = fine _
-  fine_number k all (Plain (values.Sym n)) = fine _
-  fine_number k all (Plain (values.Obj o)) = fine _
-  fine_number k all (Gives w) = fine _
-  fine_number k all (Picks e ws) = fine _
-  fine_number k all (Throw c) = fine _
-  fine_number k all (Rethrow v) = fine _
-  fine_number k all (Profile n) = fine _
+  fine_number = of_number IsFine fine
 
   pub fine_text : (k : List ℕ → TalkOf Job) → ((units : List ℕ) → IsFine (k units)) → (r : TaskEnd) → IsFine (text k r)
-  fine_text k all (Plain (values.Str units)) = all units
-  fine_text k all (Plain values.Undefined) = fine _
-  fine_text k all (Plain values.Null) = fine _
-  fine_text k all (Plain (values.Bool b)) = fine _
-  fine_text k all (Plain (values.Num n)) = fine _
-  fine_text k all (Plain (values.Sym n)) = fine _
-  fine_text k all (Plain (values.Obj o)) = fine _
-  fine_text k all (Gives w) = fine _
-  fine_text k all (Picks e ws) = fine _
-  fine_text k all (Throw c) = fine _
-  fine_text k all (Rethrow v) = fine _
-  fine_text k all (Profile n) = fine _
+  fine_text = of_text IsFine fine
 
 -- 2. The rules, the lowest first
 
@@ -521,33 +453,13 @@ module _ (built : Built) (list : DefsTerm) (chains_end : ChainsEnd built list) w
 
   -- 2.7 Records
 
-  fine_named : (k : List ℕ → Talk) → ((name : List ℕ) → Is (k name)) → (r : TaskEnd) → Is (named k r)
-  fine_named k all (Gives (StringValue name)) = all name
-  fine_named k all (Gives UndefinedValue) = an_end _
-  fine_named k all (Gives NullValue) = an_end _
-  fine_named k all (Gives MissingValue) = an_end _
-  fine_named k all (Gives (BooleanValue b)) = an_end _
-  fine_named k all (Gives (IntegerValue n)) = an_end _
-  fine_named k all (Gives (EnumerationValue n place)) = an_end _
-  fine_named k all (Gives (ObjectValue o)) = an_end _
-  fine_named k all (Gives (AnyValue v)) = an_end _
-  fine_named k all (Gives (SequenceValue _)) = an_end _
-  fine_named k all (Gives (RecordValue _)) = an_end _
-  fine_named k all (Gives (DictionaryValue n _)) = an_end _
-  fine_named k all (Gives (PromiseValue o)) = an_end _
-  fine_named k all (Plain v) = an_end _
-  fine_named k all (Picks e ws) = an_end _
-  fine_named k all (Throw c) = an_end _
-  fine_named k all (Rethrow v) = an_end _
-  fine_named k all (Profile n) = an_end _
-
   fine_entries : (key : TextKind) (t : TypeTerm) (o : ObjRef) (left : List Key) (made : List (List ℕ × IdlTerm)) → Is (entries key t o left made)
   fine_entries key t o [] made = an_end _
   fine_entries key t o (k ∷ left) made =
       fine_say steps Fits (OwnAsk o k) (own_entry key t o k left made) (OwnAnswer None) tt
       (λ a f. fine_if steps (is_enumerable (flags_in a)) _ _
       (through (Convert (StringType key false) (key_value k)) _ (all_convert (StringType key false) (key_value k))
-      (fine_named _ (λ name. fine_ask steps _ (entry_value key t o left made name) tt
+      (of_named Is an_end _ (λ name. fine_ask steps _ (entry_value key t o left made name) tt
       (λ v. through (Convert t v) _ (all_convert t v) (fine_given steps _ (λ w. goes (Entries key t o left (with_entry name w made)) (fine_entries key t o left (with_entry name w made)).ends))))))
       (goes (Entries key t o left made) (fine_entries key t o left made).ends))
 

@@ -1,4 +1,5 @@
 pub mod OneNexts
+pub mod WordCases
 pub mod MemberChains
 pub mod Finishing
 pub mod Faulting

@@ -15,6 +15,7 @@ pub mod Defaults
 pub mod Results
 pub mod Rules
 pub mod Laws
+pub mod ContainerLaws
 pub mod Waits
 pub mod Frames
 pub mod Loads
