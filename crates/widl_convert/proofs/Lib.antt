@@ -3,6 +3,9 @@ pub mod WordCases
 pub mod MemberChains
 pub mod Finishing
 pub mod Faulting
+pub mod ContainerAsks
+pub mod NameOrder
+pub mod MemberReads
 pub mod Bytes
 pub mod Suspending
 pub mod Resuming

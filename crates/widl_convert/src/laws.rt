@@ -2,7 +2,11 @@
 //! definitions and whatever is built.
 
 ghost use Rattle.widl_idl.specs.DefinitionTerms.{DefsTerm};
+ghost use Rattle.widl_idl.specs.declared.text_kind.TextKind.{TextKind};
+ghost use Rattle.widl_idl.specs.Terms.{TypeTerm};
+ghost use Rattle.widl_value.specs.declared.object.ObjRef.{ObjRef};
 ghost use Rattle.widl_convert.specs.Built.{Built};
+ghost use Rattle.widl_convert.specs.ContainerLaws.{MembersAreReadInOrder, NamesAscend, RecordsAskOnce, SequencesAskOnce};
 ghost use Rattle.widl_convert.specs.Laws.{AsksAreTalked, BeginningsHaveOneNext, ChainsEnd, FaultsEnd, PartsMakeWholes};
 ghost use Rattle.widl_convert.specs.Rules.{rule};
 ghost use Rattle.widl_convert.specs.Stack.{EachAnswerGoesOn, HasOneLast};
@@ -35,4 +39,24 @@ pub fn has_one_last()
 /// A suspended conversation that stands at an ask has exactly one next, for each answer that fits.
 pub fn answers_go_on()
     ensures { (list : DefsTerm) → EachAnswerGoesOn list }
+{}
+
+/// A sequence reads `@iterator` once and `next` once, and asks its iterator nothing else than a turn.
+pub fn sequences_ask_once()
+    ensures { (built : Built) (list : DefsTerm) (t : TypeTerm) → SequencesAskOnce built list t }
+{}
+
+/// A record asks for the own keys once, and looks at each property once and reads it once.
+pub fn records_ask_once()
+    ensures { (built : Built) (list : DefsTerm) (key : TextKind) (t : TypeTerm) (o : ObjRef) → RecordsAskOnce built list key t o }
+{}
+
+/// The members that a dictionary declares are sorted by their names.
+pub fn names_ascend()
+    ensures { NamesAscend }
+{}
+
+/// Of a dictionary's object each member is read once, in their order.
+pub fn members_are_read_in_order()
+    ensures { (built : Built) (list : DefsTerm) → MembersAreReadInOrder built list }
 {}
