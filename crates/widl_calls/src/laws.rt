@@ -3,7 +3,7 @@
 
 ghost use Rattle.widl_idl.specs.DefinitionTerms.{DefsTerm};
 ghost use Rattle.widl_script_tree.specs.Trees.{ScriptTree};
-ghost use Rattle.widl_convert.specs.Laws.{AsksAreTalked, BeginningsHaveOneNext, ChainsEnd, PartsMakeWholes};
+ghost use Rattle.widl_convert.specs.Laws.{AsksAreTalked, BeginningsHaveOneNext, ChainsEnd, EachTaskEnds, PartsMakeWholes};
 ghost use Rattle.widl_calls.specs.BuiltCalls.{BuiltCalls};
 ghost use Rattle.widl_calls.specs.CallRules.{call_rule};
 
@@ -15,6 +15,11 @@ pub fn has_one_next()
 /// An ask comes next exactly where some whole conversation goes on with it.
 pub fn asks_are_talked()
     ensures { (built : BuiltCalls) (list : DefsTerm) (script : ScriptTree) → ChainsEnd built.conversions list → AsksAreTalked (call_rule built list script) }
+{}
+
+/// Each task has a whole conversation.
+pub fn tasks_end()
+    ensures { (built : BuiltCalls) (list : DefsTerm) (script : ScriptTree) → ChainsEnd built.conversions list → EachTaskEnds (call_rule built list script) }
 {}
 
 /// The conversation of a whole is those of its parts, one after another.

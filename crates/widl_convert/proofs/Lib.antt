@@ -6,6 +6,7 @@ pub mod Faulting
 pub mod ContainerAsks
 pub mod NameOrder
 pub mod MemberReads
+pub mod ValidChains
 pub mod Bytes
 pub mod Suspending
 pub mod Resuming

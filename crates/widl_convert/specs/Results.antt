@@ -24,6 +24,16 @@ enumeration_text list n place = option_map_or (λ (t : List ℕ). t) (enumeratio
 -- 1. Containers: the items are converted in order, each with its own asks; then a unit is taken for each, and then the array or the object is
 -- made
 
+-- the properties of an object, each a plain one
+abbrev pub properties : List (List ℕ) → List Value → List (Key × Value)
+properties [] made = []
+properties (name ∷ names) [] = []
+properties (name ∷ names) (v ∷ made) = (keys.Name name, v) ∷ properties names made
+
+abbrev pub container_ask : Container → List Value → AskTerm
+container_ask ArrayOf made = NewArrayAsk made
+container_ask (ObjectOf names) made = NewObjectAsk (properties names made)
+
 -- how a value is converted is told by its form, so the type of an item doesn't matter
 abbrev pub item_task : IdlTerm → Task
 item_task w = Out AnyType w
@@ -34,16 +44,6 @@ item_given container left made = returned (λ v. Steps (OutItems container left 
 abbrev pub out_items : Container → IdlTerms → List Value → Talk
 out_items container no_values made = Steps (OutUnits (length made) container made) End
 out_items container (more_values w left) made = Steps (item_task w) (item_given container left made)
-
--- the properties of an object, each a plain one
-abbrev pub properties : List (List ℕ) → List Value → List (Key × Value)
-properties [] made = []
-properties (name ∷ names) [] = []
-properties (name ∷ names) (v ∷ made) = (keys.Name name, v) ∷ properties names made
-
-abbrev pub container_ask : Container → List Value → AskTerm
-container_ask ArrayOf made = NewArrayAsk made
-container_ask (ObjectOf names) made = NewObjectAsk (properties names made)
 
 abbrev pub out_units : ℕ → Container → List Value → Talk
 out_units zero container made = Say (container_ask container made) (normal returns)

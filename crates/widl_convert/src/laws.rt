@@ -7,7 +7,7 @@ ghost use Rattle.widl_idl.specs.Terms.{TypeTerm};
 ghost use Rattle.widl_value.specs.declared.object.ObjRef.{ObjRef};
 ghost use Rattle.widl_convert.specs.Built.{Built};
 ghost use Rattle.widl_convert.specs.ContainerLaws.{MembersAreReadInOrder, NamesAscend, RecordsAskOnce, SequencesAskOnce};
-ghost use Rattle.widl_convert.specs.Laws.{AsksAreTalked, BeginningsHaveOneNext, ChainsEnd, FaultsEnd, PartsMakeWholes};
+ghost use Rattle.widl_convert.specs.Laws.{AsksAreTalked, BeginningsHaveOneNext, ChainsEnd, EachTaskEnds, FaultsEnd, PartsMakeWholes, ValidChainsEnd};
 ghost use Rattle.widl_convert.specs.Rules.{rule};
 ghost use Rattle.widl_convert.specs.Stack.{EachAnswerGoesOn, HasOneLast};
 
@@ -21,9 +21,19 @@ pub fn asks_are_talked()
     ensures { (built : Built) (list : DefsTerm) → ChainsEnd built list → AsksAreTalked (rule built list) }
 {}
 
+/// Over the list of a valid set no chain of more dictionaries begins than may be.
+pub fn valid_chains_end()
+    ensures { ValidChainsEnd }
+{}
+
 /// After a thrown answer nothing is asked: the conversation ends with the value that was thrown.
 pub fn faults_end()
     ensures { (built : Built) (list : DefsTerm) → FaultsEnd (rule built list) }
+{}
+
+/// Each task has a whole conversation.
+pub fn tasks_end()
+    ensures { (built : Built) (list : DefsTerm) → ChainsEnd built list → EachTaskEnds (rule built list) }
 {}
 
 /// The conversation of a whole is those of its parts, one after another.
