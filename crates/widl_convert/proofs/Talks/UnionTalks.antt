@@ -5,7 +5,7 @@ use Rattle.widl_text.specs.declared.key.Key.TheVariants as keys
 use Rattle.widl_idl.specs.declared.argument.Optionality.TheVariants.{Required}
 use Rattle.widl_idl.specs.declared.text_kind.TextKind.TheVariants as texts
 use Rattle.widl_idl.specs.DefinitionTerms.{DefsTerm}
-use Rattle.widl_idl.specs.Terms.{TypeTerm, packed, UndefinedType, BooleanType, StringType, InterfaceType, DictionaryType, ObjectType, SequenceType, RecordType, NullableType, UnionType}
+use Rattle.widl_idl.specs.Terms.{TypeTerm, packed, UndefinedType, BooleanType, StringType, CallbackFunctionType, DictionaryType, ObjectType, SequenceType, RecordType, NullableType, UnionType}
 use Rattle.widl_overload.specs.Index.{apart_at}
 use Rattle.widl_value.specs.Rounding.{near_of, step_of}
 use Rattle.widl_value.specs.declared.object.ObjRef.{ObjRef}
@@ -116,7 +116,7 @@ record_without_method = (60, (refl, tt, refl))
 object_is_object : Tells nothing_defined (Convert (UnionType (packed (text ∷ ObjectType ∷ []))) it) [] (Ends (Gives (ObjectValue (plain 1))))
 object_is_object = (60, refl)
 
--- `dictionary D { long x; };`, `f(boolean b); f((sequence<long> or D) u);`: an object without a method was asked for one by the choice, and the
+-- 4. `dictionary D { long x; };`, `f(boolean b); f((sequence<long> or D) u);`: an object without a method was asked for one by the choice, and the
 -- union asks for it once more
 abbrev pub probed_before : DefsTerm
 probed_before =
@@ -152,3 +152,7 @@ probed_nullable = with_overloads (overload UndefinedType (argument BooleanType R
 sequence_of_nullable : Tells probed_nullable (Resolve f (it ∷ [])) (begun ++ first_turn (number 7) ++ last_turn) (Ends (Picks 1 (SequenceValue (packed_values (integer 7 ∷ [])) ∷ [])))
 unfolding apart_at
 sequence_of_nullable = (60, (refl, tt, (refl, tt, (refl, tt, (refl, tt, (refl, tt, (refl, tt, (refl, tt, (refl, tt, refl)))))))))
+
+-- 5. `(DOMString or F)` with a callback function F: a function picks it, and that conversion has no steps yet
+function_is_picked : Tells nothing_defined (Convert (UnionType (packed (text ∷ CallbackFunctionType 0 ∷ []))) (values.Obj (function 1))) [] (Ends (Profile 99))
+function_is_picked = (60, refl)
