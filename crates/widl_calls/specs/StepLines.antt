@@ -1,13 +1,13 @@
 -- Steps blocks: which lines are those of an operation's overload, what a line does, and the result where no line returns.
 -- Source: this program's own.
-use Rattle.std.specs.Prelude.{ℕ, Bool, true, false, not, ◌&&◌, nat_eq, bytes_eq, if◌then◌else◌, List, [], ◌∷◌, slice_get, Option, None, Some, pos}
+use Rattle.std.specs.Prelude.{ℕ, Bool, true, false, not, ◌&&◌, nat_eq, bytes_eq, if◌then◌else◌, List, [], ◌∷◌, slice_get, Option, None, Some}
 use Rattle.std.specs.Map.{lookup}
 use Rattle.std.specs.Option.{option_map_or}
 use Rattle.widl_dialog.specs.Dialog.{End, Say, Steps}
 use Rattle.widl_idl.specs.declared.literal.Literal.{Literal}
-use Rattle.widl_idl.specs.Terms.{TypeTerm, AnyType, UndefinedType, BooleanType, IntegerType, StringType, EnumerationType, DictionaryType, SequenceType, RecordType, NullableType}
-use Rattle.widl_value.specs.declared.value.Value.TheVariants as values
-use Rattle.widl_value.specs.IdlTerms.{IdlTerm, UndefinedValue, NullValue, MissingValue, BooleanValue, IntegerValue, StringValue, EnumerationValue, AnyValue, SequenceValue, RecordValue, no_values, no_entries}
+use Rattle.widl_idl.specs.DefinitionTerms.{DefsTerm}
+use Rattle.widl_idl.specs.Terms.{TypeTerm}
+use Rattle.widl_value.specs.IdlTerms.{IdlTerm, MissingValue}
 use Rattle.widl_script_tree.specs.declared.steps.Source.{Source}
 use Rattle.widl_script_tree.specs.declared.steps.Source.TheVariants as sources
 use Rattle.widl_script_tree.specs.declared.steps.StepLine.{StepLine}
@@ -17,9 +17,11 @@ use Rattle.widl_script_tree.specs.declared.steps.Target.TheVariants as targets
 use Rattle.widl_script_tree.specs.Trees.{Text, StatementTrees, no_statements, then_more, StepsT}
 use Rattle.widl_trace.specs.declared.code.Code.TheVariants as code
 use Rattle.widl_convert.specs.AskTerms.{UnitAsk}
+use Rattle.widl_convert.specs.Built.{Built}
 use Rattle.widl_convert.specs.Tasks.{Default, Rethrow}
 use Rattle.widl_convert.specs.Words.{done, gives, fails, not_built}
 use Rattle.widl_calls.specs.CallTasks.{NamedValues, Of, CallTalk}
+use Rattle.widl_calls.specs.DefaultResults.{default_result}
 
 -- 1. The block of an overload
 
@@ -89,23 +91,8 @@ line t named (steps.Return source) = return_line t named source
 line t named (steps.Throw v) = End (Rethrow v)
 line t named _ = not_built
 
--- 4. The result where no line returns: the default of the type, if it has one
+-- 4. The lines in order, a unit for each
 
-abbrev pub default_result : TypeTerm → CallTalk
-default_result AnyType = gives (AnyValue values.Undefined)
-default_result UndefinedType = gives UndefinedValue
-default_result BooleanType = gives (BooleanValue false)
-default_result (IntegerType kind mode) = gives (IntegerValue (pos 0))
-default_result (StringType kind null_empty) = gives (StringValue [])
-default_result (EnumerationType n) = gives (EnumerationValue n 0)
-default_result (SequenceType t) = gives (SequenceValue no_values)
-default_result (RecordType key t) = gives (RecordValue no_entries)
-default_result (NullableType t) = gives NullValue
-default_result (DictionaryType n) = not_built
-default_result _ = fails code.NoDefault
-
--- 5. The lines in order, a unit for each
-
-abbrev pub lines : TypeTerm → NamedValues → List StepLine → CallTalk
-lines t named [] = default_result t
-lines t named (l ∷ more) = Say UnitAsk (done (line t named l))
+abbrev pub lines : Built → DefsTerm → TypeTerm → NamedValues → List StepLine → CallTalk
+lines built list t named [] = default_result built list t
+lines built list t named (l ∷ more) = Say UnitAsk (done (line t named l))

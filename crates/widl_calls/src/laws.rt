@@ -2,7 +2,7 @@
 //! and the steps blocks of each script, and whatever is built.
 
 ghost use Rattle.widl_idl.specs.DefinitionTerms.{DefsTerm};
-ghost use Rattle.widl_convert.specs.Laws.{AsksAreTalked, BeginningsHaveOneNext, PartsMakeWholes};
+ghost use Rattle.widl_convert.specs.Laws.{AsksAreTalked, BeginningsHaveOneNext, ChainsEnd, EachTaskEnds, PartsMakeWholes};
 ghost use Rattle.widl_calls.specs.BuiltCalls.{BuiltCalls};
 ghost use Rattle.widl_calls.specs.CallLaws.{OperationsNote, OperationsResolve, TablesFindSteps};
 ghost use Rattle.widl_calls.specs.CallRules.{call_rule};
@@ -15,7 +15,12 @@ pub fn has_one_next()
 
 /// An ask comes next exactly where some whole conversation goes on with it.
 pub fn asks_are_talked()
-    ensures { (built : BuiltCalls) (list : DefsTerm) (steps : StepsOf) → AsksAreTalked (call_rule built list steps) }
+    ensures { (built : BuiltCalls) (list : DefsTerm) (steps : StepsOf) → ChainsEnd built.conversions list → AsksAreTalked (call_rule built list steps) }
+{}
+
+/// Each task has a whole conversation.
+pub fn tasks_end()
+    ensures { (built : BuiltCalls) (list : DefsTerm) (steps : StepsOf) → ChainsEnd built.conversions list → EachTaskEnds (call_rule built list steps) }
 {}
 
 /// The conversation of a whole is those of its parts, one after another.

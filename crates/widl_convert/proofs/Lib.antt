@@ -1,5 +1,12 @@
 pub mod OneNexts
+pub mod WordCases
+pub mod MemberChains
 pub mod Finishing
+pub mod Faulting
+pub mod ContainerAsks
+pub mod NameOrder
+pub mod MemberReads
+pub mod ValidChains
 pub mod Bytes
 pub mod Suspending
 pub mod Resuming

@@ -1,8 +1,14 @@
 pub mod AskTerms
+pub mod MemberOrder
 pub mod Tasks
 pub mod Words
 pub mod Built
 pub mod Primitives
+pub mod Sequences
+pub mod Records
+pub mod Dictionaries
+pub mod Nullables
+pub mod Unions
 pub mod Scalars
 pub mod Resolution
 pub mod Defaults
@@ -10,6 +16,7 @@ pub mod Results
 pub mod Rules
 pub mod Laws
 pub mod ResolutionLaws
+pub mod ContainerLaws
 pub mod Waits
 pub mod Frames
 pub mod Loads
