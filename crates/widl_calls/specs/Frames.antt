@@ -27,13 +27,15 @@ use Rattle.widl_calls.specs.declared.moves.CallMove.TheVariants as moves
 use Rattle.widl_calls.specs.declared.overload.Overload.{Overload}
 use Rattle.widl_calls.specs.declared.waits.CallWait.{CallWait}
 use Rattle.widl_calls.specs.declared.waits.CallWait.TheVariants as waits
+use Rattle.widl_convert.specs.Built.{built_today}
 use Rattle.widl_calls.specs.BuiltCalls.{calls_built_today}
 use Rattle.widl_calls.specs.CallRules.{call_rule}
 use Rattle.widl_calls.specs.CallTasks.{CallTask, Of, Function, Lines, CallTalk, NamedValues}
+use Rattle.widl_calls.specs.DefaultResults.{default_result}
 use Rattle.widl_calls.specs.NamedTerms.{named_terms}
 use Rattle.widl_calls.specs.ObjectFunctions.{by_kind, with_tag}
 use Rattle.widl_calls.specs.Operations.{StepsOf, chosen, result, result_type}
-use Rattle.widl_calls.specs.StepLines.{default_result, line}
+use Rattle.widl_calls.specs.StepLines.{line}
 
 -- 1. Tasks
 
@@ -59,14 +61,14 @@ call_returned_to list steps (frames.Result o) = result (type_for list o)
 -- 3. What comes after an answer
 
 -- after the unit of the first line
-abbrev pub first_line : TypeTerm → NamedValues → List StepLine → CallTalk
-first_line t named [] = default_result t
-first_line t named (l ∷ more) = line t named l
+abbrev pub first_line : DefsTerm → TypeTerm → NamedValues → List StepLine → CallTalk
+first_line list t named [] = default_result built_today list t
+first_line list t named (l ∷ more) = line t named l
 
 abbrev pub call_after : DefsTerm → StepsOf → CallWait → AnswerTerm → CallTalk
 call_after list steps (waits.Inside i) = λ a. rename Of (rest list i.asker a)
 call_after list steps (waits.Noted o read) = done (Steps (Lines (type_for list o) (named_terms read) (lines_in list steps o)) (result (type_for list o)))
-call_after list steps (waits.Line o read) = done (first_line (type_for list o) (named_terms read) (lines_in list steps o))
+call_after list steps (waits.Line o read) = done (first_line list (type_for list o) (named_terms read) (lines_in list steps o))
 call_after list steps (waits.Tag o) = normal (with_tag o)
 call_after list steps waits.Kind = by_kind
 

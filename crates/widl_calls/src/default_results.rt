@@ -4,9 +4,10 @@ ghost use Rattle.std.specs.Prelude.{◌≡◌};
 ghost use Rattle.std.specs.Option.{option_map_or};
 ghost use Rattle.widl_idl.specs.DefinitionTerms.{DefsTerm};
 ghost use Rattle.widl_idl.specs.Terms.{UndefinedType, type_term};
+ghost use Rattle.widl_convert.specs.Built.{built_today};
 ghost use Rattle.widl_calls.specs.Operations.{StepsOf};
 ghost use Rattle.widl_calls.specs.Frames.{call_dialog, call_weight};
-ghost use Rattle.widl_calls.specs.StepLines.{default_result};
+ghost use Rattle.widl_calls.specs.DefaultResults.{default_result};
 
 use crate::ends::{NOT_BUILT, fails, gives, reaches};
 use crate::moves::CallMove;
@@ -18,7 +19,7 @@ use widl_value::{IdlEntries, IdlValue, IdlValues, Value};
 
 /// The end with the default of a result's type, if it has one; no type stands for `undefined`.
 pub(crate) fn default_result(alloc: Global, ty: Option<&IdlType>) -> CallMove
-    ensures dialog { (list : DefsTerm) (steps : StepsOf) → call_dialog list steps result ≡ default_result (option_map_or (λ t. type_term t.now) ty.entry UndefinedType) }
+    ensures dialog { (list : DefsTerm) (steps : StepsOf) → call_dialog list steps result ≡ default_result built_today list (option_map_or (λ t. type_term t.now) ty.entry UndefinedType) }
     ensures weight { (list : DefsTerm) → call_weight list result ≡ 0 }
 {
     match ty {
@@ -29,7 +30,7 @@ pub(crate) fn default_result(alloc: Global, ty: Option<&IdlType>) -> CallMove
 
 /// The end with the default of a type, if it has one.
 fn default_of(alloc: Global, ty: &IdlType) -> CallMove
-    ensures dialog { (list : DefsTerm) (steps : StepsOf) → call_dialog list steps result ≡ default_result (type_term ty.now) }
+    ensures dialog { (list : DefsTerm) (steps : StepsOf) → call_dialog list steps result ≡ default_result built_today list (type_term ty.now) }
     ensures weight { (list : DefsTerm) → call_weight list result ≡ 0 }
 {
     match ty {

@@ -16,6 +16,7 @@ ghost use Rattle.widl_calls.specs.FoundSteps.{steps_over};
 ghost use Rattle.widl_calls.specs.Frames.{CallLeads, call_dialog, call_weight, first_line};
 ghost use Rattle.widl_calls.specs.NamedTerms.{named_terms};
 ghost use Rattle.widl_calls.specs.Operations.{lines_of, result_type};
+ghost use Rattle.widl_convert.specs.Built.{built_today};
 ghost use Rattle.widl_calls.specs.StepLines.{argument_value, args_of_line, args_of_lines, args_of_source, line as line_talk, lines, named_values, read_values, return_line};
 
 use crate::default_results::default_result;
@@ -117,7 +118,7 @@ pub(crate) fn lines(
     overload: Overload,
     read: Option<NamedValue>,
 ) -> CallMove
-    ensures dialog { call_dialog (defs_term tables.now.defs) (steps_over tables.now script.now) result ≡ lines (result_type (defs_term tables.now.defs) overload.callee overload.number) (named_terms read) (steps_over tables.now script.now overload.callee overload.number) }
+    ensures dialog { call_dialog (defs_term tables.now.defs) (steps_over tables.now script.now) result ≡ lines built_today (defs_term tables.now.defs) (result_type (defs_term tables.now.defs) overload.callee overload.number) (named_terms read) (steps_over tables.now script.now overload.callee overload.number) }
     ensures weight { call_weight (defs_term tables.now.defs) result ≡ 0 }
 {
     match overload.lines(tables, script) {
@@ -141,7 +142,7 @@ pub(crate) fn first_line(
     overload: Overload,
     read: Option<NamedValue>,
 ) -> Result<CallMove, AllocError>
-    ensures { IfOk result (λ m. CallLeads (defs_term tables.now.defs) (steps_over tables.now script.now) (first_line (result_type (defs_term tables.now.defs) overload.callee overload.number) (named_terms read) (steps_over tables.now script.now overload.callee overload.number)) (call_dialog (defs_term tables.now.defs) (steps_over tables.now script.now) m)) }
+    ensures { IfOk result (λ m. CallLeads (defs_term tables.now.defs) (steps_over tables.now script.now) (first_line (defs_term tables.now.defs) (result_type (defs_term tables.now.defs) overload.callee overload.number) (named_terms read) (steps_over tables.now script.now overload.callee overload.number)) (call_dialog (defs_term tables.now.defs) (steps_over tables.now script.now) m)) }
 {
     match overload.lines(tables, script) {
         [] => Ok(default_result(alloc, overload.result_type(tables))),

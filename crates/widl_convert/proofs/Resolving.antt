@@ -24,6 +24,7 @@ use Rattle.widl_tables.proofs.FewOverloads.{place_or_0}
 use Rattle.widl_tables.proofs.PickLaws.{entry_is_kept}
 use Rattle.widl_tables.proofs.Picking.{of_several}
 use Rattle.widl_convert.specs.Entries.{AreSeveral, IsAtPlace, IsOpen, after_arguments, entries_left, entry_in, left_from, place_in, rise, sole}
+use Rattle.widl_convert.specs.Built.{built_today}
 use Rattle.widl_convert.specs.Resolution.{argument, argument_given, argument_task, arguments, of_several as several_by, picked, resolve, with_entries, without_method}
 use Rattle.widl_convert.specs.Tasks.{Arguments, Defaults, Talk}
 use Rattle.widl_convert.specs.Words.{fails}
@@ -160,19 +161,19 @@ by_first list kept overload first v left made none is =
 -- the entry that is picked takes the argument at the place
 pub picked_entry : (list : DefsTerm) (kept : Kept) (overload : Option ℕ) (e : ℕ) (class : Class) (v : Value) (left : List Value) (made : List IdlTerm) (p : Pick) → AreSeveral kept → overload ≡ None
     → class ≡ class_of v → p ≡ Entry e → p ≡ pick_kept list (entries_for list kept.callee kept.argcount kept.overloads) kept.place class false
-    → picked list kept.callee (entries_left list kept overload) (place_in kept) v left made (pick_of list (entries_left list kept overload) (place_in kept) (class_of v) false) ≡ argument list kept.callee (entry_in list kept e ∷ []) (place_in kept) v left made
+    → picked built_today list kept.callee (entries_left list kept overload) (place_in kept) v left made (pick_of list (entries_left list kept overload) (place_in kept) (class_of v) false) ≡ argument list kept.callee (entry_in list kept e ∷ []) (place_in kept) v left made
 picked_entry list kept overload e class v left made p several none same is picks =
     let pick : pick_of list (entries_left list kept overload) (place_in kept) (class_of v) false ≡ Entry e
     = ap (λ (c : Class). pick_of list (entries_left list kept overload) (place_in kept) c false) (sym same) ∙ pick_is list kept overload (place_in kept) class false p several none several.placed picks ∙ is in
-    ap (picked list kept.callee (entries_left list kept overload) (place_in kept) v left made) pick
+    ap (picked built_today list kept.callee (entries_left list kept overload) (place_in kept) v left made) pick
     ∙ ap (λ (entries : List TupleTerm). argument list kept.callee entries (place_in kept) v left made) (entry_picked list kept overload (place_in kept) e (class_of v) false several none pick)
 
 -- no entry, or one that has to be probed
 pub picked_other : (list : DefsTerm) (kept : Kept) (overload : Option ℕ) (class : Class) (v : Value) (left : List Value) (made : List IdlTerm) (p q : Pick) → AreSeveral kept → overload ≡ None
     → class ≡ class_of v → p ≡ q → p ≡ pick_kept list (entries_for list kept.callee kept.argcount kept.overloads) kept.place class false
-    → picked list kept.callee (entries_left list kept overload) (place_in kept) v left made (pick_of list (entries_left list kept overload) (place_in kept) (class_of v) false) ≡ picked list kept.callee (entries_left list kept overload) (place_in kept) v left made q
+    → picked built_today list kept.callee (entries_left list kept overload) (place_in kept) v left made (pick_of list (entries_left list kept overload) (place_in kept) (class_of v) false) ≡ picked built_today list kept.callee (entries_left list kept overload) (place_in kept) v left made q
 picked_other list kept overload class v left made p q several none same is picks =
-    ap (picked list kept.callee (entries_left list kept overload) (place_in kept) v left made)
+    ap (picked built_today list kept.callee (entries_left list kept overload) (place_in kept) v left made)
     (ap (λ (c : Class). pick_of list (entries_left list kept overload) (place_in kept) c false) (sym same) ∙ pick_is list kept overload (place_in kept) class false p several none several.placed picks ∙ is)
 
 -- without a method the later tests decide
@@ -260,7 +261,7 @@ none_kept list callee n args numbers long is none = none_by (kept_tuples list ca
 -- 7. From one argument to the next
 
 last_of : (list : DefsTerm) (kept : Kept) (overload : Option ℕ) (entries : List TupleTerm) (made : List IdlTerm) → (overload ≡ None → 2 ≤ length entries) → entries ≡ entries_left list kept overload
-    → arguments list kept.callee entries (place_in kept) [] made ≡ after_arguments kept.callee overload made
+    → arguments built_today list kept.callee entries (place_in kept) [] made ≡ after_arguments kept.callee overload made
 last_of list kept None [] made several is = refl
 last_of list kept None (t ∷ []) made several is = absurd (let long : 2 ≤ length (t ∷ []) = several refl in omega (arith, long))
 last_of list kept None (t ∷ u ∷ more) made several is = refl
@@ -273,11 +274,11 @@ last_of list kept (Some e) (t ∷ u ∷ more) made several is = absurd (cc)
 
 -- no argument is left
 pub last_is : (list : DefsTerm) (kept : Kept) (overload : Option ℕ) (args : List Value) (made : List IdlTerm) → IsOpen kept overload → min (length args) kept.argcount ≤ length made
-    → arguments list kept.callee (entries_left list kept overload) (place_in kept) (left_from (length made) kept args) made ≡ after_arguments kept.callee overload made
+    → arguments built_today list kept.callee (entries_left list kept overload) (place_in kept) (left_from (length made) kept args) made ≡ after_arguments kept.callee overload made
 last_is list kept overload args made several past =
     let long : length (entries_for list kept.callee kept.argcount kept.overloads) ≡ length kept.overloads = length-map kept.overloads (λ (e : ℕ). entry_for e (declared_args list kept.callee e) kept.argcount) in
     let many : overload ≡ None → 2 ≤ length (entries_left list kept overload) = λ none. subst (λ (o : Option ℕ). 2 ≤ length (entries_left list kept o)) (sym none) (omega (arith, long, (several none).several)) in
-    ap (λ (left : List Value). arguments list kept.callee (entries_left list kept overload) (place_in kept) left made) (none_left args kept.argcount (length made) past)
+    ap (λ (left : List Value). arguments built_today list kept.callee (entries_left list kept overload) (place_in kept) left made) (none_left args kept.argcount (length made) past)
     ∙ last_of list kept overload (entries_left list kept overload) made many refl
 
 left_is : (kept : Kept) (args rest : List Value) (k : ℕ) (v x : Value) → k < min (length args) kept.argcount → slice_get args k ≡ Some v → rest ≡ set args k x → left_from k kept args ≡ v ∷ left_from (k + 1) kept rest
@@ -285,22 +286,22 @@ left_is kept args rest k v x below is taken = next_argument args kept.argcount k
 
 -- the next argument, where an overload is left alone
 pub next_alone : (list : DefsTerm) (kept : Kept) (overload : Option ℕ) (e : ℕ) (args rest : List Value) (v x : Value) (made : List IdlTerm) → overload ≡ Some e → length made < min (length args) kept.argcount → slice_get args (length made) ≡ Some v → rest ≡ set args (length made) x
-    → arguments list kept.callee (entries_left list kept overload) (place_in kept) (left_from (length made) kept args) made
+    → arguments built_today list kept.callee (entries_left list kept overload) (place_in kept) (left_from (length made) kept args) made
     ≡ Steps (argument_task list kept.callee (entry_in list kept e) (length made) v) (argument_given kept.callee (entries_left list kept overload) (place_in kept) (left_from (length made + 1) kept rest) made)
 next_alone list kept overload e args rest v x made some below is taken =
-    subst (λ (o : Option ℕ). ◌≡◌ {A = Talk} (arguments list kept.callee (entries_left list kept o) (place_in kept) (left_from (length made) kept args) made) (Steps (argument_task list kept.callee (entry_in list kept e) (length made) v) (argument_given kept.callee (entries_left list kept o) (place_in kept) (left_from (length made + 1) kept rest) made)))
-    (sym some) (ap (λ (left : List Value). arguments list kept.callee (entry_in list kept e ∷ []) (place_in kept) left made) (left_is kept args rest (length made) v x below is taken))
+    subst (λ (o : Option ℕ). ◌≡◌ {A = Talk} (arguments built_today list kept.callee (entries_left list kept o) (place_in kept) (left_from (length made) kept args) made) (Steps (argument_task list kept.callee (entry_in list kept e) (length made) v) (argument_given kept.callee (entries_left list kept o) (place_in kept) (left_from (length made + 1) kept rest) made)))
+    (sym some) (ap (λ (left : List Value). arguments built_today list kept.callee (entry_in list kept e ∷ []) (place_in kept) left made) (left_is kept args rest (length made) v x below is taken))
 
-several_next : (list : DefsTerm) (callee : Callee) (entries : List TupleTerm) (place : ℕ) (v : Value) (left : List Value) (made : List IdlTerm) → 2 ≤ length entries → arguments list callee entries place (v ∷ left) made ≡ several_by list callee entries place v left made
+several_next : (list : DefsTerm) (callee : Callee) (entries : List TupleTerm) (place : ℕ) (v : Value) (left : List Value) (made : List IdlTerm) → 2 ≤ length entries → arguments built_today list callee entries place (v ∷ left) made ≡ several_by built_today list callee entries place v left made
 several_next list callee [] place v left made several = absurd (omega arith)
 several_next list callee (t ∷ []) place v left made several = absurd (omega arith)
 several_next list callee (t ∷ u ∷ more) place v left made several = refl
 
 -- the next argument, where several entries are left
 pub next_several : (list : DefsTerm) (kept : Kept) (overload : Option ℕ) (args rest : List Value) (v x : Value) (made : List IdlTerm) → overload ≡ None → AreSeveral kept → length made < min (length args) kept.argcount → slice_get args (length made) ≡ Some v → rest ≡ set args (length made) x
-    → arguments list kept.callee (entries_left list kept overload) (place_in kept) (left_from (length made) kept args) made ≡ several_by list kept.callee (entries_left list kept overload) (place_in kept) v (left_from (length made + 1) kept rest) made
+    → arguments built_today list kept.callee (entries_left list kept overload) (place_in kept) (left_from (length made) kept args) made ≡ several_by built_today list kept.callee (entries_left list kept overload) (place_in kept) v (left_from (length made + 1) kept rest) made
 next_several list kept overload args rest v x made none several below is taken =
     let long : length (entries_for list kept.callee kept.argcount kept.overloads) ≡ length kept.overloads = length-map kept.overloads (λ (e : ℕ). entry_for e (declared_args list kept.callee e) kept.argcount) in
     let many : 2 ≤ length (entries_left list kept overload) = subst (λ (o : Option ℕ). 2 ≤ length (entries_left list kept o)) (sym none) (omega (arith, long, several.several)) in
-    ap (λ (left : List Value). arguments list kept.callee (entries_left list kept overload) (place_in kept) left made) (left_is kept args rest (length made) v x below is taken)
+    ap (λ (left : List Value). arguments built_today list kept.callee (entries_left list kept overload) (place_in kept) left made) (left_is kept args rest (length made) v x below is taken)
     ∙ several_next list kept.callee (entries_left list kept overload) (place_in kept) v (left_from (length made + 1) kept rest) made many

@@ -1,5 +1,5 @@
 -- How many values an overload is chosen with, and of which arguments nothing is asked.
-use Rattle.std.proofs.Common.{◌≡◌, ℕ, zero, suc, ◌+◌, ◌≤◌, Bool, true, false, if◌then◌else◌, List, [], ◌∷◌, ◌++◌, length, take, drop, min, Option, None, Some, Result, refl, sym, ap, subst, ◌∙◌, arith}
+use Rattle.std.proofs.Common.{◌&&◌, ◌≡◌, ℕ, zero, suc, ◌+◌, ◌≤◌, Bool, true, false, if◌then◌else◌, List, [], ◌∷◌, ◌++◌, length, take, drop, min, Option, None, Some, Result, refl, sym, ap, subst, ◌∙◌, arith}
 use Rattle.std.specs.Prelude.{ℤ, codes, nat_eq, slice_get}
 use Rattle.std.specs.List.{list_any}
 use Rattle.std.specs.declared.result.Result.TheVariants as results
@@ -12,7 +12,7 @@ use Rattle.widl_idl.specs.declared.literal.Literal.TheVariants as literals
 use Rattle.widl_idl.specs.declared.text_kind.TextKind.{TextKind}
 use Rattle.widl_idl.specs.declared.text_kind.TextKind.TheVariants as texts
 use Rattle.widl_idl.specs.DefinitionTerms.{DefsTerm, ArgTerm, SigTerm}
-use Rattle.widl_idl.specs.Terms.{TypeTerm, IntegerType, StringType, EnumerationType, ObjectType}
+use Rattle.widl_idl.specs.Terms.{TypeTerm, IntegerType, StringType, EnumerationType, ObjectType, TypeTerms, AnyType, SequenceType, RecordType, DictionaryType, NullableType, UnionType}
 use Rattle.widl_overload.specs.Sets.{TupleTerm, is_variadic}
 use Rattle.widl_value.specs.Classes.{class_of}
 use Rattle.widl_value.specs.declared.number.Number.{Number}
@@ -21,21 +21,21 @@ use Rattle.widl_value.specs.declared.object.Shape.{Shape}
 use Rattle.widl_value.specs.declared.object.Shape.TheVariants as shapes
 use Rattle.widl_value.specs.declared.value.Value.{Value}
 use Rattle.widl_value.specs.declared.value.Value.TheVariants as values
-use Rattle.widl_value.specs.IdlTerms.{IdlTerm}
+use Rattle.widl_value.specs.IdlTerms.{IdlTerm, StringValue}
 use Rattle.widl_scalar.specs.declared.int.NotInRange.{NotInRange}
 use Rattle.widl_scalar.specs.declared.primitives.ValueNumber.{ValueNumber}
 use Rattle.widl_scalar.specs.declared.primitives.ValueNumber.TheVariants as read
 use Rattle.widl_scalar.specs.declared.primitives.ValueText.{ValueText}
 use Rattle.widl_scalar.specs.declared.primitives.ValueText.TheVariants as written
 use Rattle.widl_scalar.specs.Enumerations.{value_place}
-use Rattle.widl_scalar.specs.Primitives.{number_in, text_in}
+use Rattle.widl_scalar.specs.Primitives.{number_in, text_in, truth_of}
 use Rattle.widl_scalar.specs.Scalars.{integer_of}
 use Rattle.widl_trace.specs.declared.code.Code.{Code}
 use Rattle.widl_trace.specs.declared.code.Code.TheVariants as code
 use Rattle.widl_tables.specs.declared.pick.Pick.{Pick}
 use Rattle.widl_tables.specs.declared.pick.Pick.TheVariants.{Entry, Probe, Refuse}
 use Rattle.widl_tables.specs.Kept.{argcount_of, counted_args, declared_args, entry_alone, is_variadic_list, kept_tuples, longest, optionality_at, overloads_of, telling_place, type_at}
-use Rattle.widl_tables.specs.Picks.{pick_of}
+use Rattle.widl_tables.specs.Picks.{pick_of, pick_member_of}
 use Rattle.widl_convert.specs.declared.hint.Hint.{Hint}
 use Rattle.widl_convert.specs.declared.hint.Hint.TheVariants.{PrefersNumber, PrefersString}
 use Rattle.widl_convert.specs.declared.outcome.Want.{Want}
@@ -45,12 +45,22 @@ use Rattle.widl_convert.specs.Built.{Built}
 use Rattle.widl_convert.specs.Defaults.{default, defaults_from, literal_value}
 use Rattle.widl_convert.specs.Laws.{Said}
 use Rattle.widl_convert.specs.Primitives.{tried, found_ordinary, try_method, ordinary, primitive_result, found_method, object_to_primitive, to_primitive}
-use Rattle.widl_convert.specs.Resolution.{with_entries, default_at, takes_default, argument, without_method, probed, picked, of_several}
+use Rattle.widl_convert.specs.Resolution.{with_entries, default_at, takes_default, argument, without_method, probed, picked, of_several, from_method, looked_for, sequence_given}
 use Rattle.widl_convert.specs.ResolutionLaws.{OthersAreNotLookedAt, ValuesAreCounted, before_variadic, value_count}
 use Rattle.widl_convert.specs.Rules.{rule}
 use Rattle.widl_convert.specs.Scalars.{to_number, to_text, to_scalar, integer_result, string_result, is_bytes, to_string, null_or_string, enumeration_result, to_type, convert}
-use Rattle.widl_convert.specs.Tasks.{Task, Primitive, Scalar, Convert, Resolve, Arguments, Default, Defaults, Out, TaskEnd, Gives, Plain, Picks, Throw, Rethrow, Profile, Talk}
-use Rattle.widl_convert.specs.Words.{returns, fails, normal, object, object_or, if_callable, callable_or, method_or, given, returned, number, text}
+use Rattle.widl_convert.specs.Sequences.{element, element_of, element_within, found_iterator_method, if_sequences, sequence_from, to_sequence, told_done, turn_given, turns, with_iterator, with_next}
+use Rattle.widl_convert.specs.Records.{entries, entry_value, flags_in, is_enumerable, named, to_record}
+use Rattle.widl_convert.specs.Dictionaries.{member_given, member_value, members, to_dictionary, undefined_member}
+use Rattle.widl_convert.specs.MemberOrder.{DeclaredMember}
+use Rattle.widl_convert.specs.Nullables.{to_nullable}
+use Rattle.widl_convert.specs.Unions.{member_from, member_picked, member_probed, to_member, to_union, without_iterator}
+use Rattle.widl_tables.specs.Tests.{is_null_or_undefined}
+use Rattle.widl_idl.specs.Flattened.{flattened_members, includes_nullable_type}
+use Rattle.widl_text.specs.declared.key.Key.{Key}
+use Rattle.std.specs.Option.{option_and_then}
+use Rattle.widl_convert.specs.Tasks.{Task, Primitive, Scalar, Convert, Resolve, Arguments, Default, Defaults, Out, TaskEnd, Gives, Plain, Picks, Throw, Rethrow, Profile, Talk, SequenceFrom, Turns, Entries, Members, OutItems, OutUnits}
+use Rattle.widl_convert.specs.Words.{returns, fails, normal, object, object_or, if_callable, callable_or, method_or, given, returned, number, text, not_built}
 
 -- 1. What the ends of a task are
 
@@ -73,12 +83,18 @@ EndsSo list (Primitive hint v) r = NoPick r
 EndsSo list (Scalar want v) r = NoPick r
 EndsSo list (Convert t v) r = NoPick r
 EndsSo list (Default t l) r = NoPick r
+EndsSo list (SequenceFrom t o method) r = NoPick r
+EndsSo list (Turns t iterator next made) r = NoPick r
+EndsSo list (Entries key t o left made) r = NoPick r
+EndsSo list (Members n o left made) r = NoPick r
 EndsSo list (Out t w) r = Unit {0}
+EndsSo list (OutItems container left made) r = Unit {0}
+EndsSo list (OutUnits left container made) r = Unit {0}
 EndsSo list (Resolve c args) r = Counted list c (argcount_of list c (length args)) r
 EndsSo list (Arguments c entries place left made) r = Counted list c (length made + length left) r
 EndsSo list (Defaults c e made) r = CountedOf list c e (length made) r
 
-module _ (list : DefsTerm) where
+module _ (built : Built) (list : DefsTerm) where
   -- each end of these steps is so, where the ends of their tasks are
   abbrev Each : (TaskEnd → Type 0) → Talk → Type 0
   Each P (End r) = P r
@@ -194,11 +210,97 @@ module _ (list : DefsTerm) where
   no_object c k all (values.Obj o) = all o
   no_object c k all v = tt
 
-  no_type : (t : TypeTerm) (v : Value) → No (to_type list t v)
+  no_given : (k : IdlTerm → Talk) → ((w : IdlTerm) → No (k w)) → (r : TaskEnd) → NoPick r → No (given k r)
+  no_given k all (Gives w) h = all w
+  no_given k all r h = h
+
+  no_told_done : (t : TypeTerm) (iterator next : ObjRef) (made : List IdlTerm) (turn : ObjRef) (v : Value) → No (told_done t iterator next made turn v)
+  no_told_done t iterator next made turn v = no_if (truth_of v) _ _ tt (λ a. no_normal (element t iterator next made) (λ w r h. no_given _ (λ x s g. g) r h) a)
+
+  no_turns : (t : TypeTerm) (iterator next : ObjRef) (made : List IdlTerm) → No (turns t iterator next made)
+  no_turns t iterator next made = λ a. no_normal (turn_given t iterator next made)
+      (λ v. no_object code.Result _ (λ turn b. no_normal (told_done t iterator next made turn) (no_told_done t iterator next made turn) b) v) a
+
+  no_sequence_from : (t : TypeTerm) (o method : ObjRef) → No (sequence_from t o method)
+  no_sequence_from t o method = λ a. no_normal (with_iterator t)
+      (λ v. no_object code.Iterator _ (λ iterator b. no_normal (with_next t iterator) (λ n. no_callable (fails code.NotCallable) _ tt (λ next s g. g) n) b) v) a
+
+  no_to_sequence : (t : TypeTerm) (v : Value) → No (to_sequence t v)
+  no_to_sequence t v = no_object code.NotObject _ (λ o a. no_normal (found_iterator_method t o) (λ m. no_method (fails code.NotIterable) _ tt (λ method s g. g) m) a) v
+
+  no_named : (k : List ℕ → Talk) → ((name : List ℕ) → No (k name)) → (r : TaskEnd) → NoPick r → No (named k r)
+  no_named k all (Gives (StringValue name)) h = all name
+  no_named k all r h = h
+
+  no_entries : (kind : TextKind) (t : TypeTerm) (o : ObjRef) (left : List Key) (made : List (List ℕ × IdlTerm)) → No (entries kind t o left made)
+  no_entries kind t o [] made = tt
+  no_entries kind t o (key ∷ left) made = λ a. no_if (is_enumerable (flags_in a)) _ _
+      (λ r h. no_named _ (λ name b. no_normal (entry_value kind t o left made name) (λ v s g. no_given _ (λ w q e. e) s g) b) r h) (λ s g. g)
+
+  no_to_record : (kind : TextKind) (t : TypeTerm) (v : Value) → No (to_record kind t v)
+  no_to_record kind t v = no_object code.NotObject _ (λ o a s g. g) v
+
+  no_member_given : (n : ℕ) (o : Option ObjRef) (m : DeclaredMember) (left : List DeclaredMember) (made : List (ℕ × ℕ × IdlTerm)) (r : TaskEnd) → NoPick r → No (member_given n o m left made r)
+  no_member_given n o m left made r h = no_given _ (λ w s g. g) r h
+
+  no_undefined_member : (n : ℕ) (o : Option ObjRef) (m : DeclaredMember) (left : List DeclaredMember) (made : List (ℕ × ℕ × IdlTerm)) (l : Option Literal) → No (undefined_member n o m left made l)
+  no_undefined_member n o m left made (Some l) = λ r h. no_member_given n o m left made r h
+  no_undefined_member n o m left made None = no_if m.member.needed _ _ tt (λ s g. g)
+
+  no_member_value : (n : ℕ) (o : Option ObjRef) (m : DeclaredMember) (left : List DeclaredMember) (made : List (ℕ × ℕ × IdlTerm)) (v : Value) → No (member_value n o m left made v)
+  no_member_value n o m left made values.Undefined = no_undefined_member n o m left made m.member.value
+  no_member_value n o m left made v = λ r h. no_member_given n o m left made r h
+
+  no_members : (n : ℕ) (o : Option ObjRef) (left : List DeclaredMember) (made : List (ℕ × ℕ × IdlTerm)) → No (members n o left made)
+  no_members n o [] made = tt
+  no_members n (Some o) (m ∷ left) made = λ a. no_normal (member_value n (Some o) m left made) (no_member_value n (Some o) m left made) a
+  no_members n None (m ∷ left) made = λ a. no_undefined_member n None m left made m.member.value
+
+  no_to_dictionary : (n : ℕ) (v : Value) → No (to_dictionary list n v)
+  no_to_dictionary n values.Undefined = λ s g. g
+  no_to_dictionary n values.Null = λ s g. g
+  no_to_dictionary n (values.Obj o) = λ s g. g
+  no_to_dictionary n v = tt
+
+  no_to_nullable : (t : TypeTerm) (v : Value) → No (to_nullable t v)
+  no_to_nullable t values.Undefined = tt
+  no_to_nullable t values.Null = tt
+  no_to_nullable t v = λ s g. g
+
+  no_to_member : (t : Option TypeTerm) (v : Value) → No (to_member t v)
+  no_to_member (Some t) v = λ s g. g
+  no_to_member None v = tt
+
+  no_without_iterator : (ts : TypeTerms) (v : Value) (p : Pick) → No (without_iterator ts v p)
+  no_without_iterator ts v (Entry place) = no_to_member (slice_get (flattened_members ts) place) v
+  no_without_iterator ts v p = tt
+
+  no_member_from : (o method : ObjRef) (t : Option TypeTerm) → No (member_from o method t)
+  no_member_from o method (Some t) = λ s g. g
+  no_member_from o method None = tt
+
+  no_member_probed : (ts : TypeTerms) (place : ℕ) (o : ObjRef) (v : Value) → No (member_probed built list ts place o v)
+  no_member_probed ts place o v = no_method _ _ (no_without_iterator ts (values.Obj o) (pick_member_of list ts (class_of (values.Obj o)) true))
+      (λ method. no_if (built.to_type (SequenceType AnyType)) _ not_built (no_member_from o method (option_and_then element_of (slice_get (flattened_members ts) place))) tt) v
+
+  no_member_picked : (ts : TypeTerms) (v : Value) (p : Pick) → No (member_picked built list ts v p)
+  no_member_picked ts v (Entry place) = no_to_member (slice_get (flattened_members ts) place) v
+  no_member_picked ts v (Probe place) = no_object code.Union _ (λ o a. no_normal (member_probed built list ts place o) (no_member_probed ts place o) a) v
+  no_member_picked ts v Refuse = tt
+
+  no_to_union : (ts : TypeTerms) (v : Value) → No (to_union built list ts v)
+  no_to_union ts v = no_if (includes_nullable_type (UnionType ts) && is_null_or_undefined (class_of v)) _ _ tt (no_member_picked ts v (pick_member_of list ts (class_of v) false))
+
+  no_type : (t : TypeTerm) (v : Value) → No (to_type built list t v)
   no_type (IntegerType kind mode) v = λ r h. no_number _ (λ n. no_integer (integer_of n kind mode)) r h
   no_type (StringType kind null_empty) v = no_null_or_string null_empty kind v
   no_type (EnumerationType n) v = λ r h. no_text _ (λ units. no_enumeration n (value_place list.choices n units)) r h
   no_type ObjectType v = no_object code.NotObject _ (λ o. tt) v
+  no_type (SequenceType t) v = no_to_sequence t v
+  no_type (RecordType key t) v = no_to_record key t v
+  no_type (DictionaryType n) v = no_to_dictionary n v
+  no_type (NullableType t) v = no_to_nullable t v
+  no_type (UnionType ts) v = no_to_union ts v
   no_type t v = tt
 
   no_literal : (t : TypeTerm) (l : Literal) → No (literal_value list t l)
@@ -281,13 +383,25 @@ module _ (list : DefsTerm) where
   counted_without c entries place v left made n (Entry e) is = counted_argument c (entry_alone e entries) place v left made n is
   counted_without c entries place v left made n p is = tt
 
-  counted_probed : (c : Callee) (entries : List TupleTerm) (place : ℕ) (o : ObjRef) (left : List Value) (made : List IdlTerm) (n : ℕ) → n ≡ length made + suc (length left) → (v : Value) → Each (Counted list c n) (probed list c entries place o left made v)
+  each_if : (P : TaskEnd → Type 0) (b : Bool) (d e : Talk) → Each P d → Each P e → Each P (if b then d else e)
+  each_if P true d e x y = x
+  each_if P false d e x y = y
+
+  counted_sequence : (c : Callee) (entries : List TupleTerm) (place : ℕ) (left : List Value) (made : List IdlTerm) (n : ℕ) → n ≡ length made + suc (length left) → (o method : ObjRef) (t : Option TypeTerm) → Each (Counted list c n) (sequence_given c entries place left made o method t)
+  counted_sequence c entries place left made n is o method (Some t) = λ r h. after_argument c entries place left made n is r h
+  counted_sequence c entries place left made n is o method None = tt
+
+  counted_from : (c : Callee) (entries : List TupleTerm) (place : ℕ) (left : List Value) (made : List IdlTerm) (n : ℕ) → n ≡ length made + suc (length left) → (o method : ObjRef) → Each (Counted list c n) (from_method c entries place left made o method)
+  counted_from c [] place left made n is o method = tt
+  counted_from c (entry ∷ more) place left made n is o method = counted_sequence c (entry ∷ more) place left made n is o method (element_within (type_at entry (length made)))
+
+  counted_probed : (c : Callee) (entries : List TupleTerm) (place : ℕ) (o : ObjRef) (left : List Value) (made : List IdlTerm) (n : ℕ) → n ≡ length made + suc (length left) → (v : Value) → Each (Counted list c n) (probed built list c entries place o left made v)
   counted_probed c entries place o left made n is values.Undefined = counted_without c entries place (values.Obj o) left made n (pick_of list entries (length made) (class_of (values.Obj o)) true) is
   counted_probed c entries place o left made n is values.Null = counted_without c entries place (values.Obj o) left made n (pick_of list entries (length made) (class_of (values.Obj o)) true) is
   counted_probed c entries place o left made n is (values.Obj f) = by f.shape
     where
-      by : (s : Shape) → Each (Counted list c n) (if_callable s (End (Profile 99)) (fails code.NotCallable))
-      by shapes.Callable = tt
+      by : (s : Shape) → Each (Counted list c n) (if_callable s (if_sequences built (from_method c (looked_for entries (pick_of list entries (length made) (class_of (values.Obj o)) false)) place left made o f)) (fails code.NotCallable))
+      by shapes.Callable = each_if (Counted list c n) (built.to_type (SequenceType AnyType)) _ not_built (counted_from c (looked_for entries (pick_of list entries (length made) (class_of (values.Obj o)) false)) place left made n is o f) tt
       by s = tt
   counted_probed c entries place o left made n is v = tt
 
@@ -296,16 +410,16 @@ module _ (list : DefsTerm) where
   counted_normal c n k all (ThrownAnswer v) = tt
   counted_normal c n k all a = all values.Undefined
 
-  counted_picked : (c : Callee) (entries : List TupleTerm) (place : ℕ) (v : Value) (left : List Value) (made : List IdlTerm) (n : ℕ) (p : Pick) → n ≡ length made + suc (length left) → Each (Counted list c n) (picked list c entries place v left made p)
+  counted_picked : (c : Callee) (entries : List TupleTerm) (place : ℕ) (v : Value) (left : List Value) (made : List IdlTerm) (n : ℕ) (p : Pick) → n ≡ length made + suc (length left) → Each (Counted list c n) (picked built list c entries place v left made p)
   counted_picked c entries place v left made n (Entry e) is = counted_argument c (entry_alone e entries) place v left made n is
-  counted_picked c entries place (values.Obj o) left made n (Probe e) is = λ a. counted_normal c n (probed list c entries place o left made) (counted_probed c entries place o left made n is) a
+  counted_picked c entries place (values.Obj o) left made n (Probe e) is = λ a. counted_normal c n (probed built list c entries place o left made) (counted_probed c entries place o left made n is) a
   counted_picked c entries place v left made n (Probe e) is = tt
   counted_picked c entries place v left made n Refuse is = tt
 
-  counted_several : (c : Callee) (entries : List TupleTerm) (place : ℕ) (v : Value) (left : List Value) (made : List IdlTerm) → Each (Counted list c (length made + suc (length left))) (of_several list c entries place v left made)
+  counted_several : (c : Callee) (entries : List TupleTerm) (place : ℕ) (v : Value) (left : List Value) (made : List IdlTerm) → Each (Counted list c (length made + suc (length left))) (of_several built list c entries place v left made)
   counted_several c entries place v left made = by (nat_eq (length made) place)
     where
-      by : (b : Bool) → Each (Counted list c (length made + suc (length left))) (if b then picked list c entries place v left made (pick_of list entries place (class_of v) false) else argument list c entries place v left made)
+      by : (b : Bool) → Each (Counted list c (length made + suc (length left))) (if b then picked built list c entries place v left made (pick_of list entries place (class_of v) false) else argument list c entries place v left made)
       by true = counted_picked c entries place v left made (length made + suc (length left)) (pick_of list entries place (class_of v) false) refl
       by false = counted_argument c entries place v left made (length made + suc (length left)) refl
 
@@ -316,43 +430,48 @@ module _ (list : DefsTerm) where
       by true = omega arith
       by false = omega arith
 
-  module _ (built : Built) where
-    abbrev So : Task → Type 0
-    So t = Each (EndsSo list t) (rule built list t)
+  abbrev So : Task → Type 0
+  So t = Each (EndsSo list t) (rule built list t)
 
-    so_arguments : (c : Callee) (entries : List TupleTerm) (place : ℕ) (left : List Value) (made : List IdlTerm) → So (Arguments c entries place left made)
-    so_arguments c [] place left made = tt
-    so_arguments c (entry ∷ []) place [] made = λ r h. of_overload c entry.overload (length made) (length made + 0) r (omega arith) h
-    so_arguments c (entry ∷ []) place (v ∷ left) made = counted_argument c (entry ∷ []) place v left made (length made + suc (length left)) refl
-    so_arguments c (entry ∷ other ∷ more) place [] made = tt
-    so_arguments c (entry ∷ other ∷ more) place (v ∷ left) made = counted_several c (entry ∷ other ∷ more) place v left made
+  so_arguments : (c : Callee) (entries : List TupleTerm) (place : ℕ) (left : List Value) (made : List IdlTerm) → So (Arguments c entries place left made)
+  so_arguments c [] place left made = tt
+  so_arguments c (entry ∷ []) place [] made = λ r h. of_overload c entry.overload (length made) (length made + 0) r (omega arith) h
+  so_arguments c (entry ∷ []) place (v ∷ left) made = counted_argument c (entry ∷ []) place v left made (length made + suc (length left)) refl
+  so_arguments c (entry ∷ other ∷ more) place [] made = tt
+  so_arguments c (entry ∷ other ∷ more) place (v ∷ left) made = counted_several c (entry ∷ other ∷ more) place v left made
 
-    so_resolve : (c : Callee) (entries : List TupleTerm) (args : List Value) → Each (Counted list c (argcount_of list c (length args))) (with_entries list c entries (take (argcount_of list c (length args)) args))
-    so_resolve c [] args = tt
-    so_resolve c (entry ∷ more) args =
-        let long : 0 + length (take (argcount_of list c (length args)) args) ≡ argcount_of list c (length args) = omega (arith, length-take (argcount_of list c (length args)) args, few_count (overloads_of list c) (length args)) in
-        λ r h. subst (λ k. Counted list c k r) long h
+  so_resolve : (c : Callee) (entries : List TupleTerm) (args : List Value) → Each (Counted list c (argcount_of list c (length args))) (with_entries list c entries (take (argcount_of list c (length args)) args))
+  so_resolve c [] args = tt
+  so_resolve c (entry ∷ more) args =
+      let long : 0 + length (take (argcount_of list c (length args)) args) ≡ argcount_of list c (length args) = omega (arith, length-take (argcount_of list c (length args)) args, few_count (overloads_of list c) (length args)) in
+      λ r h. subst (λ k. Counted list c k r) long h
 
-    anything : (d : Talk) → Each (λ r. Unit {0}) d
-    anything (End r) = tt
-    anything (Say q k) = λ a. anything (k a)
-    anything (Steps j k) = λ r h. anything (k r)
+  anything : (d : Talk) → Each (λ r. Unit {0}) d
+  anything (End r) = tt
+  anything (Say q k) = λ a. anything (k a)
+  anything (Steps j k) = λ r h. anything (k r)
 
-    so : (t : Task) → So t
-    so (Primitive hint v) = no_primitive hint v
-    so (Scalar want v) = no_scalar want v
-    so (Convert t v) = no_if (built.to_type t) (to_type list t v) (End (Profile 99)) (no_type t v) tt
-    so (Resolve c args) = so_resolve c (kept_tuples list c (length args)) args
-    so (Arguments c entries place left made) = so_arguments c entries place left made
-    so (Default t l) = no_default t l
-    so (Defaults c e made) = defaults_counted c e made (slice_get (declared_args list c e) (length made)) refl
-    so (Out t w) = anything (rule built list (Out t w))
+  so : (t : Task) → So t
+  so (Primitive hint v) = no_primitive hint v
+  so (Scalar want v) = no_scalar want v
+  so (Convert t v) = no_if (built.to_type t) (to_type built list t v) (End (Profile 99)) (no_type t v) tt
+  so (Resolve c args) = so_resolve c (kept_tuples list c (length args)) args
+  so (Arguments c entries place left made) = so_arguments c entries place left made
+  so (Default t l) = no_default t l
+  so (Defaults c e made) = defaults_counted c e made (slice_get (declared_args list c e) (length made)) refl
+  so (SequenceFrom t o method) = no_sequence_from t o method
+  so (Turns t iterator next made) = no_turns t iterator next made
+  so (Entries key t o left made) = no_entries key t o left made
+  so (Members n o left made) = no_if (built.to_type (DictionaryType n)) (members n o left made) not_built (no_members n o left made) tt
+  so (Out t w) = anything (rule built list (Out t w))
+  so (OutItems container left made) = anything (rule built list (OutItems container left made))
+  so (OutUnits left container made) = anything (rule built list (OutUnits left container made))
 
-    pub values_counted : ValuesAreCounted (rule built list) list
-    values_counted c args talk e ws x = each_read (rule built list) so (Counted list c (argcount_of list c (length args))) x.0 (rule built list (Resolve c args)) talk (Picks e ws) (so (Resolve c args)) x.1
+  pub values_counted : ValuesAreCounted (rule built list) list
+  values_counted c args talk e ws x = each_read (rule built list) so (Counted list c (argcount_of list c (length args))) x.0 (rule built list (Resolve c args)) talk (Picks e ws) (so (Resolve c args)) x.1
 
-    pub others_left : OthersAreNotLookedAt (rule built list) list
-    others_left c args others said next long same x =
-        let one : rule built list (Resolve c args) ≡ rule built list (Resolve c others)
-        = ap (with_entries list c (kept_tuples list c (length args))) same ∙ ap (λ (n : ℕ). with_entries list c (kept_tuples list c n) (take (argcount_of list c n) others)) long in
-        subst (λ (d : Talk). Comes (rule built list) Fits d said next) one x
+  pub others_left : OthersAreNotLookedAt (rule built list) list
+  others_left c args others said next long same x =
+      let one : rule built list (Resolve c args) ≡ rule built list (Resolve c others)
+      = ap (with_entries list c (kept_tuples list c (length args))) same ∙ ap (λ (n : ℕ). with_entries list c (kept_tuples list c n) (take (argcount_of list c n) others)) long in
+      subst (λ (d : Talk). Comes (rule built list) Fits d said next) one x

@@ -43,6 +43,7 @@ use Rattle.widl_convert.specs.declared.waits.Wait.TheVariants as waits
 use Rattle.widl_convert.specs.AskTerms.{AnswerTerm, ask_term}
 use Rattle.widl_convert.specs.Entries.{declared_type, entries_left, left_from, place_in}
 use Rattle.widl_convert.specs.Primitives.{found_method, found_ordinary, primitive_result, tried, try_method}
+use Rattle.widl_convert.specs.Built.{built_today}
 use Rattle.widl_convert.specs.Resolution.{default_at, probed}
 use Rattle.widl_convert.specs.Scalars.{enumeration_result, integer_result, length_value, string_result}
 use Rattle.widl_convert.specs.Tasks.{Task, Primitive, Scalar, Convert, Resolve, Arguments, Default, Defaults, Out, TaskEnd, Gives, Plain, Picks, Throw, Rethrow, Profile, Talk}
@@ -96,7 +97,7 @@ primitive_to (OrdinaryResult o otherwise) = tried (otherwise_of otherwise o)
 
 -- the argument is taken
 abbrev pub probe_to : DefsTerm → Resolution → ObjRef → Value → Talk
-probe_to list r o = probed list r.kept.callee (entries_left list r.kept r.overload) (place_in r.kept) o (left_from (length (idl_terms r.made) + 1) r.kept r.args) (idl_terms r.made)
+probe_to list r o = probed built_today list r.kept.callee (entries_left list r.kept r.overload) (place_in r.kept) o (left_from (length (idl_terms r.made) + 1) r.kept r.args) (idl_terms r.made)
 
 abbrev pub value_to : DefsTerm → ValueWait → Value → Talk
 value_to list (value_waits.Primitive w) = primitive_to w

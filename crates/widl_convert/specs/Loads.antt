@@ -19,7 +19,7 @@ use Rattle.widl_convert.specs.declared.waits.Wait.{Wait}
 use Rattle.widl_convert.specs.declared.waits.Wait.TheVariants as waits
 use Rattle.widl_convert.specs.Entries.{left_from}
 use Rattle.widl_convert.specs.Frames.{job_of, end_of}
-use Rattle.widl_convert.specs.Tasks.{Task, Primitive, Scalar, Convert, Resolve, Arguments, Default, Defaults, Out, TaskEnd, Plain}
+use Rattle.widl_convert.specs.Tasks.{Task, Primitive, Scalar, Convert, Resolve, Arguments, Default, Defaults, Out, TaskEnd, Plain, SequenceFrom, Turns, Entries, Members, OutItems, OutUnits}
 
 -- the way of an object to its Number or String, which no value but an object takes
 abbrev pub object_load : ℕ
@@ -68,6 +68,13 @@ load list (Arguments callee entries place left made) = arguments_load list calle
 load list (Default t l) = default_load
 load list (Defaults callee overload made) = defaults_load list callee overload (length made)
 load list (Out t w) = object_load
+-- of containers no task is begun today
+load list (SequenceFrom t o method) = 0
+load list (Turns t iterator next made) = 0
+load list (Entries key t o left made) = 0
+load list (Members n o left made) = 0
+load list (OutItems container left made) = 0
+load list (OutUnits left container made) = 0
 
 -- what comes of an end: an object that is given may have to become a Number
 abbrev pub end_load : TaskEnd → ℕ

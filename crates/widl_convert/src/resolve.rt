@@ -13,7 +13,8 @@ ghost use Rattle.widl_convert.specs.Built.{built_today};
 ghost use Rattle.widl_convert.specs.Entries.{IsAtPlace, entries_left, entry_in, left_from, place_in, sole};
 ghost use Rattle.widl_convert.specs.Frames.{idl_to, job_of, move_dialog, probe_to, taken};
 ghost use Rattle.widl_convert.specs.Loads.{default_load, idl_frame_load, load, taken_load, weight};
-ghost use Rattle.widl_convert.specs.Resolution.{argument, argument_given, argument_task, iterator_symbol, of_several, picked, resolve, without_method};
+ghost use Rattle.widl_convert.specs.Sequences.{iterator_symbol};
+ghost use Rattle.widl_convert.specs.Resolution.{argument, argument_given, argument_task, of_several, picked, resolve, without_method};
 ghost use Rattle.widl_convert.specs.Rules.{rule};
 ghost use Rattle.widl_convert.specs.Tasks.{Resolve};
 ghost use Rattle.widl_convert.specs.Words.{fails, normal, object};
@@ -147,7 +148,7 @@ fn is_optional(tables: &Tables, at: ArgumentPlace, length: u32) -> bool
 /// The move to an argument that was taken where several entries are left.
 fn of_several(tables: &Tables, resolution: Resolution, value: Value) -> Move
     requires { resolution.overload ≡ None }
-    ensures dialog { move_dialog (defs_term tables.now.defs) result ≡ taken of_several (defs_term tables.now.defs) resolution value }
+    ensures dialog { move_dialog (defs_term tables.now.defs) result ≡ taken (of_several built_today) (defs_term tables.now.defs) resolution value }
     ensures weight { weight (defs_term tables.now.defs) result ≤ taken_load (defs_term tables.now.defs) resolution }
 {
     if resolution.made.len() == resolution.kept.place.unwrap_or(0) as usize {
@@ -171,7 +172,7 @@ fn by_first(tables: &Tables, resolution: Resolution, value: Value) -> Move
 /// The move to the argument at the place that tells the entries apart.
 fn picked(tables: &Tables, resolution: Resolution, value: Value) -> Move
     requires { IsAtPlace resolution.kept resolution.overload (length (idl_terms resolution.made)) }
-    ensures dialog { move_dialog (defs_term tables.now.defs) result ≡ picked (defs_term tables.now.defs) resolution.kept.callee (entries_left (defs_term tables.now.defs) resolution.kept resolution.overload) (place_in resolution.kept) value (left_from (length (idl_terms resolution.made) + 1) resolution.kept resolution.args) (idl_terms resolution.made) (pick_of (defs_term tables.now.defs) (entries_left (defs_term tables.now.defs) resolution.kept resolution.overload) (place_in resolution.kept) (class_of value) false) }
+    ensures dialog { move_dialog (defs_term tables.now.defs) result ≡ picked built_today (defs_term tables.now.defs) resolution.kept.callee (entries_left (defs_term tables.now.defs) resolution.kept resolution.overload) (place_in resolution.kept) value (left_from (length (idl_terms resolution.made) + 1) resolution.kept resolution.args) (idl_terms resolution.made) (pick_of (defs_term tables.now.defs) (entries_left (defs_term tables.now.defs) resolution.kept resolution.overload) (place_in resolution.kept) (class_of value) false) }
     ensures weight { weight (defs_term tables.now.defs) result ≤ taken_load (defs_term tables.now.defs) resolution }
 {
     match pick_overload(tables.list().defs(), &resolution.kept, value.class(), false) {
