@@ -1,14 +1,13 @@
 -- The entries and the arguments that are left of a resolution.
-use Rattle.std.proofs.Common.{◌≡◌, ℕ, zero, suc, ◌+◌, ◌<◌, ◌≤◌, max, min, Bool, true, false, cond, List, [], ◌∷◌, ◌++◌, length, take, drop, map, set, Option, None, Some, slice_get, arith, refl, sym, ap, subst, ◌∙◌}
+use Rattle.std.proofs.Common.{◌≡◌, ℕ, zero, suc, ◌+◌, ◌<◌, ◌≤◌, min, Bool, true, false, cond, List, [], ◌∷◌, length, take, drop, map, set, Option, None, Some, slice_get, arith, refl, sym, ap, subst, ◌∙◌}
 use Rattle.std.specs.Prelude.{◌&&◌, nat_eq, nat_le}
-use Rattle.std.specs.List.{Contains, filter, slice_index_or}
+use Rattle.std.specs.List.{Contains, slice_index_or}
 use Rattle.std.specs.Option.{option_map_or, unwrap_or}
 use Rattle.std.proofs.lemmas.List.{drop_all, length-map, length-take}
 use Rattle.widl_dialog.specs.Dialog.{End, Steps}
 use Rattle.widl_idl.specs.declared.callee.Callee.{Callee}
-use Rattle.widl_idl.specs.DefinitionTerms.{DefsTerm, ArgTerm, SigTerm}
-use Rattle.widl_overload.specs.Sets.{TupleTerm, with_tuple}
-use Rattle.widl_trace.specs.declared.code.Code.TheVariants as code
+use Rattle.widl_idl.specs.DefinitionTerms.{DefsTerm, SigTerm}
+use Rattle.widl_overload.specs.Sets.{TupleTerm}
 use Rattle.widl_value.specs.Classes.{class_of}
 use Rattle.widl_value.specs.declared.class.Class.{Class}
 use Rattle.widl_value.specs.declared.value.Value.{Value}
@@ -16,7 +15,7 @@ use Rattle.widl_value.specs.IdlTerms.{IdlTerm}
 use Rattle.widl_tables.specs.declared.kept_type.Kept.{Kept}
 use Rattle.widl_tables.specs.declared.pick.Pick.{Pick}
 use Rattle.widl_tables.specs.declared.pick.Pick.TheVariants.{Entry}
-use Rattle.widl_tables.specs.Kept.{argcount_of, declared_args, entries_for, entries_of, entry_alone, entry_for, entry_of, kept_tuples, longest, numbers_of, overloads_of, telling_place, choosing_place}
+use Rattle.widl_tables.specs.Kept.{argcount_of, declared_args, entries_for, entries_of, entry_alone, entry_for, kept_tuples, longest, numbers_of, overloads_of, telling_place, choosing_place}
 use Rattle.widl_tables.specs.Picks.{pick_kept, pick_of}
 use Rattle.widl_tables.specs.Standing.{has_entry}
 use Rattle.widl_tables.proofs.Entries.{number_of_entry, numbers_more}
@@ -26,7 +25,6 @@ use Rattle.widl_tables.proofs.Picking.{of_several}
 use Rattle.widl_convert.specs.Entries.{AreSeveral, IsAtPlace, IsOpen, after_arguments, entries_left, entry_in, left_from, place_in, rise, sole}
 use Rattle.widl_convert.specs.Resolution.{argument, argument_given, argument_task, arguments, of_several as several_by, picked, resolve, with_entries, without_method}
 use Rattle.widl_convert.specs.Tasks.{Arguments, Defaults, Talk}
-use Rattle.widl_convert.specs.Words.{fails}
 
 -- 1. The arguments
 
