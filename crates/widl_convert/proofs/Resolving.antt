@@ -1,14 +1,13 @@
 -- The entries and the arguments that are left of a resolution.
-use Rattle.std.proofs.Common.{◌≡◌, ℕ, zero, suc, ◌+◌, ◌<◌, ◌≤◌, max, min, Bool, true, false, cond, List, [], ◌∷◌, ◌++◌, length, take, drop, map, set, Option, None, Some, slice_get, arith, refl, sym, ap, subst, ◌∙◌}
+use Rattle.std.proofs.Common.{◌≡◌, ℕ, zero, suc, ◌+◌, ◌<◌, ◌≤◌, min, Bool, true, false, cond, List, [], ◌∷◌, length, take, drop, map, set, Option, None, Some, slice_get, arith, refl, sym, ap, subst, ◌∙◌}
 use Rattle.std.specs.Prelude.{◌&&◌, nat_eq, nat_le}
-use Rattle.std.specs.List.{Contains, filter, slice_index_or}
+use Rattle.std.specs.List.{Contains, slice_index_or}
 use Rattle.std.specs.Option.{option_map_or, unwrap_or}
 use Rattle.std.proofs.lemmas.List.{drop_all, length-map, length-take}
 use Rattle.widl_dialog.specs.Dialog.{End, Steps}
 use Rattle.widl_idl.specs.declared.callee.Callee.{Callee}
-use Rattle.widl_idl.specs.DefinitionTerms.{DefsTerm, ArgTerm, SigTerm}
-use Rattle.widl_overload.specs.Sets.{TupleTerm, with_tuple}
-use Rattle.widl_trace.specs.declared.code.Code.TheVariants as code
+use Rattle.widl_idl.specs.DefinitionTerms.{DefsTerm, SigTerm}
+use Rattle.widl_overload.specs.Sets.{TupleTerm}
 use Rattle.widl_value.specs.Classes.{class_of}
 use Rattle.widl_value.specs.declared.class.Class.{Class}
 use Rattle.widl_value.specs.declared.value.Value.{Value}
@@ -16,7 +15,7 @@ use Rattle.widl_value.specs.IdlTerms.{IdlTerm}
 use Rattle.widl_tables.specs.declared.kept_type.Kept.{Kept}
 use Rattle.widl_tables.specs.declared.pick.Pick.{Pick}
 use Rattle.widl_tables.specs.declared.pick.Pick.TheVariants.{Entry}
-use Rattle.widl_tables.specs.Kept.{argcount_of, declared_args, entries_for, entries_of, entry_alone, entry_for, entry_of, kept_tuples, longest, numbers_of, overloads_of, telling_place, choosing_place}
+use Rattle.widl_tables.specs.Kept.{argcount_of, declared_args, entries_for, entries_of, entry_alone, entry_for, kept_tuples, longest, numbers_of, overloads_of, telling_place, choosing_place}
 use Rattle.widl_tables.specs.Picks.{pick_kept, pick_of}
 use Rattle.widl_tables.specs.Standing.{has_entry}
 use Rattle.widl_tables.proofs.Entries.{number_of_entry, numbers_more}
@@ -27,7 +26,6 @@ use Rattle.widl_convert.specs.Entries.{AreSeveral, IsAtPlace, IsOpen, after_argu
 use Rattle.widl_convert.specs.Built.{built_today}
 use Rattle.widl_convert.specs.Resolution.{argument, argument_given, argument_task, arguments, of_several as several_by, picked, resolve, with_entries, without_method}
 use Rattle.widl_convert.specs.Tasks.{Arguments, Defaults, Talk}
-use Rattle.widl_convert.specs.Words.{fails}
 
 -- 1. The arguments
 
@@ -186,13 +184,6 @@ unprobed_entry list kept overload e class v left made p several there same is pi
     ap (without_method list kept.callee (entries_left list kept overload) (place_in kept) v left made) pick
     ∙ ap (λ (entries : List TupleTerm). argument list kept.callee entries (place_in kept) v left made) (entry_picked list kept overload (length made) e (class_of v) true several there.none pick)
 
-pub unprobed_other : (list : DefsTerm) (kept : Kept) (overload : Option ℕ) (class : Class) (v : Value) (left : List Value) (made : List IdlTerm) (p : Pick) → AreSeveral kept → IsAtPlace kept overload (length made)
-    → class ≡ class_of v → p ≡ pick_kept list (entries_for list kept.callee kept.argcount kept.overloads) kept.place class true
-    → without_method list kept.callee (entries_left list kept overload) (place_in kept) v left made (pick_of list (entries_left list kept overload) (length made) (class_of v) true) ≡ without_method list kept.callee (entries_left list kept overload) (place_in kept) v left made p
-unprobed_other list kept overload class v left made p several there same picks =
-    ap (without_method list kept.callee (entries_left list kept overload) (place_in kept) v left made)
-    (ap (λ (c : Class). pick_of list (entries_left list kept overload) (length made) c true) (sym same) ∙ pick_is list kept overload (length made) class true p several there.none there.here picks)
-
 -- 6. Where it begins
 
 sole_left : (list : DefsTerm) (kept : Kept) (numbers : List ℕ) → numbers ≡ kept.overloads → entries_left list kept (sole numbers) ≡ entries_for list kept.callee kept.argcount numbers
@@ -249,14 +240,6 @@ pub begun : (list : DefsTerm) (callee : Callee) (n : ℕ) (kept : Kept) (overloa
 begun list callee n kept overload args made long same count numbers entries place some is none =
     begun_with list callee kept overload args made same (count ∙ ap (argcount_of list callee) long) (numbers ∙ ap (λ (k : ℕ). numbers_of (kept_tuples list callee k)) long) (entries ∙ ap (kept_tuples list callee) long)
     (place ∙ ap (λ (k : ℕ). choosing_place list (kept_tuples list callee k)) long) some is none
-
--- where none is kept there is no overload
-pub none_kept : (list : DefsTerm) (callee : Callee) (n : ℕ) (args : List Value) (numbers : List ℕ) → n ≡ length args → numbers ≡ numbers_of (kept_tuples list callee n) → length numbers ≡ 0 → resolve list callee args ≡ fails code.NoOverload
-none_kept list callee n args numbers long is none = none_by (kept_tuples list callee (length args)) (ap (λ (k : ℕ). length (numbers_of (kept_tuples list callee k))) (sym long) ∙ ap length (sym is) ∙ none)
-  where
-    none_by : (entries : List TupleTerm) → length (numbers_of entries) ≡ 0 → with_entries list callee entries (take (argcount_of list callee (length args)) args) ≡ fails code.NoOverload
-    none_by [] none = refl
-    none_by (t ∷ more) none = absurd (omega arith)
 
 -- 7. From one argument to the next
 

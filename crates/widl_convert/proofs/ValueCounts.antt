@@ -5,7 +5,7 @@ use Rattle.std.specs.List.{list_any}
 use Rattle.std.specs.declared.result.Result.TheVariants as results
 use Rattle.std.proofs.lemmas.List.{length-append, length-take}
 use Rattle.widl_dialog.specs.Dialog.{End, Say, Steps, bind}
-use Rattle.widl_dialog.specs.Conversation.{Next, Ends, Comes, Reads}
+use Rattle.widl_dialog.specs.Conversation.{Ends, Comes, Reads}
 use Rattle.widl_idl.specs.declared.callee.Callee.{Callee}
 use Rattle.widl_idl.specs.declared.literal.Literal.{Literal}
 use Rattle.widl_idl.specs.declared.literal.Literal.TheVariants as literals
@@ -34,13 +34,13 @@ use Rattle.widl_trace.specs.declared.code.Code.{Code}
 use Rattle.widl_trace.specs.declared.code.Code.TheVariants as code
 use Rattle.widl_tables.specs.declared.pick.Pick.{Pick}
 use Rattle.widl_tables.specs.declared.pick.Pick.TheVariants.{Entry, Probe, Refuse}
-use Rattle.widl_tables.specs.Kept.{argcount_of, counted_args, declared_args, entry_alone, is_variadic_list, kept_tuples, longest, optionality_at, overloads_of, telling_place, type_at}
+use Rattle.widl_tables.specs.Kept.{argcount_of, counted_args, declared_args, entry_alone, is_variadic_list, kept_tuples, longest, optionality_at, overloads_of, type_at}
 use Rattle.widl_tables.specs.Picks.{pick_of, pick_member_of}
 use Rattle.widl_convert.specs.declared.hint.Hint.{Hint}
 use Rattle.widl_convert.specs.declared.hint.Hint.TheVariants.{PrefersNumber, PrefersString}
 use Rattle.widl_convert.specs.declared.outcome.Want.{Want}
 use Rattle.widl_convert.specs.declared.outcome.Want.TheVariants as wants
-use Rattle.widl_convert.specs.AskTerms.{AskTerm, AnswerTerm, NormalAnswer, ThrownAnswer, Fits}
+use Rattle.widl_convert.specs.AskTerms.{AnswerTerm, NormalAnswer, ThrownAnswer, Fits}
 use Rattle.widl_convert.specs.Built.{Built}
 use Rattle.widl_convert.specs.Defaults.{default, defaults_from, literal_value}
 use Rattle.widl_convert.specs.Laws.{Said}
@@ -48,7 +48,7 @@ use Rattle.widl_convert.specs.Primitives.{tried, found_ordinary, try_method, ord
 use Rattle.widl_convert.specs.Resolution.{with_entries, default_at, takes_default, argument, without_method, probed, picked, of_several, from_method, looked_for, sequence_given}
 use Rattle.widl_convert.specs.ResolutionLaws.{OthersAreNotLookedAt, ValuesAreCounted, before_variadic, value_count}
 use Rattle.widl_convert.specs.Rules.{rule}
-use Rattle.widl_convert.specs.Scalars.{to_number, to_text, to_scalar, integer_result, string_result, is_bytes, to_string, null_or_string, enumeration_result, to_type, convert}
+use Rattle.widl_convert.specs.Scalars.{to_number, to_text, to_scalar, integer_result, string_result, is_bytes, to_string, null_or_string, enumeration_result, to_type}
 use Rattle.widl_convert.specs.Sequences.{element, element_of, element_within, found_iterator_method, if_sequences, sequence_from, to_sequence, told_done, turn_given, turns, with_iterator, with_next}
 use Rattle.widl_convert.specs.Records.{entries, entry_value, flags_in, is_enumerable, named, to_record}
 use Rattle.widl_convert.specs.Dictionaries.{member_given, member_value, members, to_dictionary, undefined_member}

@@ -1,5 +1,7 @@
 //! Drives conversations by lists of answers, and tells what they ask and how they end.
 
+ghost use Rattle.std.specs.Prelude.{◌≡◌, ◌≤◌, ◌∷◌, [], length, IfOk};
+ghost use Rattle.widl_text.specs.Limits.{most_file_bytes};
 ghost use Rattle.widl_convert.specs.AskTerms.{AnswerTerm, BeginAnswer, IsCompletion, answer_term};
 ghost use Rattle.widl_convert.specs.Stack.{Expects};
 
@@ -11,6 +13,7 @@ use std::test::Fail;
 use widl_convert::{Answer, Ask, Asker, Next, Want};
 use widl_front::{Texts, Verdict, judge};
 use widl_idl::IdlType;
+use widl_overload::Accepted;
 use widl_tables::{Tables, compile};
 use widl_text::limits::MOST_FILE_BYTES;
 use widl_value::Value;
@@ -33,18 +36,36 @@ pub enum Reply {
     Throws(Value),
 }
 
-/// The tables of one file, which is accepted.
+/// One text alone.
+fn alone(alloc: Global, bytes: &[u8]) -> Result<Texts, AllocError>
+    ensures { IfOk result (λ texts. texts ≡ bytes.now ∷ []) }
+{
+    let mut texts = Texts::new(alloc);
+    texts.push(Vec::from_slice(alloc, bytes)?)?;
+    Ok(texts)
+}
+
+/// The set of one file, if it is accepted.
 #[tactic(auto, using(crate::proofs::OneText::alone_short))]
+fn accepted(alloc: Global, file: &[u8]) -> Result<Option<Accepted>, AllocError>
+    requires { length file.now ≤ most_file_bytes }
+{
+    let texts = alone(alloc, file)?;
+    match judge(alloc, &texts)? {
+        Verdict::Accepted(list) => Ok(Some(list)),
+        Verdict::Fault(_) | Verdict::Broken(_) => Ok(None),
+    }
+}
+
+/// The tables of one file, which is accepted.
 pub fn tables_of(alloc: Global, file: &str) -> Result<Tables, Fail> {
     let bytes = file.as_bytes();
     if bytes.len() > MOST_FILE_BYTES {
         return Err(Fail::new("the file is too long"));
     }
-    let mut texts = Texts::new(alloc);
-    texts.push(Vec::from_slice(alloc, bytes)?)?;
-    match judge(alloc, &texts)? {
-        Verdict::Accepted(list) => Ok(compile(alloc, list)?),
-        Verdict::Fault(_) | Verdict::Broken(_) => Err(Fail::new("the file is not accepted")),
+    match accepted(alloc, bytes)? {
+        Some(list) => Ok(compile(alloc, list)?),
+        None => Err(Fail::new("the file is not accepted")),
     }
 }
 

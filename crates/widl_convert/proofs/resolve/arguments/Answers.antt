@@ -1,4 +1,4 @@
-use Rattle.std.proofs.Common.{◌≡◌, ◌<◌, ◌≤◌, length, min, set, slice_get, Some, ◌∙◌, sym, ap, arith}
+use Rattle.std.proofs.Common.{set, slice_get, ◌∙◌, sym, ap, arith}
 use Rattle.widl_idl.specs.DefinitionTerms.{defs_term}
 use Rattle.widl_value.specs.declared.value.Value.TheVariants.{Undefined}
 use Rattle.widl_value.specs.IdlTerms.{idl_terms}
