@@ -12,9 +12,9 @@ ghost use Rattle.widl_calls.specs.Frames.{CallLeads, call_after, call_dialog, ca
 ghost use Rattle.widl_calls.specs.Waits.{call_kind_for};
 
 use crate::arguments::Arguments;
+use crate::conversions::{begins, goes_on};
 use crate::frames::CallFrame;
 use crate::functions::function;
-use crate::conversions::{begins, goes_on};
 use crate::jobs::CallJob;
 use crate::moves::CallMove;
 use crate::object_functions::{by_kind, with_answer};

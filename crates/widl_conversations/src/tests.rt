@@ -1,10 +1,13 @@
 //! Askers that are driven by lists of answers.
 
+mod calls;
 mod crowds;
 mod driver;
 mod given;
 mod hostile;
 mod integers;
+mod object_functions;
+mod operations;
 mod primitives;
 mod resolution;
 mod results;

@@ -13,6 +13,7 @@ pub mod Scalars
 pub mod Resolution
 pub mod Defaults
 pub mod Results
+pub mod Literals
 pub mod Rules
 pub mod Laws
 pub mod ResolutionLaws

@@ -148,7 +148,7 @@ impl Asker {
         match first_move(alloc, tables, state, answer) {
             Ok(first) => match settle(alloc, tables, &mut self.frames, first) {
                 Settled::Waits(asking) => self.wait(asking),
-                Settled::Ends(ending) => told(ending),
+                Settled::Ends(ending) => ending.told(),
                 Settled::Memory => Next::Memory,
             },
             Err(_) => Next::Memory,
@@ -207,14 +207,16 @@ fn first_move(
     }
 }
 
-/// The end as it is told.
-fn told(ending: Ending) -> Next
-    ensures { next_said result ≡ Some (Ends (end_of ending)) }
-{
-    match ending {
-        Ending::Done(outcome) => Next::Done(outcome),
-        Ending::Throw(reason) => Next::Throw(reason),
-        Ending::Rethrow(value) => Next::Rethrow(value),
-        Ending::Profile(number) => Next::Profile(number),
+impl Ending {
+    /// The end as it is told.
+    pub fn told(self) -> Next
+        ensures { next_said result ≡ Some (Ends (end_of self)) }
+    {
+        match self {
+            Ending::Done(outcome) => Next::Done(outcome),
+            Ending::Throw(reason) => Next::Throw(reason),
+            Ending::Rethrow(value) => Next::Rethrow(value),
+            Ending::Profile(number) => Next::Profile(number),
+        }
     }
 }

@@ -17,6 +17,7 @@ use crate::convert::gives;
 use crate::entry::declared;
 use crate::frames::{Frame, IdlFrame};
 use crate::jobs::{ArgumentPlace, Beginning, Job};
+use crate::literals::literal_value as literal_of;
 use crate::moves::{Ending, Move};
 use crate::outcome::Outcome;
 use crate::resolution::Resolution;
@@ -114,16 +115,17 @@ fn default_of(alloc: Global, tables: &Tables, arg: &Arg) -> Result<Move, AllocEr
 {
     match &arg.value {
         None => Ok(gives(IdlValue::Missing)),
-        Some(literal) => literal_value(alloc, tables, &arg.ty, literal),
+        Some(literal) => with_literal(alloc, tables, &arg.ty, literal),
     }
 }
 
-/// A literal as an IDL value of a type that it fits (Web IDL, "Default values").
+/// The move to the IDL value that a literal is in a type that it fits; `{}` is what `undefined` is
+/// converted to.
 ///
 /// # Errors
 ///
 /// `AllocError` where there is no memory.
-fn literal_value(
+fn with_literal(
     alloc: Global,
     tables: &Tables,
     ty: &IdlType,
@@ -132,14 +134,9 @@ fn literal_value(
     ensures dialog { IfOk result (λ m. move_dialog (defs_term tables.now.defs) m ≡ literal_value (defs_term tables.now.defs) (type_term ty.now) literal.now) }
     ensures weight { IfOk result (λ m. weight (defs_term tables.now.defs) m ≤ default_load) }
 {
-    match literal {
-        Literal::Null => Ok(gives(null_of(ty))),
-        Literal::Undefined => Ok(gives(IdlValue::Any(Value::Undefined))),
-        Literal::Bool(b) => Ok(gives(IdlValue::Bool(*b))),
-        Literal::Int(n) => Ok(gives(IdlValue::Int(*n))),
-        Literal::Text(text) => Ok(gives(text_of(tables, ty, text)?)),
-        Literal::EmptyList => Ok(gives(IdlValue::List(IdlValues::new(alloc)))),
-        Literal::EmptyDict => Ok(Move::Goes(Job::Convert {
+    match literal_of(alloc, tables, ty, literal)? {
+        Some(value) => Ok(gives(value)),
+        None => Ok(Move::Goes(Job::Convert {
             ty: ty.copy(alloc)?,
             value: Value::Undefined,
         })),
@@ -147,7 +144,7 @@ fn literal_value(
 }
 
 /// `null` as a value of a type.
-fn null_of(ty: &IdlType) -> IdlValue
+pub(crate) fn null_of(ty: &IdlType) -> IdlValue
     ensures { idl_term result ≡ null_of (type_term ty.now) }
 {
     match ty {
@@ -161,7 +158,7 @@ fn null_of(ty: &IdlType) -> IdlValue
 /// # Errors
 ///
 /// `AllocError` where there is no memory.
-fn text_of(tables: &Tables, ty: &IdlType, text: &Units) -> Result<IdlValue, AllocError>
+pub(crate) fn text_of(tables: &Tables, ty: &IdlType, text: &Units) -> Result<IdlValue, AllocError>
     ensures { IfOk result (λ value. idl_term value ≡ text_of (defs_term tables.now.defs) (type_term ty.now) text.now) }
 {
     match enumeration_in(ty) {

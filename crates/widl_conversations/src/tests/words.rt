@@ -3,7 +3,11 @@
 use std::alloc::{AllocError, Global};
 use widl_convert::{Ask, Next, Outcome};
 use widl_text::{Key, Units};
+use widl_trace::Event;
 use widl_value::{IdlValue, IdlValues, Number, Value, Values};
+
+/// So many values aren't told one by one.
+const MANY: usize = 32;
 
 /// A text of units.
 fn units_text(alloc: Global, units: &Units) -> Result<String, AllocError> {
@@ -62,6 +66,12 @@ pub fn ask_text(alloc: Global, ask: &Ask) -> Result<String, AllocError> {
             let args = values_text(alloc, args)?;
             format!(in alloc; "call {id} on {this}{args}; ")
         }
+        Ask::Kind(obj) => {
+            let id = obj.id;
+            format!(in alloc; "kind {id}; ")
+        }
+        Ask::Unit => String::from_str(alloc, "unit; "),
+        Ask::Note(event) => event_text(alloc, event),
         _ => String::from_str(alloc, "another ask; "),
     }
 }
@@ -106,6 +116,23 @@ fn chosen_text(alloc: Global, overload: u32, values: &IdlValues) -> Result<Strin
     }
     all.push_str(")")?;
     Ok(all)
+}
+
+/// The event of an overload; of many values only how many they are.
+fn event_text(alloc: Global, event: &Event) -> Result<String, AllocError> {
+    match event {
+        Event::Op {
+            callee: _,
+            overload: Some(overload),
+            values,
+        } => if values.len() < MANY {
+            let chosen = chosen_text(alloc, *overload, values)?;
+            format!(in alloc; "op {chosen}; ")
+        } else {
+            format!(in alloc; "op #{overload} of {}; ", values.len())
+        },
+        _ => String::from_str(alloc, "another event; "),
+    }
 }
 
 /// How a conversation ends.
