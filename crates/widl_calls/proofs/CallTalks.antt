@@ -1,3 +1,4 @@
 -- Worked conversations of calls.
 pub mod OperationTalks
 pub mod ObjectTalks
+pub mod ArrayTalks

@@ -1,2 +1,7 @@
 pub mod CallFinishing
+pub mod InnerConversions
+pub mod CallSuspending
+pub mod CallResuming
+pub mod CallLeading
+pub mod CallLawProofs
 mod CallTalks

@@ -1,7 +1,7 @@
 -- The functions of Object.prototype.
 -- Source: ECMA-262, Object.prototype.toString, Object.prototype.valueOf.
-use Rattle.std.specs.Prelude.{ℕ, List, ◌++◌, codes}
-use Rattle.widl_dialog.specs.Dialog.{Say}
+use Rattle.std.specs.Prelude.{ℕ, if◌then◌else◌, nat_le, List, ◌++◌, length, codes}
+use Rattle.widl_dialog.specs.Dialog.{End, Say}
 use Rattle.widl_text.specs.declared.key.Key.TheVariants as keys
 use Rattle.widl_value.specs.declared.object.ObjRef.{ObjRef}
 use Rattle.widl_value.specs.declared.value.Value.{Value}
@@ -10,6 +10,7 @@ use Rattle.widl_trace.specs.declared.code.Code.TheVariants as code
 use Rattle.widl_convert.specs.declared.answer.KindName.{KindName}
 use Rattle.widl_convert.specs.declared.answer.KindName.TheVariants as kinds
 use Rattle.widl_convert.specs.AskTerms.{GetAsk, KindAsk, AnswerTerm, KindAnswer}
+use Rattle.widl_convert.specs.Tasks.{Profile}
 use Rattle.widl_convert.specs.Words.{returns, fails, normal, primitive_this}
 use Rattle.widl_calls.specs.CallTasks.{CallTalk}
 
@@ -26,8 +27,19 @@ kind_tag kinds.Error = codes "Error"
 kind_tag kinds.Promise = codes "Object"
 kind_tag kinds.Other = codes "Object"
 
+-- a text that a function joins has a greatest length (this program's own)
+abbrev pub most_joined_units : ℕ
+most_joined_units = 65536
+
+-- the end of the profile for a longer one
+abbrev pub joins_long_text : CallTalk
+joins_long_text = End (Profile 5)
+
+abbrev pub joined : List ℕ → CallTalk
+joined units = if nat_le (length units) most_joined_units then returns (values.Str units) else joins_long_text
+
 abbrev pub tagged : List ℕ → CallTalk
-tagged tag = returns (values.Str (codes "[object " ++ tag ++ codes "]"))
+tagged tag = joined (codes "[object " ++ tag ++ codes "]")
 
 -- no other answer fits
 abbrev pub kind_in : AnswerTerm → KindName

@@ -1,11 +1,13 @@
 -- Steps blocks: which lines are those of an operation's overload, what a line does, and the result where no line returns.
 -- Source: this program's own.
-use Rattle.std.specs.Prelude.{ℕ, Bool, true, false, not, ◌&&◌, nat_eq, bytes_eq, if◌then◌else◌, List, [], ◌∷◌, slice_get, Option, None, Some, pos}
+use Rattle.std.specs.Prelude.{ℕ, Bool, true, false, not, ◌&&◌, nat_eq, bytes_eq, if◌then◌else◌, List, [], ◌∷◌, slice_get, Option, None, Some}
+use Rattle.std.specs.Map.{lookup}
+use Rattle.std.specs.Option.{option_map_or}
 use Rattle.widl_dialog.specs.Dialog.{End, Say, Steps}
 use Rattle.widl_idl.specs.declared.literal.Literal.{Literal}
-use Rattle.widl_idl.specs.Terms.{TypeTerm, AnyType, UndefinedType, BooleanType, IntegerType, StringType, EnumerationType, DictionaryType, SequenceType, RecordType, NullableType}
-use Rattle.widl_value.specs.declared.value.Value.TheVariants as values
-use Rattle.widl_value.specs.IdlTerms.{IdlTerm, UndefinedValue, NullValue, MissingValue, BooleanValue, IntegerValue, StringValue, EnumerationValue, AnyValue, SequenceValue, RecordValue, no_values, no_entries}
+use Rattle.widl_idl.specs.DefinitionTerms.{DefsTerm}
+use Rattle.widl_idl.specs.Terms.{TypeTerm}
+use Rattle.widl_value.specs.IdlTerms.{IdlTerm, MissingValue}
 use Rattle.widl_script_tree.specs.declared.steps.Source.{Source}
 use Rattle.widl_script_tree.specs.declared.steps.Source.TheVariants as sources
 use Rattle.widl_script_tree.specs.declared.steps.StepLine.{StepLine}
@@ -15,9 +17,11 @@ use Rattle.widl_script_tree.specs.declared.steps.Target.TheVariants as targets
 use Rattle.widl_script_tree.specs.Trees.{Text, StatementTrees, no_statements, then_more, StepsT}
 use Rattle.widl_trace.specs.declared.code.Code.TheVariants as code
 use Rattle.widl_convert.specs.AskTerms.{UnitAsk}
+use Rattle.widl_convert.specs.Built.{Built}
 use Rattle.widl_convert.specs.Tasks.{Default, Rethrow}
 use Rattle.widl_convert.specs.Words.{done, gives, fails, not_built}
-use Rattle.widl_calls.specs.CallTasks.{Of, CallTalk}
+use Rattle.widl_calls.specs.CallTasks.{NamedValues, Of, CallTalk}
+use Rattle.widl_calls.specs.DefaultResults.{default_result}
 
 -- 1. The block of an overload
 
@@ -42,7 +46,32 @@ lines_for o no_statements = []
 lines_for o (then_more (StepsT target lines) more) = if is_target o target then lines else lines_for o more
 lines_for o (then_more s more) = lines_for o more
 
--- 2. A line
+-- 2. The arguments that lines read
+
+abbrev pub args_of_source : Source → List ℕ
+args_of_source (sources.Arg number) = number ∷ []
+args_of_source _ = []
+
+-- the other lines have no steps yet
+abbrev pub args_of_line : StepLine → List ℕ
+args_of_line (steps.Return source) = args_of_source source
+args_of_line _ = []
+
+-- of the lines that are done: the first one alone, since no line that goes on has steps yet
+abbrev pub args_of_lines : List StepLine → List ℕ
+args_of_lines [] = []
+args_of_lines (l ∷ more) = args_of_line l
+
+-- the values of these numbers that there are
+abbrev pub named_values : List IdlTerm → List ℕ → NamedValues
+named_values ws [] = []
+named_values ws (number ∷ more) = option_map_or (λ (w : IdlTerm). (number, w) ∷ named_values ws more) (slice_get ws number) (named_values ws more)
+
+-- those that the lines read; the others are let go
+abbrev pub read_values : List StepLine → List IdlTerm → NamedValues
+read_values ls ws = named_values ws (args_of_lines ls)
+
+-- 3. A line
 
 -- `return arg K`: an argument that is missing has no value
 abbrev pub argument_value : Option IdlTerm → CallTalk
@@ -51,34 +80,19 @@ argument_value (Some MissingValue) = fails code.NoValue
 argument_value (Some w) = gives w
 
 -- `this` and slots have no steps yet
-abbrev pub return_line : TypeTerm → List IdlTerm → Source → CallTalk
-return_line t ws (sources.Arg number) = argument_value (slice_get ws number)
-return_line t ws (sources.Literal literal) = Steps (Of (Default t (Some literal))) End
-return_line t ws _ = not_built
+abbrev pub return_line : TypeTerm → NamedValues → Source → CallTalk
+return_line t named (sources.Arg number) = argument_value (lookup (nat_eq number) named)
+return_line t named (sources.Literal literal) = Steps (Of (Default t (Some literal))) End
+return_line t named _ = not_built
 
 -- `return SRC` ends with the value of the source, `throw E` throws the value. The other lines have no steps yet.
-abbrev pub line : TypeTerm → List IdlTerm → StepLine → CallTalk
-line t ws (steps.Return source) = return_line t ws source
-line t ws (steps.Throw v) = End (Rethrow v)
-line t ws _ = not_built
-
--- 3. The result where no line returns: the default of the type, if it has one
-
-abbrev pub default_result : TypeTerm → CallTalk
-default_result AnyType = gives (AnyValue values.Undefined)
-default_result UndefinedType = gives UndefinedValue
-default_result BooleanType = gives (BooleanValue false)
-default_result (IntegerType kind mode) = gives (IntegerValue (pos 0))
-default_result (StringType kind null_empty) = gives (StringValue [])
-default_result (EnumerationType n) = gives (EnumerationValue n 0)
-default_result (SequenceType t) = gives (SequenceValue no_values)
-default_result (RecordType key t) = gives (RecordValue no_entries)
-default_result (NullableType t) = gives NullValue
-default_result (DictionaryType n) = not_built
-default_result _ = fails code.NoDefault
+abbrev pub line : TypeTerm → NamedValues → StepLine → CallTalk
+line t named (steps.Return source) = return_line t named source
+line t named (steps.Throw v) = End (Rethrow v)
+line t named _ = not_built
 
 -- 4. The lines in order, a unit for each
 
-abbrev pub lines : TypeTerm → List IdlTerm → List StepLine → CallTalk
-lines t ws [] = default_result t
-lines t ws (l ∷ more) = Say UnitAsk (done (line t ws l))
+abbrev pub lines : Built → DefsTerm → TypeTerm → NamedValues → List StepLine → CallTalk
+lines built list t named [] = default_result built list t
+lines built list t named (l ∷ more) = Say UnitAsk (done (line t named l))

@@ -20,15 +20,15 @@ use Rattle.widl_convert.specs.Tasks.{Talk}
 
 -- 1. The measure
 
-pub step_less : (list : DefsTerm) (f : Frame) (j : Job) (m m' : Move) (fs new : List Frame) → m ≡ moves.Steps f j → new ≡ fs ++ f ∷ [] → weight list m' ≤ load list (job_of j) → stack_load (frame_load list) new + weight list m' < stack_load (frame_load list) fs + weight list m
+pub step_less : (list : DefsTerm) (f : Frame) (j : Job) (m m' : Move) (fs new : List Frame) → m ≡ moves.Steps f j → new ≡ fs ++ f ∷ [] → weight list m' ≤ load list (job_of list j) → stack_load (frame_load list) new + weight list m' < stack_load (frame_load list) fs + weight list m
 step_less list f j m m' fs new is is_new less =
     let a : stack_load (frame_load list) new ≡ stack_load (frame_load list) fs + frame_load list f = ap (stack_load (frame_load list)) is_new ∙ load_push (frame_load list) fs f in
-    let b : weight list m ≡ 1 + frame_load list f + load list (job_of j) = ap (weight list) is in
+    let b : weight list m ≡ 1 + frame_load list f + load list (job_of list j) = ap (weight list) is in
     omega (arith, a, b, less)
 
-pub go_less : (list : DefsTerm) (j : Job) (m m' : Move) (fs : List Frame) → m ≡ moves.Goes j → weight list m' ≤ load list (job_of j) → stack_load (frame_load list) fs + weight list m' < stack_load (frame_load list) fs + weight list m
+pub go_less : (list : DefsTerm) (j : Job) (m m' : Move) (fs : List Frame) → m ≡ moves.Goes j → weight list m' ≤ load list (job_of list j) → stack_load (frame_load list) fs + weight list m' < stack_load (frame_load list) fs + weight list m
 go_less list j m m' fs is less =
-    let b : weight list m ≡ 1 + load list (job_of j) = ap (weight list) is in
+    let b : weight list m ≡ 1 + load list (job_of list j) = ap (weight list) is in
     omega (arith, b, less)
 
 pub give_less : (list : DefsTerm) (f : Frame) (r : Ending) (m m' : Move) (old fs : List Frame) → m ≡ moves.Gives r → old ≡ fs ++ f ∷ [] → weight list m' < frame_load list f + end_load (end_of r) → stack_load (frame_load list) fs + weight list m' < stack_load (frame_load list) old + weight list m
@@ -45,12 +45,12 @@ at_move {list = list} {d = d} {bound = bound} {fs = fs} follows e = subst (λ (x
 led : (list : DefsTerm) {d e : Talk} → e ≡ d → Leads list d e
 led list same = here (rule built_today list) Fits (sym same)
 
-pub stepped : {list : DefsTerm} {d : Talk} {bound : ℕ} {m m' : Move} {f : Frame} {j : Job} {fs new : List Frame} → Follows list d bound m fs → m ≡ moves.Steps f j → new ≡ fs ++ f ∷ [] → move_dialog list m' ≡ rule built_today list (job_of j) → weight list m' ≤ load list (job_of j) → Follows list d bound m' new
+pub stepped : {list : DefsTerm} {d : Talk} {bound : ℕ} {m m' : Move} {f : Frame} {j : Job} {fs new : List Frame} → Follows list d bound m fs → m ≡ moves.Steps f j → new ≡ fs ++ f ∷ [] → move_dialog list m' ≡ rule built_today list (job_of list j) → weight list m' ≤ load list (job_of list j) → Follows list d bound m' new
 stepped {list = list} {m = m} {m' = m'} {f = f} {j = j} {fs = fs} {new = new} follows is is_new is_move less =
     let down = step_less list f j m m' fs new is is_new less in
     record { place = stacking.stepped (rule built_today list) Fits (returned_to list) f fs new (at_move follows is).place is_new (led list is_move); less = omega (arith, down, follows.less) }
 
-pub went : {list : DefsTerm} {d : Talk} {bound : ℕ} {m m' : Move} {j : Job} {fs : List Frame} → Follows list d bound m fs → m ≡ moves.Goes j → move_dialog list m' ≡ rule built_today list (job_of j) → weight list m' ≤ load list (job_of j) → Follows list d bound m' fs
+pub went : {list : DefsTerm} {d : Talk} {bound : ℕ} {m m' : Move} {j : Job} {fs : List Frame} → Follows list d bound m fs → m ≡ moves.Goes j → move_dialog list m' ≡ rule built_today list (job_of list j) → weight list m' ≤ load list (job_of list j) → Follows list d bound m' fs
 went {list = list} {m = m} {m' = m'} {j = j} {fs = fs} follows is is_move less =
     let down = go_less list j m m' fs is less in
     record { place = stacking.went (rule built_today list) Fits (returned_to list) fs (at_move follows is).place (led list is_move); less = omega (arith, down, follows.less) }

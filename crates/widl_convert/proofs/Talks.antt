@@ -7,3 +7,9 @@ pub mod ResultTalks
 pub mod BuiltTalks
 pub mod KeptTalks
 pub mod NoTalks
+pub mod SequenceTalks
+pub mod RecordTalks
+pub mod DictionaryTalks
+pub mod UnionTalks
+pub mod ContainerTalks
+pub mod NoContainerTalks

@@ -1,7 +1,7 @@
 -- Default values, and the declared arguments that a call doesn't have.
 -- Source: Web IDL, "Default values"; "overload resolution algorithm", step 16.
 use Rattle.std.specs.Prelude.{ℕ, if◌then◌else◌, List, [], ◌∷◌, ◌++◌, length, slice_get, Option, None, Some}
-use Rattle.std.specs.Option.{option_map_or}
+use Rattle.std.specs.Option.{option_map_or, option_or}
 use Rattle.widl_dialog.specs.Dialog.{End, Steps}
 use Rattle.widl_idl.specs.declared.callee.Callee.{Callee}
 use Rattle.widl_idl.specs.declared.literal.Literal.{Literal}
@@ -23,11 +23,14 @@ abbrev pub null_of : TypeTerm → IdlTerm
 null_of AnyType = AnyValue values.Null
 null_of t = NullValue
 
--- the enumeration among types, if there is one
+abbrev pub enumeration_of : TypeTerm → Option ℕ
+enumeration_of (EnumerationType n) = Some n
+enumeration_of t = None
+
+-- the first enumeration among types, if there is one
 abbrev pub enumeration_among : List TypeTerm → Option ℕ
 enumeration_among [] = None
-enumeration_among (EnumerationType n ∷ types) = Some n
-enumeration_among (t ∷ types) = enumeration_among types
+enumeration_among (t ∷ types) = option_or (enumeration_of t) (enumeration_among types)
 
 -- the enumeration's value of this text, which the list has
 abbrev pub value_of_text : DefsTerm → ℕ → List ℕ → IdlTerm

@@ -1,18 +1,25 @@
 -- For proofs and contracts alone; no step names these words. How many moves without a charge a suspended conversation still makes, at most.
-use Rattle.std.specs.Prelude.{ℕ, ◌+◌}
+use Rattle.std.specs.Prelude.{ℕ, ◌+◌, ◌-◌, ◌*◌, length}
+use Rattle.widl_idl.specs.declared.callee.Callee.{Callee}
 use Rattle.widl_idl.specs.DefinitionTerms.{DefsTerm}
 use Rattle.widl_value.specs.declared.value.Value.{Value}
 use Rattle.widl_value.specs.declared.value.Value.TheVariants as values
+use Rattle.widl_value.specs.IdlTerms.{idl_terms}
+use Rattle.widl_tables.specs.Kept.{declared_args, longest, overloads_of}
 use Rattle.widl_convert.specs.declared.frames.Frame.{Frame}
 use Rattle.widl_convert.specs.declared.frames.Frame.TheVariants as frames
+use Rattle.widl_convert.specs.declared.frames.IdlFrame.{IdlFrame}
+use Rattle.widl_convert.specs.declared.frames.IdlFrame.TheVariants as idls
 use Rattle.widl_convert.specs.declared.moves.Move.{Move}
 use Rattle.widl_convert.specs.declared.moves.Move.TheVariants as moves
 use Rattle.widl_convert.specs.declared.outcome.Want.{Want}
 use Rattle.widl_convert.specs.declared.outcome.Want.TheVariants as wants
+use Rattle.widl_convert.specs.declared.resolution.Resolution.{Resolution}
 use Rattle.widl_convert.specs.declared.waits.Wait.{Wait}
 use Rattle.widl_convert.specs.declared.waits.Wait.TheVariants as waits
+use Rattle.widl_convert.specs.Entries.{left_from}
 use Rattle.widl_convert.specs.Frames.{job_of, end_of}
-use Rattle.widl_convert.specs.Tasks.{Task, Primitive, Scalar, Convert, TaskEnd, Plain}
+use Rattle.widl_convert.specs.Tasks.{Task, Primitive, Scalar, Convert, Resolve, Arguments, Default, Defaults, Out, TaskEnd, Plain, SequenceFrom, Turns, Entries, Members, OutItems, OutUnits}
 
 -- the way of an object to its Number or String, which no value but an object takes
 abbrev pub object_load : ℕ
@@ -31,13 +38,43 @@ scalar_load wants.Length v = 2 + if_object v
 abbrev pub conversion_load : ℕ
 conversion_load = 7
 
--- what a task does before a charge, at most. It may depend on the list: on what an overload declares. Of the tasks that are left out here no
--- conversation is made yet.
+-- a default value may be a conversion
+abbrev pub default_load : ℕ
+default_load = 1 + conversion_load
+
+-- an argument or a default value, with the way on to the next
+abbrev pub argument_load : ℕ
+argument_load = 3 + default_load
+
+-- the declared arguments that come after so many
+abbrev pub defaults_load : DefsTerm → Callee → ℕ → ℕ → ℕ
+defaults_load list callee overload made = argument_load * (length (declared_args list callee overload) - made)
+
+-- those of any overload of the callee
+abbrev pub room : DefsTerm → Callee → ℕ
+room list callee = 1 + argument_load * longest (overloads_of list callee)
+
+-- the arguments that are left
+abbrev pub arguments_load : DefsTerm → Callee → ℕ → ℕ
+arguments_load list callee left = argument_load * left + room list callee
+
+-- what a task does before a charge, at most. It may depend on the list: on what an overload declares.
 abbrev pub load : DefsTerm → Task → ℕ
 load list (Primitive hint v) = 0
 load list (Scalar want v) = scalar_load want v
 load list (Convert t v) = conversion_load
-load list _ = 0
+load list (Resolve callee args) = 1 + arguments_load list callee (length args)
+load list (Arguments callee entries place left made) = arguments_load list callee (length left)
+load list (Default t l) = default_load
+load list (Defaults callee overload made) = defaults_load list callee overload (length made)
+load list (Out t w) = object_load
+-- of containers no task is begun today
+load list (SequenceFrom t o method) = 0
+load list (Turns t iterator next made) = 0
+load list (Entries key t o left made) = 0
+load list (Members n o left made) = 0
+load list (OutItems container left made) = 0
+load list (OutUnits left container made) = 0
 
 -- what comes of an end: an object that is given may have to become a Number
 abbrev pub end_load : TaskEnd → ℕ
@@ -45,10 +82,19 @@ end_load (Plain v) = if_object v
 end_load _ = 0
 
 -- what a frame does after the task that it waits for, beside what comes of the end
+-- an argument that is taken, with those that are left after it
+abbrev pub taken_load : DefsTerm → Resolution → ℕ
+taken_load list r = argument_load + arguments_load list r.kept.callee (length (left_from (length (idl_terms r.made) + 1) r.kept r.args))
+
+abbrev pub idl_frame_load : DefsTerm → IdlFrame → ℕ
+idl_frame_load list (idls.Argument r) = 2 + arguments_load list r.kept.callee (length (left_from (length (idl_terms r.made) + 1) r.kept r.args))
+idl_frame_load list (idls.Defaulted b) = 2 + defaults_load list b.callee b.overload (length (idl_terms b.made) + 1)
+
 abbrev pub frame_load : DefsTerm → Frame → ℕ
 frame_load list (frames.Value f) = 4
 frame_load list (frames.Number f) = 1
 frame_load list (frames.Text f) = 1
+frame_load list (frames.Idl f) = idl_frame_load list f
 
 -- what a wait does after the answer to an ask that takes no charge
 abbrev pub patience : Wait → ℕ
@@ -57,5 +103,5 @@ patience (waits.Value w) = 0
 abbrev pub weight : DefsTerm → Move → ℕ
 weight list (moves.Asks p) = patience p.wait
 weight list (moves.Gives r) = end_load (end_of r)
-weight list (moves.Steps f j) = 1 + frame_load list f + load list (job_of j)
-weight list (moves.Goes j) = 1 + load list (job_of j)
+weight list (moves.Steps f j) = 1 + frame_load list f + load list (job_of list j)
+weight list (moves.Goes j) = 1 + load list (job_of list j)

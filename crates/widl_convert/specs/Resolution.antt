@@ -1,6 +1,6 @@
 -- The choice of an overload, with the conversion of the arguments.
 -- Source: Web IDL, "overload resolution algorithm", by the numbers of its steps.
-use Rattle.std.specs.Prelude.{ℕ, Bool, true, false, if◌then◌else◌, nat_eq, List, [], ◌∷◌, ◌++◌, length, take, slice_get, Option}
+use Rattle.std.specs.Prelude.{ℕ, Bool, true, false, if◌then◌else◌, nat_eq, List, [], ◌∷◌, ◌++◌, length, take, slice_get, Option, None, Some}
 use Rattle.std.specs.Option.{option_and_then}
 use Rattle.widl_dialog.specs.Dialog.{End, Say, Steps}
 use Rattle.widl_text.specs.declared.key.Key.TheVariants as keys
@@ -9,6 +9,7 @@ use Rattle.widl_idl.specs.declared.argument.Optionality.TheVariants.{Optional}
 use Rattle.widl_idl.specs.declared.callee.Callee.{Callee}
 use Rattle.widl_idl.specs.declared.literal.Literal.{Literal}
 use Rattle.widl_idl.specs.DefinitionTerms.{DefsTerm, ArgTerm}
+use Rattle.widl_idl.specs.Terms.{TypeTerm}
 use Rattle.widl_overload.specs.Sets.{TupleTerm}
 use Rattle.widl_value.specs.Classes.{class_of}
 use Rattle.widl_value.specs.declared.object.ObjRef.{ObjRef}
@@ -21,12 +22,10 @@ use Rattle.widl_tables.specs.declared.pick.Pick.TheVariants.{Entry, Probe, Refus
 use Rattle.widl_tables.specs.Kept.{argcount_of, declared_args, entry_alone, kept_tuples, optionality_at, telling_place, type_at}
 use Rattle.widl_tables.specs.Picks.{pick_of}
 use Rattle.widl_convert.specs.AskTerms.{GetAsk}
-use Rattle.widl_convert.specs.Tasks.{Task, Arguments, Convert, Default, Defaults, Talk, TaskEnd}
-use Rattle.widl_convert.specs.Words.{fails, not_built, normal, object, method_or, given}
-
--- the symbol `@iterator`
-abbrev pub iterator_symbol : ℕ
-iterator_symbol = 0
+use Rattle.widl_convert.specs.Built.{Built}
+use Rattle.widl_convert.specs.Sequences.{iterator_symbol, element_within, if_sequences}
+use Rattle.widl_convert.specs.Tasks.{Task, SequenceFrom, Arguments, Convert, Default, Defaults, Talk, TaskEnd}
+use Rattle.widl_convert.specs.Words.{fails, normal, object, method_or, given}
 
 -- 1. Steps 1 to 8. Entries of one length are kept; where there is none, a TypeError is thrown. Where there are several, one place tells them
 -- apart.
@@ -76,31 +75,42 @@ without_method list callee entries place v left made (Entry e) = kept list calle
 without_method list callee entries place v left made (Probe e) = fails code.NoMatch
 without_method list callee entries place v left made Refuse = fails code.NoMatch
 
--- with it, the sequence is made from the object and the method, which isn't read again
-abbrev pub from_method : Talk
-from_method = not_built
+-- with it, the entry is kept for whose sequence type it was looked, and the sequence is made from the object and the method, which isn't read
+-- again
+abbrev pub looked_for : List TupleTerm → Pick → List TupleTerm
+looked_for entries (Probe e) = entry_alone e entries
+looked_for entries _ = []
 
-abbrev pub probed : DefsTerm → Callee → List TupleTerm → ℕ → ObjRef → List Value → List IdlTerm → Value → Talk
-probed list callee entries place o left made =
-    method_or (without_method list callee entries place (values.Obj o) left made (pick_of list entries (length made) (class_of (values.Obj o)) true)) (λ f. from_method)
+abbrev pub sequence_given : Callee → List TupleTerm → ℕ → List Value → List IdlTerm → ObjRef → ObjRef → Option TypeTerm → Talk
+sequence_given callee entries place left made o method (Some t) = Steps (SequenceFrom t o method) (argument_given callee entries place left made)
+sequence_given callee entries place left made o method None = fails code.NoMatch
 
-abbrev pub picked : DefsTerm → Callee → List TupleTerm → ℕ → Value → List Value → List IdlTerm → Pick → Talk
-picked list callee entries place v left made (Entry e) = kept list callee entries e place v left made
-picked list callee entries place v left made (Probe e) =
-    object code.NoMatch (λ o. Say (GetAsk o (keys.Sym iterator_symbol)) (normal (probed list callee entries place o left made))) v
-picked list callee entries place v left made Refuse = fails code.NoMatch
+abbrev pub from_method : Callee → List TupleTerm → ℕ → List Value → List IdlTerm → ObjRef → ObjRef → Talk
+from_method callee [] place left made o method = fails code.NoMatch
+from_method callee (entry ∷ more) place left made o method = sequence_given callee (entry ∷ more) place left made o method (element_within (type_at entry (length made)))
 
-abbrev pub of_several : DefsTerm → Callee → List TupleTerm → ℕ → Value → List Value → List IdlTerm → Talk
-of_several list callee entries place v left made =
+abbrev pub probed : Built → DefsTerm → Callee → List TupleTerm → ℕ → ObjRef → List Value → List IdlTerm → Value → Talk
+probed built list callee entries place o left made =
+    method_or (without_method list callee entries place (values.Obj o) left made (pick_of list entries (length made) (class_of (values.Obj o)) true))
+    (λ method. if_sequences built (from_method callee (looked_for entries (pick_of list entries (length made) (class_of (values.Obj o)) false)) place left made o method))
+
+abbrev pub picked : Built → DefsTerm → Callee → List TupleTerm → ℕ → Value → List Value → List IdlTerm → Pick → Talk
+picked built list callee entries place v left made (Entry e) = kept list callee entries e place v left made
+picked built list callee entries place v left made (Probe e) =
+    object code.NoMatch (λ o. Say (GetAsk o (keys.Sym iterator_symbol)) (normal (probed built list callee entries place o left made))) v
+picked built list callee entries place v left made Refuse = fails code.NoMatch
+
+abbrev pub of_several : Built → DefsTerm → Callee → List TupleTerm → ℕ → Value → List Value → List IdlTerm → Talk
+of_several built list callee entries place v left made =
     if nat_eq (length made) place
-    then picked list callee entries place v left made (pick_of list entries place (class_of v) false)
+    then picked built list callee entries place v left made (pick_of list entries place (class_of v) false)
     else argument list callee entries place v left made
 
 -- 4. The arguments in order. With one entry left they are all taken by it, and its declared arguments beyond them follow.
 
-abbrev pub arguments : DefsTerm → Callee → List TupleTerm → ℕ → List Value → List IdlTerm → Talk
-arguments list callee [] place left made = fails code.NoMatch
-arguments list callee (entry ∷ []) place [] made = Steps (Defaults callee entry.overload made) End
-arguments list callee (entry ∷ []) place (v ∷ left) made = argument list callee (entry ∷ []) place v left made
-arguments list callee (entry ∷ other ∷ more) place [] made = fails code.NoMatch
-arguments list callee (entry ∷ other ∷ more) place (v ∷ left) made = of_several list callee (entry ∷ other ∷ more) place v left made
+abbrev pub arguments : Built → DefsTerm → Callee → List TupleTerm → ℕ → List Value → List IdlTerm → Talk
+arguments built list callee [] place left made = fails code.NoMatch
+arguments built list callee (entry ∷ []) place [] made = Steps (Defaults callee entry.overload made) End
+arguments built list callee (entry ∷ []) place (v ∷ left) made = argument list callee (entry ∷ []) place v left made
+arguments built list callee (entry ∷ other ∷ more) place [] made = fails code.NoMatch
+arguments built list callee (entry ∷ other ∷ more) place (v ∷ left) made = of_several built list callee (entry ∷ other ∷ more) place v left made

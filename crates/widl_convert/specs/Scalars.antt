@@ -1,4 +1,4 @@
--- Values of the script to Numbers, Strings and lengths, and to the IDL types that need no more than one of these.
+-- Values of the script to Numbers, Strings and lengths, and to the IDL types that need no more than one of these; and all types together.
 -- Source: ECMA-262, ToNumber, ToString, ToLength; Web IDL, "JavaScript type mapping": any, undefined, boolean, the integer types, the string
 -- types, enumerations, object.
 use Rattle.std.specs.Prelude.{ℕ, Bool, if◌then◌else◌, nat_le, List, [], Option, None, Some, pos}
@@ -12,7 +12,7 @@ use Rattle.widl_idl.specs.declared.int_kind.Mode.{Mode}
 use Rattle.widl_idl.specs.declared.text_kind.TextKind.{TextKind}
 use Rattle.widl_idl.specs.declared.text_kind.TextKind.TheVariants as texts
 use Rattle.widl_idl.specs.DefinitionTerms.{DefsTerm}
-use Rattle.widl_idl.specs.Terms.{TypeTerm, AnyType, UndefinedType, BooleanType, IntegerType, StringType, EnumerationType, ObjectType}
+use Rattle.widl_idl.specs.Terms.{TypeTerm, AnyType, UndefinedType, BooleanType, IntegerType, StringType, EnumerationType, DictionaryType, ObjectType, SequenceType, RecordType, NullableType, UnionType}
 use Rattle.widl_value.specs.declared.number.Number.{Number}
 use Rattle.widl_value.specs.declared.number.Number.TheVariants as numbers
 use Rattle.widl_value.specs.declared.value.Value.{Value}
@@ -31,7 +31,12 @@ use Rattle.widl_trace.specs.declared.code.Code.TheVariants as code
 use Rattle.widl_convert.specs.declared.hint.Hint.TheVariants.{PrefersNumber, PrefersString}
 use Rattle.widl_convert.specs.declared.outcome.Want.{Want}
 use Rattle.widl_convert.specs.declared.outcome.Want.TheVariants as wants
+use Rattle.widl_convert.specs.Dictionaries.{to_dictionary}
+use Rattle.widl_convert.specs.Nullables.{to_nullable}
+use Rattle.widl_convert.specs.Records.{to_record}
+use Rattle.widl_convert.specs.Sequences.{to_sequence}
 use Rattle.widl_convert.specs.Tasks.{Primitive, Scalar, Talk}
+use Rattle.widl_convert.specs.Unions.{to_union}
 use Rattle.widl_convert.specs.Words.{gives, returns, fails, no_whole_number, not_built, object, returned, number, text}
 use Rattle.widl_convert.specs.Built.{Built}
 
@@ -101,15 +106,20 @@ to_enumeration list n v = Steps (Scalar wants.Text v) (text (λ units. enumerati
 
 -- 7. All types. Of the types that are left out here no conversion has steps yet.
 
-abbrev pub to_type : DefsTerm → TypeTerm → Value → Talk
-to_type list AnyType v = gives (AnyValue v)
-to_type list UndefinedType v = gives UndefinedValue
-to_type list BooleanType v = gives (BooleanValue (truth_of v))
-to_type list (IntegerType kind mode) v = to_integer kind mode v
-to_type list (StringType kind null_empty) v = null_or_string null_empty kind v
-to_type list (EnumerationType n) v = to_enumeration list n v
-to_type list ObjectType v = object code.NotObject (λ o. gives (ObjectValue o)) v
-to_type list _ v = not_built
+abbrev pub to_type : Built → DefsTerm → TypeTerm → Value → Talk
+to_type built list AnyType v = gives (AnyValue v)
+to_type built list UndefinedType v = gives UndefinedValue
+to_type built list BooleanType v = gives (BooleanValue (truth_of v))
+to_type built list (IntegerType kind mode) v = to_integer kind mode v
+to_type built list (StringType kind null_empty) v = null_or_string null_empty kind v
+to_type built list (EnumerationType n) v = to_enumeration list n v
+to_type built list ObjectType v = object code.NotObject (λ o. gives (ObjectValue o)) v
+to_type built list (SequenceType t) v = to_sequence t v
+to_type built list (RecordType key t) v = to_record key t v
+to_type built list (DictionaryType n) v = to_dictionary list n v
+to_type built list (NullableType t) v = to_nullable t v
+to_type built list (UnionType ts) v = to_union built list ts v
+to_type built list _ v = not_built
 
 abbrev pub convert : Built → DefsTerm → TypeTerm → Value → Talk
-convert built list t v = if built.to_type t then to_type list t v else not_built
+convert built list t v = if built.to_type t then to_type built list t v else not_built

@@ -36,7 +36,7 @@ moves_on list m frames = bind (move_dialog list m) (under (returned_to list) fra
 
 -- what is left after an answer, over the frames; of a conversation that has ended nothing is expected
 abbrev pub left : DefsTerm → State → AnswerTerm → Talk
-left list (Begins j) a = rule built_today list (job_of j)
+left list (Begins j) a = rule built_today list (job_of list j)
 left list (Waits w) a = after list w a
 left list Ended a = not_built
 
@@ -109,7 +109,7 @@ Resumes list d asker answer = IsReached list d asker (next_said answer)
 -- 5. What is left without a charge
 
 abbrev pub pause : DefsTerm → State → ℕ
-pause list (Begins j) = 1 + load list (job_of j)
+pause list (Begins j) = 1 + load list (job_of list j)
 pause list (Waits w) = patience w
 pause list Ended = 0
 

@@ -2,16 +2,25 @@
 -- Source: Web IDL, "JavaScript type mapping" and "overload resolution algorithm"; ECMA-262, "Type Conversion".
 use Rattle.std.specs.Prelude.{ℕ, List, Option}
 use Rattle.widl_dialog.specs.Dialog.{Dialog}
+use Rattle.widl_text.specs.declared.key.Key.{Key}
 use Rattle.widl_idl.specs.declared.callee.Callee.{Callee}
 use Rattle.widl_idl.specs.declared.literal.Literal.{Literal}
+use Rattle.widl_idl.specs.declared.text_kind.TextKind.{TextKind}
 use Rattle.widl_idl.specs.Terms.{TypeTerm}
 use Rattle.widl_overload.specs.Sets.{TupleTerm}
+use Rattle.widl_value.specs.declared.object.ObjRef.{ObjRef}
 use Rattle.widl_value.specs.declared.value.Value.{Value}
-use Rattle.widl_value.specs.IdlTerms.{IdlTerm}
+use Rattle.widl_value.specs.IdlTerms.{IdlTerm, IdlTerms}
 use Rattle.widl_trace.specs.declared.code.Code.{Code}
 use Rattle.widl_convert.specs.declared.hint.Hint.{Hint}
 use Rattle.widl_convert.specs.declared.outcome.Want.{Want}
 use Rattle.widl_convert.specs.AskTerms.{AskTerm, AnswerTerm}
+use Rattle.widl_convert.specs.MemberOrder.{DeclaredMember}
+
+-- what is made on the way to script: an array, or an object with properties of these names
+pub data Container : Type 0 where
+  ArrayOf : Container
+  ObjectOf : List (List ℕ) → Container
 
 pub data Task : Type 0 where
   -- ToPrimitive; ToNumber, ToString or ToLength
@@ -19,6 +28,14 @@ pub data Task : Type 0 where
   Scalar : Want → Value → Task
   -- a value to an IDL value of a type
   Convert : TypeTerm → Value → Task
+  -- a sequence of elements of a type, from an object and its method `@iterator`
+  SequenceFrom : TypeTerm → ObjRef → ObjRef → Task
+  -- the turns of an iterator that are left, by its method `next`, and the elements before
+  Turns : TypeTerm → ObjRef → ObjRef → List IdlTerm → Task
+  -- the keys of an object that are left, for a record of keys and values of these types, and the entries before
+  Entries : TextKind → TypeTerm → ObjRef → List Key → List (List ℕ × IdlTerm) → Task
+  -- the members of a dictionary that are left, from an object if there is one, and those before
+  Members : ℕ → Option ObjRef → List DeclaredMember → List (ℕ × ℕ × IdlTerm) → Task
   -- the overload resolution algorithm for these arguments
   Resolve : Callee → List Value → Task
   -- its entries that are left, and the place that tells them apart; the arguments that are left, and the values of those before
@@ -29,6 +46,10 @@ pub data Task : Type 0 where
   Defaults : Callee → ℕ → List IdlTerm → Task
   -- an IDL value of a type to a value of the script
   Out : TypeTerm → IdlTerm → Task
+  -- the items of a container that are left, on their way to script, and the values before
+  OutItems : Container → IdlTerms → List Value → Task
+  -- so many units, then the container
+  OutUnits : ℕ → Container → List Value → Task
 
 pub data TaskEnd : Type 0 where
   -- an IDL value; a value of the script; an overload with the values of its arguments

@@ -15,6 +15,7 @@ kind_for_primitive (OrdinaryResult o otherwise) = OfCall
 
 abbrev pub kind_for_value : ValueWait → AskKind
 kind_for_value (values.Primitive w) = kind_for_primitive w
+kind_for_value (values.Probe p) = OfGet
 
 abbrev pub kind_for : Wait → AskKind
 kind_for (waits.Value w) = kind_for_value w

@@ -1,10 +1,11 @@
 //! Suspended conversations.
 
-ghost use Rattle.std.specs.Prelude.{◌≡◌, ◌<◌, ◌+◌, [], Option, None, Some, IfOk};
+ghost use Rattle.std.specs.Prelude.{◌≡◌, ◌<◌, ◌+◌, ◌^◌, [], length, Option, None, Some, IfOk};
 ghost use Rattle.widl_dialog.specs.Conversation.{Ends};
 ghost use Rattle.widl_dialog.specs.Stack.{longer};
 ghost use Rattle.widl_idl.specs.DefinitionTerms.{DefsTerm, defs_term};
 ghost use Rattle.widl_idl.specs.Terms.{type_term};
+ghost use Rattle.widl_value.specs.IdlTerms.{idl_term};
 ghost use Rattle.widl_convert.specs.AskTerms.{AskTerm, BeginAnswer, answer_term};
 ghost use Rattle.widl_convert.specs.Built.{built_today};
 ghost use Rattle.widl_convert.specs.Frames.{end_of, job_of, move_dialog};
@@ -12,21 +13,22 @@ ghost use Rattle.widl_convert.specs.Laws.{Said};
 ghost use Rattle.widl_convert.specs.Loads.{load, weight};
 ghost use Rattle.widl_convert.specs.Rules.{rule};
 ghost use Rattle.widl_convert.specs.Stack.{Awaits, EndsUnlessAsks, Expects, IsCalmer, IsQuiet, IsQuietState, Resumes, Stands, Tells, left, next_said, pause, quiet, rest};
-ghost use Rattle.widl_convert.specs.Tasks.{Convert, Scalar, Task};
+ghost use Rattle.widl_convert.specs.Tasks.{Convert, Out, Resolve, Scalar, Task};
 
 use crate::answer::Answer;
 use crate::jobs::Job;
 use crate::moves::{Asking, Ending, Move};
 use crate::outcome::{Next, Want};
+use crate::resolution::Call;
 use crate::settle::{Settled, settle};
 use crate::stack::Stack;
 use crate::steps::{answered, begin};
 use crate::waits::Wait;
 use std::alloc::{AllocError, Global};
 use std::mem;
-use widl_idl::IdlType;
+use widl_idl::{Callee, IdlType};
 use widl_tables::Tables;
-use widl_value::Value;
+use widl_value::{IdlValue, Value, Values};
 
 /// Where a conversation stands.
 #[derive(Drop)]
@@ -85,6 +87,42 @@ impl Asker {
         Ok(start(alloc, Job::Scalar { want, value }))
     }
 
+    /// The choice of an overload of a callee for the arguments of a call, with their conversion (Web IDL,
+    /// "overload resolution algorithm"). A callee that the list hasn't has no overload. There are fewer
+    /// than 4,294,967,296 arguments.
+    ///
+    /// # Errors
+    ///
+    /// `AllocError` where there is no memory.
+    pub fn start_resolve(alloc: Global, callee: Callee, args: Values) -> Result<Asker, AllocError>
+        requires few { length args < 2 ^ 32 }
+        ensures stands { IfOk result (λ asker. (list : DefsTerm) → Stands list asker (Resolve callee args) [] None) }
+        ensures begins { IfOk result (λ asker. Expects asker BeginAnswer) }
+        ensures rest { IfOk result (λ asker. (list : DefsTerm) → rest list asker BeginAnswer ≡ rule built_today list (Resolve callee args)) }
+        ensures ready { IfOk result IsQuiet }
+        ensures quiet { IfOk result (λ asker. (list : DefsTerm) → quiet list asker ≡ 1 + load list (Resolve callee args)) }
+    {
+        Ok(start(alloc, Job::Resolve(Call { callee, args })))
+    }
+
+    /// The conversion of an IDL value of a type to a value of the script (Web IDL, "JavaScript type
+    /// mapping"). That of a value which isn't built ends at an end of the profile, and so does that of an
+    /// integer of a magnitude greater than 2^64, which no integer type has.
+    ///
+    /// # Errors
+    ///
+    /// `AllocError` where there is no memory.
+    pub fn start_out(alloc: Global, ty: &IdlType, value: IdlValue) -> Result<Asker, AllocError>
+        ensures stands { IfOk result (λ asker. (list : DefsTerm) → Stands list asker (Out (type_term ty.now) (idl_term value)) [] None) }
+        ensures begins { IfOk result (λ asker. Expects asker BeginAnswer) }
+        ensures rest { IfOk result (λ asker. (list : DefsTerm) → rest list asker BeginAnswer ≡ rule built_today list (Out (type_term ty.now) (idl_term value))) }
+        ensures ready { IfOk result IsQuiet }
+        ensures quiet { IfOk result (λ asker. (list : DefsTerm) → quiet list asker ≡ 1 + load list (Out (type_term ty.now) (idl_term value))) }
+    {
+        let ty = ty.copy(alloc)?;
+        Ok(start(alloc, Job::Out { ty, value }))
+    }
+
     /// What comes next after an answer: [`Answer::Begin`] first, and then one that fits the ask that
     /// this has answered last. After anything but an ask the conversation has ended, and isn't resumed
     /// again.
@@ -107,10 +145,10 @@ impl Asker {
     {
         let alloc = self.alloc;
         let state = mem::replace(&mut self.state, State::Ended);
-        match first_move(alloc, state, answer) {
+        match first_move(alloc, tables, state, answer) {
             Ok(first) => match settle(alloc, tables, &mut self.frames, first) {
                 Settled::Waits(asking) => self.wait(asking),
-                Settled::Ends(ending) => told(ending),
+                Settled::Ends(ending) => ending.told(),
                 Settled::Memory => Next::Memory,
             },
             Err(_) => Next::Memory,
@@ -134,11 +172,11 @@ fn discard(_state: State) {}
 
 /// The conversation of a task, of which nothing has been asked.
 fn start(alloc: Global, job: Job) -> Asker
-    ensures stands { (list : DefsTerm) → Stands list result (job_of job) [] None }
+    ensures stands { (list : DefsTerm) → Stands list result (job_of list job) [] None }
     ensures begins { Expects result BeginAnswer }
-    ensures rest { (list : DefsTerm) → rest list result BeginAnswer ≡ rule built_today list (job_of job) }
+    ensures rest { (list : DefsTerm) → rest list result BeginAnswer ≡ rule built_today list (job_of list job) }
     ensures ready { IsQuiet result }
-    ensures quiet { (list : DefsTerm) → quiet list result ≡ 1 + load list (job_of job) }
+    ensures quiet { (list : DefsTerm) → quiet list result ≡ 1 + load list (job_of list job) }
 {
     Asker {
         alloc,
@@ -152,26 +190,33 @@ fn start(alloc: Global, job: Job) -> Asker
 /// # Errors
 ///
 /// `AllocError` where there is no memory.
-fn first_move(alloc: Global, state: State, answer: Answer) -> Result<Move, AllocError>
+fn first_move(
+    alloc: Global,
+    tables: &Tables,
+    state: State,
+    answer: Answer,
+) -> Result<Move, AllocError>
     requires { Awaits state (answer_term answer) }
-    ensures dialog { IfOk result (λ m. (list : DefsTerm) → move_dialog list m ≡ left list state (answer_term answer)) }
-    ensures weight { IfOk result (λ m. (list : DefsTerm) → IsQuietState state → weight list m < pause list state) }
+    ensures dialog { IfOk result (λ m. move_dialog (defs_term tables.now.defs) m ≡ left (defs_term tables.now.defs) state (answer_term answer)) }
+    ensures weight { IfOk result (λ m. IsQuietState state → weight (defs_term tables.now.defs) m < pause (defs_term tables.now.defs) state) }
 {
     match state {
-        State::Begins(job) => begin(alloc, job),
-        State::Waits(wait) => answered(alloc, wait, answer),
+        State::Begins(job) => begin(alloc, tables, job),
+        State::Waits(wait) => answered(alloc, tables, wait, answer),
         State::Ended => unreachable!(),
     }
 }
 
-/// The end as it is told.
-fn told(ending: Ending) -> Next
-    ensures { next_said result ≡ Some (Ends (end_of ending)) }
-{
-    match ending {
-        Ending::Done(outcome) => Next::Done(outcome),
-        Ending::Throw(reason) => Next::Throw(reason),
-        Ending::Rethrow(value) => Next::Rethrow(value),
-        Ending::Profile(number) => Next::Profile(number),
+impl Ending {
+    /// The end as it is told.
+    pub fn told(self) -> Next
+        ensures { next_said result ≡ Some (Ends (end_of self)) }
+    {
+        match self {
+            Ending::Done(outcome) => Next::Done(outcome),
+            Ending::Throw(reason) => Next::Throw(reason),
+            Ending::Rethrow(value) => Next::Rethrow(value),
+            Ending::Profile(number) => Next::Profile(number),
+        }
     }
 }

@@ -2,10 +2,11 @@
 
 ghost use Rattle.std.specs.Prelude.{◌≡◌, ◌≤◌, IfOk};
 ghost use Rattle.widl_dialog.specs.Dialog.{Steps};
-ghost use Rattle.widl_idl.specs.DefinitionTerms.{DefsTerm};
+ghost use Rattle.widl_idl.specs.DefinitionTerms.{DefsTerm, defs_term};
 ghost use Rattle.widl_idl.specs.Terms.{type_term};
 ghost use Rattle.widl_scalar.specs.Enumerations.{value_place};
 ghost use Rattle.widl_scalar.specs.Scalars.{integer_of};
+ghost use Rattle.widl_tables.specs.Kept.{declared_args, entry_for, type_at};
 ghost use Rattle.widl_value.specs.IdlTerms.{ObjectValue, StringValue, idl_term};
 ghost use Rattle.widl_convert.specs.Built.{built_today};
 ghost use Rattle.widl_convert.specs.Frames.{move_dialog, number_to, text_to};
@@ -14,13 +15,14 @@ ghost use Rattle.widl_convert.specs.Scalars.{convert, enumeration_result, intege
 ghost use Rattle.widl_convert.specs.Tasks.{Scalar};
 ghost use Rattle.widl_convert.specs.Words.{gives, not_built, number, object, text};
 
+use crate::entry::standing;
 use crate::frames::{Frame, NumberFrame, TextFrame};
-use crate::jobs::Job;
+use crate::jobs::{ArgumentPlace, Job};
 use crate::moves::{Ending, Move};
 use crate::outcome::{Outcome, Want};
 use std::alloc::{AllocError, Global};
 use widl_idl::{IdlType, IntKind, Mode, TextKind};
-use widl_scalar::{enum_at, is_byte_text, scalar_text, to_int, truth};
+use widl_scalar::{is_byte_text, scalar_text, to_int, truth};
 use widl_tables::Tables;
 use widl_text::Units;
 use widl_trace::Code;
@@ -30,17 +32,17 @@ use widl_value::{IdlValue, Number, Value};
 const NOT_BUILT: u8 = 99;
 
 /// The first move of a value's conversion to an IDL value of a type.
-pub(crate) fn convert(alloc: Global, ty: IdlType, value: Value) -> Move
-    ensures dialog { (list : DefsTerm) → move_dialog list result ≡ convert built_today list (type_term ty) value }
+pub(crate) fn convert(alloc: Global, ty: &IdlType, value: Value) -> Move
+    ensures dialog { (list : DefsTerm) → move_dialog list result ≡ convert built_today list (type_term ty.now) value }
     ensures weight { (list : DefsTerm) → weight list result ≤ conversion_load }
 {
     match ty {
         IdlType::Any => gives(IdlValue::Any(value)),
         IdlType::Undefined => gives(IdlValue::Undefined),
         IdlType::Boolean => gives(IdlValue::Bool(truth(&value))),
-        IdlType::Int(kind, mode) => by_number(NumberFrame::Integer(kind, mode), value),
-        IdlType::Text { kind, null_empty } => null_or_string(alloc, null_empty, kind, value),
-        IdlType::Choice(number) => by_text(TextFrame::Enumeration(number), value),
+        IdlType::Int(kind, mode) => by_number(NumberFrame::Integer(*kind, *mode), value),
+        IdlType::Text { kind, null_empty } => null_or_string(alloc, *null_empty, *kind, value),
+        IdlType::Choice(number) => by_text(TextFrame::Enumeration(*number), value),
         IdlType::Object => object(value),
         IdlType::Interface(_) => not_built(),
         IdlType::CallbackFn(_) => not_built(),
@@ -54,8 +56,26 @@ pub(crate) fn convert(alloc: Global, ty: IdlType, value: Value) -> Move
     }
 }
 
+/// The first move of an argument's conversion to the type at its place of an overload's entry of a
+/// length.
+pub(crate) fn convert_argument(
+    alloc: Global,
+    tables: &Tables,
+    at: ArgumentPlace,
+    length: u32,
+    value: Value,
+) -> Move
+    ensures dialog { move_dialog (defs_term tables.now.defs) result ≡ convert built_today (defs_term tables.now.defs) (type_at (entry_for at.overload (declared_args (defs_term tables.now.defs) at.callee at.overload) length) at.place) value }
+    ensures weight { weight (defs_term tables.now.defs) result ≤ conversion_load }
+{
+    match standing(tables.list().defs(), at, length) {
+        None => gives(IdlValue::Any(value)),
+        Some(standing) => convert(alloc, standing.ty, value),
+    }
+}
+
 /// The end with an IDL value.
-fn gives(value: IdlValue) -> Move
+pub(crate) fn gives(value: IdlValue) -> Move
     ensures dialog { (list : DefsTerm) → move_dialog list result ≡ gives (idl_term value) }
     ensures weight { (list : DefsTerm) → weight list result ≡ 0 }
 {
@@ -71,7 +91,7 @@ fn gives_text(text: Units) -> Move
 }
 
 /// The end of what isn't built.
-fn not_built() -> Move
+pub(crate) fn not_built() -> Move
     ensures dialog { (list : DefsTerm) → move_dialog list result ≡ not_built }
     ensures weight { (list : DefsTerm) → weight list result ≡ 0 }
 {
@@ -176,7 +196,7 @@ pub(crate) fn to_enumeration(tables: &Tables, number: u32, text: Units) -> Move
     ensures dialog { (list : DefsTerm) → move_dialog list result ≡ enumeration_result number (value_place tables.now.defs.choices number text) }
     ensures weight { (list : DefsTerm) → weight list result ≡ 0 }
 {
-    match enum_at(tables.list().defs(), number, &text) {
+    match tables.enum_at(number, &text) {
         Some(index) => gives(IdlValue::Choice { of: number, index }),
         None => Move::Gives(Ending::Throw(Code::Enum)),
     }

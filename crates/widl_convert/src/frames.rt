@@ -2,7 +2,9 @@
 //!
 //! Each goes on with one kind of end, and passes any other on.
 
+use crate::jobs::Beginning;
 use crate::outcome::Want;
+use crate::resolution::Resolution;
 use widl_idl::{IntKind, Mode, TextKind};
 
 /// What goes on with a value of the script.
@@ -30,6 +32,15 @@ pub enum TextFrame {
     Enumeration(u32),
 }
 
+/// What goes on with an IDL value.
+#[derive(Drop)]
+pub enum IdlFrame {
+    /// It is that of the argument that was taken last.
+    Argument(Resolution),
+    /// It is that of a declared argument which the call doesn't have.
+    Defaulted(Beginning),
+}
+
 /// What waits for the end of a task.
 #[derive(Drop)]
 pub enum Frame {
@@ -39,4 +50,6 @@ pub enum Frame {
     Number(NumberFrame),
     /// It is a String.
     Text(TextFrame),
+    /// It is an IDL value.
+    Idl(IdlFrame),
 }

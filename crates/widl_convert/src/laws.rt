@@ -2,8 +2,13 @@
 //! definitions and whatever is built.
 
 ghost use Rattle.widl_idl.specs.DefinitionTerms.{DefsTerm};
+ghost use Rattle.widl_idl.specs.declared.text_kind.TextKind.{TextKind};
+ghost use Rattle.widl_idl.specs.Terms.{TypeTerm};
+ghost use Rattle.widl_value.specs.declared.object.ObjRef.{ObjRef};
 ghost use Rattle.widl_convert.specs.Built.{Built};
-ghost use Rattle.widl_convert.specs.Laws.{AsksAreTalked, BeginningsHaveOneNext, PartsMakeWholes};
+ghost use Rattle.widl_convert.specs.ContainerLaws.{MembersAreReadInOrder, NamesAscend, RecordsAskOnce, SequencesAskOnce};
+ghost use Rattle.widl_convert.specs.Laws.{AsksAreTalked, BeginningsHaveOneNext, ChainsEnd, EachTaskEnds, FaultsEnd, PartsMakeWholes, ValidChainsEnd};
+ghost use Rattle.widl_convert.specs.ResolutionLaws.{OthersAreNotLookedAt, ValuesAreCounted};
 ghost use Rattle.widl_convert.specs.Rules.{rule};
 ghost use Rattle.widl_convert.specs.Stack.{EachAnswerGoesOn, HasOneLast};
 
@@ -14,7 +19,22 @@ pub fn has_one_next()
 
 /// An ask comes next exactly where some whole conversation goes on with it.
 pub fn asks_are_talked()
-    ensures { (built : Built) (list : DefsTerm) → AsksAreTalked (rule built list) }
+    ensures { (built : Built) (list : DefsTerm) → ChainsEnd built list → AsksAreTalked (rule built list) }
+{}
+
+/// Over the list of a valid set no chain of more dictionaries begins than may be.
+pub fn valid_chains_end()
+    ensures { ValidChainsEnd }
+{}
+
+/// After a thrown answer nothing is asked: the conversation ends with the value that was thrown.
+pub fn faults_end()
+    ensures { (built : Built) (list : DefsTerm) → FaultsEnd (rule built list) }
+{}
+
+/// Each task has a whole conversation.
+pub fn tasks_end()
+    ensures { (built : Built) (list : DefsTerm) → ChainsEnd built list → EachTaskEnds (rule built list) }
 {}
 
 /// The conversation of a whole is those of its parts, one after another.
@@ -30,4 +50,36 @@ pub fn has_one_last()
 /// A suspended conversation that stands at an ask has exactly one next, for each answer that fits.
 pub fn answers_go_on()
     ensures { (list : DefsTerm) → EachAnswerGoesOn list }
+{}
+
+/// The overload that is chosen has a value for each argument of the call that counts, and for each of its
+/// declared ones after them but a variadic one.
+pub fn values_are_counted()
+    ensures { (built : Built) (list : DefsTerm) → ValuesAreCounted (rule built list) list }
+{}
+
+/// Nothing is asked of an argument beyond those that count: what is said of a call is the same whatever
+/// stands there.
+pub fn others_are_not_looked_at()
+    ensures { (built : Built) (list : DefsTerm) → OthersAreNotLookedAt (rule built list) list }
+{}
+
+/// A sequence reads `@iterator` once and `next` once, and asks its iterator nothing else than a turn.
+pub fn sequences_ask_once()
+    ensures { (built : Built) (list : DefsTerm) (t : TypeTerm) → SequencesAskOnce built list t }
+{}
+
+/// A record asks for the own keys once, and looks at each property once and reads it once.
+pub fn records_ask_once()
+    ensures { (built : Built) (list : DefsTerm) (key : TextKind) (t : TypeTerm) (o : ObjRef) → RecordsAskOnce built list key t o }
+{}
+
+/// The members that a dictionary declares are sorted by their names.
+pub fn names_ascend()
+    ensures { NamesAscend }
+{}
+
+/// Of a dictionary's object each member is read once, in their order.
+pub fn members_are_read_in_order()
+    ensures { (built : Built) (list : DefsTerm) → MembersAreReadInOrder built list }
 {}

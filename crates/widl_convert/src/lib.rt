@@ -8,30 +8,37 @@
 //! [`Asker`] is a conversion that is suspended at each ask. The contract that the crates above use: what
 //! [`Asker::resume`] answers is exactly what comes next in the talk of its task, tasks alone lead to it
 //! from what was left, and less is left after each ask that takes no charge. Today the conversions of
-//! scalars have code, and the others definitions alone. The laws are the contracts of the functions of
-//! [`laws`].
+//! scalars have code, the choice of an overload and the way of scalars to script; the others have
+//! definitions alone. The laws are the contracts of the functions of [`laws`]. The tests stand in
+//! `widl_conversations`, above the crates that read a set.
 #![tactic(auto)]
 
 mod answer;
 mod ask;
 mod asker;
 mod convert;
+mod defaults;
+mod entry;
 mod frames;
 mod hint;
 mod jobs;
 pub mod laws;
+mod literals;
 mod moves;
 mod outcome;
 mod primitive;
+mod resolution;
+mod resolve;
+mod results;
 mod scalar;
 mod settle;
 mod stack;
 mod steps;
-#[cfg(test)]
-mod tests;
 mod waits;
 
 pub use answer::{Answer, CursorState, KindName};
 pub use ask::{Ask, ScriptEntries};
 pub use asker::Asker;
+pub use literals::literal_value;
+pub use moves::Ending;
 pub use outcome::{Next, Outcome, Want};

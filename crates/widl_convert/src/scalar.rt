@@ -22,7 +22,7 @@ use widl_trace::Code;
 use widl_value::{Number, Value};
 
 /// The end of the profile for a numeral that isn't whole or is too large.
-const NO_WHOLE_NUMBER: u8 = 1;
+pub(crate) const NO_WHOLE_NUMBER: u8 = 1;
 
 /// The first move of a value's conversion to a Number, a String or a length.
 ///
@@ -93,7 +93,7 @@ fn write_text(alloc: Global, value: Value) -> Result<Move, AllocError>
 }
 
 /// The end with a String.
-fn gives_text(text: Units) -> Move
+pub(crate) fn gives_text(text: Units) -> Move
     ensures dialog { (list : DefsTerm) → move_dialog list result ≡ returns (Value.Str text) }
     ensures weight { (list : DefsTerm) → weight list result ≡ 0 }
 {

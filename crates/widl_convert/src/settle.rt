@@ -44,12 +44,12 @@ pub(crate) fn settle(alloc: Global, tables: &Tables, frames: &mut Stack, first: 
                     Ok(()) => (),
                     Err(_) => return Settled::Memory,
                 }
-                match begin(alloc, job) {
+                match begin(alloc, tables, job) {
                     Ok(next) => current = next,
                     Err(_) => return Settled::Memory,
                 }
             }
-            Move::Goes(job) => match begin(alloc, job) {
+            Move::Goes(job) => match begin(alloc, tables, job) {
                 Ok(next) => current = next,
                 Err(_) => return Settled::Memory,
             },

@@ -16,12 +16,16 @@ pub struct Stack {
 }
 
 impl Model for Stack {
+    ghost use Rattle.std.specs.Coded.{codes};
     ghost use Rattle.std.specs.Prelude.{List, ◌++◌, option_to_list};
+    ghost use Rattle.widl_value.specs.contracts.idl_value.IdlValue as values;
     ghost use Rattle.widl_convert.specs.declared.frames.Frame as TheFrame;
 
     ghost Value = { List TheFrame.Frame };
 
     ghost view = { λ s. s.below.items ++ option_to_list s.top };
+
+    ghost coded = { Prim.hlevel (codes, values.the_row.coded) };
 }
 
 impl Stack {

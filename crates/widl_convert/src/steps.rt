@@ -7,37 +7,49 @@ ghost use Rattle.widl_convert.specs.Built.{built_today};
 ghost use Rattle.widl_convert.specs.Frames.{after, end_of, job_of, move_dialog, number_to, returned_to, text_to, value_to};
 ghost use Rattle.widl_convert.specs.Loads.{end_load, frame_load, load, patience, weight};
 ghost use Rattle.widl_convert.specs.Rules.{rule};
-ghost use Rattle.widl_convert.specs.Tasks.{Plain};
+ghost use Rattle.widl_value.specs.IdlTerms.{idl_term};
+ghost use Rattle.widl_convert.specs.Tasks.{Gives, Plain};
 ghost use Rattle.widl_convert.specs.Waits.{kind_for};
 
 use crate::answer::Answer;
-use crate::convert::{convert, to_enumeration, to_integer, to_string};
-use crate::frames::{Frame, NumberFrame, TextFrame, ValueFrame};
+use crate::convert::{convert, convert_argument, gives, to_enumeration, to_integer, to_string};
+use crate::defaults::{default, defaults, with_default};
+use crate::frames::{Frame, IdlFrame, NumberFrame, TextFrame, ValueFrame};
 use crate::jobs::Job;
 use crate::moves::{Ending, Move};
 use crate::outcome::Outcome;
 use crate::primitive;
 use crate::primitive::to_primitive;
+use crate::resolve::{arguments, probed, resolve, with_argument};
+use crate::results::out;
 use crate::scalar::{to_length, to_scalar, with_primitive};
 use crate::waits::{ValueWait, Wait};
 use std::alloc::{AllocError, Global};
 use widl_tables::Tables;
 use widl_text::Units;
-use widl_value::{Number, Value};
+use widl_value::{IdlValue, Number, Value};
 
 /// The first move of a task.
 ///
 /// # Errors
 ///
 /// `AllocError` where there is no memory.
-pub(crate) fn begin(alloc: Global, job: Job) -> Result<Move, AllocError>
-    ensures dialog { IfOk result (λ m. (list : DefsTerm) → move_dialog list m ≡ rule built_today list (job_of job)) }
-    ensures weight { IfOk result (λ m. (list : DefsTerm) → weight list m ≤ load list (job_of job)) }
+pub(crate) fn begin(alloc: Global, tables: &Tables, job: Job) -> Result<Move, AllocError>
+    ensures dialog { IfOk result (λ m. move_dialog (defs_term tables.now.defs) m ≡ rule built_today (defs_term tables.now.defs) (job_of (defs_term tables.now.defs) job)) }
+    ensures weight { IfOk result (λ m. weight (defs_term tables.now.defs) m ≤ load (defs_term tables.now.defs) (job_of (defs_term tables.now.defs) job)) }
 {
     match job {
         Job::Primitive { hint, value } => Ok(to_primitive(hint, value)),
         Job::Scalar { want, value } => to_scalar(alloc, want, value),
-        Job::Convert { ty, value } => Ok(convert(alloc, ty, value)),
+        Job::Convert { ty, value } => Ok(convert(alloc, &ty, value)),
+        Job::Argument { at, length, value } => {
+            Ok(convert_argument(alloc, tables, at, length, value))
+        }
+        Job::Resolve(call) => resolve(alloc, tables, call),
+        Job::Arguments(resolution) => Ok(arguments(tables, resolution)),
+        Job::Default(at) => default(alloc, tables, at),
+        Job::Defaults(beginning) => Ok(defaults(tables, beginning)),
+        Job::Out { ty: _, value } => out(alloc, tables, value),
     }
 }
 
@@ -46,12 +58,17 @@ pub(crate) fn begin(alloc: Global, job: Job) -> Result<Move, AllocError>
 /// # Errors
 ///
 /// `AllocError` where there is no memory.
-pub(crate) fn answered(alloc: Global, wait: Wait, answer: Answer) -> Result<Move, AllocError>
-    ensures dialog { IfOk result (λ m. (list : DefsTerm) → move_dialog list m ≡ after list wait (answer_term answer)) }
-    ensures weight { IfOk result (λ m. (list : DefsTerm) → IsFree (kind_for wait) → weight list m < patience wait) }
+pub(crate) fn answered(
+    alloc: Global,
+    tables: &Tables,
+    wait: Wait,
+    answer: Answer,
+) -> Result<Move, AllocError>
+    ensures dialog { IfOk result (λ m. move_dialog (defs_term tables.now.defs) m ≡ after (defs_term tables.now.defs) wait (answer_term answer)) }
+    ensures weight { IfOk result (λ m. IsFree (kind_for wait) → weight (defs_term tables.now.defs) m < patience wait) }
 {
     match wait {
-        Wait::Value(wait) => with_completion(alloc, wait, answer),
+        Wait::Value(wait) => with_completion(alloc, tables, wait, answer),
     }
 }
 
@@ -60,13 +77,18 @@ pub(crate) fn answered(alloc: Global, wait: Wait, answer: Answer) -> Result<Move
 /// # Errors
 ///
 /// `AllocError` where there is no memory.
-fn with_completion(alloc: Global, wait: ValueWait, answer: Answer) -> Result<Move, AllocError>
-    ensures { IfOk result (λ m. (list : DefsTerm) → move_dialog list m ≡ after list (Wait.Value wait) (answer_term answer)) }
+fn with_completion(
+    alloc: Global,
+    tables: &Tables,
+    wait: ValueWait,
+    answer: Answer,
+) -> Result<Move, AllocError>
+    ensures { IfOk result (λ m. move_dialog (defs_term tables.now.defs) m ≡ after (defs_term tables.now.defs) (Wait.Value wait) (answer_term answer)) }
 {
     match answer {
         Answer::Thrown(value) => Ok(Move::Gives(Ending::Rethrow(value))),
-        Answer::Normal(value) => with_value(alloc, wait, value),
-        _ => with_value(alloc, wait, Value::Undefined),
+        Answer::Normal(value) => with_value(alloc, tables, wait, value),
+        _ => with_value(alloc, tables, wait, Value::Undefined),
     }
 }
 
@@ -75,11 +97,17 @@ fn with_completion(alloc: Global, wait: ValueWait, answer: Answer) -> Result<Mov
 /// # Errors
 ///
 /// `AllocError` where there is no memory.
-fn with_value(alloc: Global, wait: ValueWait, value: Value) -> Result<Move, AllocError>
-    ensures { IfOk result (λ m. (list : DefsTerm) → move_dialog list m ≡ value_to list wait value) }
+fn with_value(
+    alloc: Global,
+    tables: &Tables,
+    wait: ValueWait,
+    value: Value,
+) -> Result<Move, AllocError>
+    ensures { IfOk result (λ m. move_dialog (defs_term tables.now.defs) m ≡ value_to (defs_term tables.now.defs) wait value) }
 {
     match wait {
         ValueWait::Primitive(wait) => primitive::with_value(alloc, wait, value),
+        ValueWait::Probe(probe) => Ok(probed(tables, probe, value)),
     }
 }
 
@@ -99,6 +127,7 @@ pub(crate) fn returned(
 {
     match ending {
         Ending::Done(Outcome::Script(value)) => with_script(alloc, tables, frame, value),
+        Ending::Done(Outcome::Idl(value)) => with_idl(frame, value),
         ending => Ok(Move::Gives(ending)),
     }
 }
@@ -127,6 +156,25 @@ fn with_script(
             Value::Str(text) => with_text(alloc, tables, frame, text),
             value => Ok(Move::Gives(Ending::Done(Outcome::Script(value)))),
         },
+        Frame::Idl(_) => Ok(Move::Gives(Ending::Done(Outcome::Script(value)))),
+    }
+}
+
+/// The move after an IDL value that a task gave.
+///
+/// # Errors
+///
+/// `AllocError` where there is no memory.
+fn with_idl(frame: Frame, value: IdlValue) -> Result<Move, AllocError>
+    ensures dialog { IfOk result (λ m. (list : DefsTerm) → move_dialog list m ≡ returned_to list frame (Gives (idl_term value))) }
+    ensures weight { IfOk result (λ m. (list : DefsTerm) → weight list m < frame_load list frame) }
+{
+    match frame {
+        Frame::Idl(IdlFrame::Argument(resolution)) => with_argument(resolution, value),
+        Frame::Idl(IdlFrame::Defaulted(beginning)) => with_default(beginning, value),
+        Frame::Value(_) => Ok(gives(value)),
+        Frame::Number(_) => Ok(gives(value)),
+        Frame::Text(_) => Ok(gives(value)),
     }
 }
 

@@ -8,7 +8,6 @@ use Rattle.widl_idl.specs.declared.callee.Part.TheVariants as parts
 use Rattle.widl_value.specs.declared.value.Value.{Value}
 use Rattle.widl_value.specs.declared.value.Value.TheVariants as values
 use Rattle.widl_store.specs.declared.inner.Builtin.TheVariants as builtins
-use Rattle.widl_script_tree.specs.Trees.{ScriptTree, no_statements}
 use Rattle.widl_trace.specs.declared.code.Code.TheVariants as code
 use Rattle.widl_convert.specs.declared.answer.KindName.TheVariants as kinds
 use Rattle.widl_convert.specs.AskTerms.{AskTerm, GetAsk, KindAsk, ThrownAnswer, KindAnswer, Fits}
@@ -18,13 +17,14 @@ use Rattle.widl_convert.proofs.Worked.{number, plain, function, gets, nothing_de
 use Rattle.widl_calls.specs.BuiltCalls.{calls_built_today}
 use Rattle.widl_calls.specs.CallRules.{call_rule}
 use Rattle.widl_calls.specs.CallTasks.{Function}
+use Rattle.widl_calls.specs.Operations.{StepsOf}
 
-abbrev no_steps : ScriptTree
-no_steps = record { functions = []; top = no_statements }
+abbrev no_blocks : StepsOf
+no_blocks callee overload = []
 
 -- the call of the function of a number
 abbrev Does : ℕ → Value → Said → Next AskTerm TaskEnd → Type 0
-Does n this said next = IsNext (call_rule calls_built_today nothing_defined no_steps) (Function (function n) (builtins.Intrinsic n) this [] false) said next
+Does n this said next = IsNext (call_rule calls_built_today nothing_defined no_blocks) (Function (function n) (builtins.Intrinsic n) this [] false) said next
 
 abbrev it : Value
 it = values.Obj (plain 20)
@@ -93,7 +93,7 @@ text_of_array : Does 10 it [] (Ends (Profile 99))
 text_of_array = (10, refl)
 
 -- the getter of a namespace's attribute isn't built
-no_getter : IsNext (call_rule calls_built_today nothing_defined no_steps) (Function (function 19) (builtins.Callee (record { owner = owners.Space 0; part = parts.Get 0 })) it [] false) [] (Ends (Profile 99))
+no_getter : IsNext (call_rule calls_built_today nothing_defined no_blocks) (Function (function 19) (builtins.Callee (record { owner = owners.Space 0; part = parts.Get 0 })) it [] false) [] (Ends (Profile 99))
 no_getter = (10, refl)
 
 -- The kind isn't asked for before the tag, nor after a fault: these begin no conversation.
@@ -103,11 +103,11 @@ asks_tag = (10, refl)
 kind_not_first : Does 8 it [] (Asks (KindAsk (plain 20))) → ⊥
 kind_not_first x =
     let e : ◌≡◌ {A = Next AskTerm TaskEnd} (Asks (GetAsk (plain 20) (keys.Sym 2))) (Asks (KindAsk (plain 20))) =
-    one_next (call_rule calls_built_today nothing_defined no_steps) Fits _ _ _ _ asks_tag x in
+    one_next (call_rule calls_built_today nothing_defined no_blocks) Fits _ _ _ _ asks_tag x in
     absurd (cc)
 
 no_kind_after_fault : Does 8 it ((GetAsk (plain 20) (keys.Sym 2), ThrownAnswer (number 7)) ∷ []) (Asks (KindAsk (plain 20))) → ⊥
 no_kind_after_fault x =
     let e : ◌≡◌ {A = Next AskTerm TaskEnd} (Ends (Rethrow (number 7))) (Asks (KindAsk (plain 20))) =
-    one_next (call_rule calls_built_today nothing_defined no_steps) Fits _ _ _ _ tag_throws x in
+    one_next (call_rule calls_built_today nothing_defined no_blocks) Fits _ _ _ _ tag_throws x in
     absurd (cc)

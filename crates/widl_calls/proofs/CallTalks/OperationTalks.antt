@@ -28,6 +28,7 @@ use Rattle.widl_convert.proofs.Worked.{number, integer, plain, function, argumen
 use Rattle.widl_calls.specs.BuiltCalls.{calls_built_today}
 use Rattle.widl_calls.specs.CallRules.{call_rule}
 use Rattle.widl_calls.specs.CallTasks.{CallTask, Function}
+use Rattle.widl_calls.specs.Operations.{lines_of}
 
 abbrev long : TypeTerm
 long = IntegerType Long Wrap
@@ -44,7 +45,7 @@ abbrev call_f : List Value → CallTask
 call_f args = Function (function 19) (builtins.Callee f) (values.Obj (plain 18)) args false
 
 abbrev Calls : DefsTerm → ScriptTree → List Value → Said → Next AskTerm TaskEnd → Type 0
-Calls list script args said next = IsNext (call_rule calls_built_today list script) (call_f args) said next
+Calls list script args said next = IsNext (call_rule calls_built_today list (lines_of list script)) (call_f args) said next
 
 abbrev noted : List IdlTerm → AskTerm × AnswerTerm
 noted ws = (NoteAsk (OperationEvent f (Some 0) ws), DoneAnswer)
@@ -81,7 +82,7 @@ symbol_argument : Calls echo return_first (values.Sym 3 ∷ []) [] (Ends (Throw 
 symbol_argument = (40, refl)
 
 -- a namespace's operation doesn't look at `this`
-any_this : IsNext (call_rule calls_built_today echo return_first) (Function (function 19) (builtins.Callee f) values.Undefined (values.Null ∷ []) false) [] (Asks (NoteAsk (OperationEvent f (Some 0) (StringValue (codes "null") ∷ []))))
+any_this : IsNext (call_rule calls_built_today echo (lines_of echo return_first)) (Function (function 19) (builtins.Callee f) values.Undefined (values.Null ∷ []) false) [] (Asks (NoteAsk (OperationEvent f (Some 0) (StringValue (codes "null") ∷ []))))
 any_this = (40, refl)
 
 -- 3. `throw 7`

@@ -6,7 +6,7 @@ use Rattle.widl_convert.proofs.Resuming.{all_is_left, not_begun}
 use Rattle.widl_convert.proofs.asker.start.Goals as goal
 
 pub returns-clause-stands : goal.returns-clause-stands
-returns-clause-stands c list = record { waits = refl; place = not_begun list (rule built_today list (job_of c.args.job)) c.new.result c.new.ensures }
+returns-clause-stands c list = record { waits = refl; place = not_begun list (rule built_today list (job_of list c.args.job)) c.new.result c.new.ensures }
 
 pub returns-clause-rest : goal.returns-clause-rest
-returns-clause-rest c list = all_is_left list (rule built_today list (job_of c.args.job)) c.new.result c.new.ensures
+returns-clause-rest c list = all_is_left list (rule built_today list (job_of list c.args.job)) c.new.result c.new.ensures

@@ -14,10 +14,10 @@ loop-current-preserved-in-Ok c = gave c.in-Some.frame c.loop-current.invariant c
 
 pub loop-current-smaller-in-Ok-begin : goal.loop-current-smaller-in-Ok-begin
 loop-current-smaller-in-Ok-begin c =
-    step_less (defs_term c.args.tables.now.defs) c.in-Steps.frame c.in-Steps.job c.loop-current.current c.in-Ok-begin.next c.loop-current.frames c.push.new.self c.in-Steps.is c.in-Ok-push.ensures (c.in-Ok-begin.ensures.weight (defs_term c.args.tables.now.defs))
+    step_less (defs_term c.args.tables.now.defs) c.in-Steps.frame c.in-Steps.job c.loop-current.current c.in-Ok-begin.next c.loop-current.frames c.push.new.self c.in-Steps.is c.in-Ok-push.ensures c.in-Ok-begin.ensures.weight
 
 pub loop-current-preserved-in-Ok-begin : goal.loop-current-preserved-in-Ok-begin
-loop-current-preserved-in-Ok-begin c = stepped c.loop-current.invariant c.in-Steps.is c.in-Ok-push.ensures (c.in-Ok-begin.ensures.dialog (defs_term c.args.tables.now.defs)) (c.in-Ok-begin.ensures.weight (defs_term c.args.tables.now.defs))
+loop-current-preserved-in-Ok-begin c = stepped c.loop-current.invariant c.in-Steps.is c.in-Ok-push.ensures c.in-Ok-begin.ensures.dialog c.in-Ok-begin.ensures.weight
 
 pub loop-current-preserved : goal.loop-current-preserved
-loop-current-preserved c = went c.loop-current.invariant c.in-Goes.is (c.in-Ok-begin-2.ensures.dialog (defs_term c.args.tables.now.defs)) (c.in-Ok-begin-2.ensures.weight (defs_term c.args.tables.now.defs))
+loop-current-preserved c = went c.loop-current.invariant c.in-Goes.is c.in-Ok-begin-2.ensures.dialog c.in-Ok-begin-2.ensures.weight

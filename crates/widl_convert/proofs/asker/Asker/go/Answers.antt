@@ -5,4 +5,4 @@ use Rattle.widl_convert.proofs.asker.Asker.go.Goals as goal
 
 pub returns-in-Waits-clause-goes : goal.returns-in-Waits-clause-goes
 returns-in-Waits-clause-goes c =
-    resumed (defs_term c.args.tables.now.defs) c.args.self.now c.wait.new.self (answer_term c.args.answer) c.in-Ok.first c.in-Waits.asking c.settle.new.frames c.wait.result c.replace-state.ensures.value (c.in-Ok.ensures.dialog (defs_term c.args.tables.now.defs)) c.in-Waits.ensures.0 c.in-Waits.asking.fits c.wait.ensures.state c.wait.ensures.frames c.wait.ensures.ask
+    resumed (defs_term c.args.tables.now.defs) c.args.self.now c.wait.new.self (answer_term c.args.answer) c.in-Ok.first c.in-Waits.asking c.settle.new.frames c.wait.result c.replace-state.ensures.value c.in-Ok.ensures.dialog c.in-Waits.ensures.0 c.in-Waits.asking.fits c.wait.ensures.state c.wait.ensures.frames c.wait.ensures.ask

@@ -1,0 +1,13 @@
+-- For proofs and contracts alone; no step names these words. The kind of the ask whose answer a suspended call waits for.
+use Rattle.widl_convert.specs.declared.asker.Asker.{Asker}
+use Rattle.widl_convert.specs.AskTerms.{AskKind, OfGet, OfKind, OfUnit, OfNote}
+use Rattle.widl_calls.specs.declared.waits.CallWait.{CallWait}
+use Rattle.widl_calls.specs.declared.waits.CallWait.TheVariants as waits
+use Rattle.widl_calls.specs.Kinds.{kind_in}
+
+abbrev pub call_kind_for : CallWait → AskKind
+call_kind_for (waits.Inside i) = kind_in i.asker
+call_kind_for (waits.Noted overload read) = OfNote
+call_kind_for (waits.Line overload read) = OfUnit
+call_kind_for (waits.Tag o) = OfGet
+call_kind_for waits.Kind = OfKind

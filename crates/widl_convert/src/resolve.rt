@@ -1,0 +1,271 @@
+//! The choice of an overload, with the conversion of the arguments.
+
+ghost use Rattle.std.specs.Prelude.{◌≡◌, ◌≤◌, ◌<◌, ◌+◌, ◌∷◌, [], length, false, true, IfOk, None, Some};
+ghost use Rattle.widl_dialog.specs.Dialog.{Say, Steps};
+ghost use Rattle.widl_idl.specs.DefinitionTerms.{DefsTerm, defs_term};
+ghost use Rattle.widl_value.specs.Classes.{class_of};
+ghost use Rattle.widl_value.specs.IdlTerms.{idl_term, idl_terms};
+ghost use Rattle.widl_tables.specs.Kept.{declared_args, entry_for, optionality_at};
+ghost use Rattle.widl_tables.specs.Picks.{pick_of};
+ghost use Rattle.widl_tables.specs.Tests.{is_optional};
+ghost use Rattle.widl_convert.specs.AskTerms.{GetAsk};
+ghost use Rattle.widl_convert.specs.Built.{built_today};
+ghost use Rattle.widl_convert.specs.Entries.{IsAtPlace, entries_left, entry_in, left_from, place_in, sole};
+ghost use Rattle.widl_convert.specs.Frames.{idl_to, job_of, move_dialog, probe_to, taken};
+ghost use Rattle.widl_convert.specs.Loads.{default_load, idl_frame_load, load, taken_load, weight};
+ghost use Rattle.widl_convert.specs.Sequences.{iterator_symbol};
+ghost use Rattle.widl_convert.specs.Resolution.{argument, argument_given, argument_task, of_several, picked, resolve, without_method};
+ghost use Rattle.widl_convert.specs.Rules.{rule};
+ghost use Rattle.widl_convert.specs.Tasks.{Resolve};
+ghost use Rattle.widl_convert.specs.Words.{fails, normal, object};
+
+use crate::ask::Ask;
+use crate::convert::not_built;
+use crate::defaults::after_last;
+use crate::entry::standing;
+use crate::frames::{Frame, IdlFrame};
+use crate::jobs::{ArgumentPlace, Job};
+use crate::moves::{Asking, Ending, Move};
+use crate::resolution::{Call, Probe, Resolution};
+use crate::waits::{ValueWait, Wait};
+use std::alloc::{AllocError, Global};
+use widl_idl::Optionality;
+use widl_tables::{Pick, Tables, kept, pick_overload};
+use widl_text::Key;
+use widl_trace::Code;
+use widl_value::{IdlValue, IdlValues, ObjRef, Shape, Value};
+
+/// The symbol `@iterator`.
+const ITERATOR: u32 = 0;
+
+/// The first move of the choice of an overload.
+///
+/// # Errors
+///
+/// `AllocError` where there is no memory.
+pub(crate) fn resolve(alloc: Global, tables: &Tables, call: Call) -> Result<Move, AllocError>
+    ensures dialog { IfOk result (λ m. move_dialog (defs_term tables.now.defs) m ≡ resolve (defs_term tables.now.defs) call.callee call.args) }
+    ensures weight { IfOk result (λ m. weight (defs_term tables.now.defs) m ≤ load (defs_term tables.now.defs) (Resolve call.callee call.args)) }
+{
+    let Call { callee, args } = call;
+    let kept = kept(alloc, tables.list().defs(), &callee, args.len() as u32)?;
+    if kept.overloads.len() == 0 {
+        return Ok(throws(Code::NoOverload));
+    }
+    let overload = sole(kept.overloads.as_slice());
+    Ok(Move::Goes(Job::Arguments(Resolution {
+        kept,
+        overload,
+        args,
+        made: IdlValues::new(alloc),
+    })))
+}
+
+/// The one of the overloads, where there is one alone.
+fn sole(overloads: &[u32]) -> Option<u32>
+    ensures { result ≡ sole overloads.now }
+{
+    match overloads {
+        [overload] => Some(*overload),
+        _ => None,
+    }
+}
+
+/// The end with a new TypeError.
+fn throws(reason: Code) -> Move
+    ensures dialog { (list : DefsTerm) → move_dialog list result ≡ fails reason }
+    ensures weight { (list : DefsTerm) → weight list result ≡ 0 }
+{
+    Move::Gives(Ending::Throw(reason))
+}
+
+/// The move from one argument to the next.
+pub(crate) fn arguments(tables: &Tables, resolution: Resolution) -> Move
+    ensures dialog { move_dialog (defs_term tables.now.defs) result ≡ rule built_today (defs_term tables.now.defs) (job_of (defs_term tables.now.defs) (Job.Arguments resolution)) }
+    ensures weight { weight (defs_term tables.now.defs) result ≤ load (defs_term tables.now.defs) (job_of (defs_term tables.now.defs) (Job.Arguments resolution)) }
+{
+    let mut resolution = resolution;
+    let place = resolution.made.len();
+    let count = resolution.args.len().min(resolution.kept.argcount as usize);
+    if place >= count {
+        return after_last(resolution);
+    }
+    let value = resolution.args.replace(place, Value::Undefined);
+    match resolution.overload {
+        Some(overload) => argument(tables, resolution, overload, value),
+        None => of_several(tables, resolution, value),
+    }
+}
+
+/// The move to an argument that was taken, by the entry of an overload.
+fn argument(tables: &Tables, resolution: Resolution, overload: u32, value: Value) -> Move
+    ensures dialog { move_dialog (defs_term tables.now.defs) result ≡ Steps (argument_task (defs_term tables.now.defs) resolution.kept.callee (entry_in (defs_term tables.now.defs) resolution.kept overload) (length (idl_terms resolution.made)) value) (argument_given resolution.kept.callee (entries_left (defs_term tables.now.defs) resolution.kept resolution.overload) (place_in resolution.kept) (left_from (length (idl_terms resolution.made) + 1) resolution.kept resolution.args) (idl_terms resolution.made)) }
+    ensures weight { weight (defs_term tables.now.defs) result ≤ taken_load (defs_term tables.now.defs) resolution }
+{
+    let job = argument_job(tables, &resolution, overload, value);
+    Move::Steps(Frame::Idl(IdlFrame::Argument(resolution)), job)
+}
+
+/// What is done with an argument: where it is undefined, an optional one gives its default value.
+fn argument_job(tables: &Tables, resolution: &Resolution, overload: u32, value: Value) -> Job
+    ensures task { job_of (defs_term tables.now.defs) result ≡ argument_task (defs_term tables.now.defs) resolution.now.kept.callee (entry_in (defs_term tables.now.defs) resolution.now.kept overload) (length (idl_terms resolution.now.made)) value }
+    ensures load { load (defs_term tables.now.defs) (job_of (defs_term tables.now.defs) result) ≤ default_load }
+{
+    let kept = &resolution.kept;
+    let at = ArgumentPlace {
+        callee: kept.callee,
+        overload,
+        place: resolution.made.len(),
+    };
+    match value {
+        Value::Undefined => if is_optional(tables, at, kept.argcount) {
+            Job::Default(at)
+        } else {
+            Job::Argument {
+                at,
+                length: kept.argcount,
+                value: Value::Undefined,
+            }
+        },
+        value => Job::Argument {
+            at,
+            length: kept.argcount,
+            value,
+        },
+    }
+}
+
+/// Whether the argument at a place of an entry of a length is optional.
+fn is_optional(tables: &Tables, at: ArgumentPlace, length: u32) -> bool
+    ensures { result ≡ is_optional (optionality_at (entry_for at.overload (declared_args (defs_term tables.now.defs) at.callee at.overload) length) at.place) }
+{
+    match standing(tables.list().defs(), at, length) {
+        None => false,
+        Some(standing) => standing.opt == Optionality::Optional,
+    }
+}
+
+/// The move to an argument that was taken where several entries are left.
+fn of_several(tables: &Tables, resolution: Resolution, value: Value) -> Move
+    requires { resolution.overload ≡ None }
+    ensures dialog { move_dialog (defs_term tables.now.defs) result ≡ taken (of_several built_today) (defs_term tables.now.defs) resolution value }
+    ensures weight { weight (defs_term tables.now.defs) result ≤ taken_load (defs_term tables.now.defs) resolution }
+{
+    if resolution.made.len() == resolution.kept.place.unwrap_or(0) as usize {
+        picked(tables, resolution, value)
+    } else {
+        by_first(tables, resolution, value)
+    }
+}
+
+/// The move to an argument below the place that tells the entries apart: they agree there, and the first
+/// of them takes it.
+fn by_first(tables: &Tables, resolution: Resolution, value: Value) -> Move
+    requires { resolution.overload ≡ None }
+    ensures dialog { move_dialog (defs_term tables.now.defs) result ≡ taken argument (defs_term tables.now.defs) resolution value }
+    ensures weight { weight (defs_term tables.now.defs) result ≤ taken_load (defs_term tables.now.defs) resolution }
+{
+    let first = *resolution.kept.overloads.at(0);
+    argument(tables, resolution, first, value)
+}
+
+/// The move to the argument at the place that tells the entries apart.
+fn picked(tables: &Tables, resolution: Resolution, value: Value) -> Move
+    requires { IsAtPlace resolution.kept resolution.overload (length (idl_terms resolution.made)) }
+    ensures dialog { move_dialog (defs_term tables.now.defs) result ≡ picked built_today (defs_term tables.now.defs) resolution.kept.callee (entries_left (defs_term tables.now.defs) resolution.kept resolution.overload) (place_in resolution.kept) value (left_from (length (idl_terms resolution.made) + 1) resolution.kept resolution.args) (idl_terms resolution.made) (pick_of (defs_term tables.now.defs) (entries_left (defs_term tables.now.defs) resolution.kept resolution.overload) (place_in resolution.kept) (class_of value) false) }
+    ensures weight { weight (defs_term tables.now.defs) result ≤ taken_load (defs_term tables.now.defs) resolution }
+{
+    match pick_overload(tables.list().defs(), &resolution.kept, value.class(), false) {
+        Pick::Entry(overload) => by_alone(tables, resolution, overload, value),
+        Pick::Probe(_) => probe(resolution, value),
+        Pick::Refuse => throws(Code::NoMatch),
+    }
+}
+
+/// The move to an argument that was taken, by the entry of an overload that is left alone.
+fn by_alone(tables: &Tables, resolution: Resolution, overload: u32, value: Value) -> Move
+    ensures dialog { move_dialog (defs_term tables.now.defs) result ≡ argument (defs_term tables.now.defs) resolution.kept.callee (entry_in (defs_term tables.now.defs) resolution.kept overload ∷ []) (place_in resolution.kept) value (left_from (length (idl_terms resolution.made) + 1) resolution.kept resolution.args) (idl_terms resolution.made) }
+    ensures weight { weight (defs_term tables.now.defs) result ≤ taken_load (defs_term tables.now.defs) resolution }
+{
+    argument(tables, alone(resolution, overload), overload, value)
+}
+
+/// The same choice, with an overload alone.
+fn alone(resolution: Resolution, overload: u32) -> Resolution
+    ensures kept { result.kept ≡ resolution.kept }
+    ensures overload { result.overload ≡ Some overload }
+    ensures args { result.args ≡ resolution.args }
+    ensures made { result.made ≡ resolution.made }
+{
+    let Resolution {
+        kept,
+        overload: _,
+        args,
+        made,
+    } = resolution;
+    Resolution {
+        kept,
+        overload: Some(overload),
+        args,
+        made,
+    }
+}
+
+/// The ask for the method `@iterator` of the argument.
+fn probe(resolution: Resolution, value: Value) -> Move
+    requires { IsAtPlace resolution.kept resolution.overload (length (idl_terms resolution.made)) }
+    ensures dialog { (list : DefsTerm) → move_dialog list result ≡ object Code.NoMatch (λ o. Say (GetAsk o (Key.Sym iterator_symbol)) (normal (probe_to list resolution o))) value }
+    ensures weight { (list : DefsTerm) → weight list result ≡ 0 }
+{
+    match value {
+        Value::Obj(obj) => Move::Asks(Asking {
+            ask: Ask::Get {
+                obj,
+                key: Key::Sym(ITERATOR),
+            },
+            wait: Wait::Value(ValueWait::Probe(Probe { resolution, obj })),
+        }),
+        _ => throws(Code::NoMatch),
+    }
+}
+
+/// The move after the method `@iterator` of the argument was read.
+pub(crate) fn probed(tables: &Tables, probe: Probe, found: Value) -> Move
+    ensures { move_dialog (defs_term tables.now.defs) result ≡ probe_to (defs_term tables.now.defs) probe.resolution probe.obj found }
+{
+    match found {
+        Value::Undefined => without_method(tables, probe),
+        Value::Null => without_method(tables, probe),
+        Value::Obj(f) => match f.shape {
+            Shape::Callable => not_built(),
+            _ => throws(Code::NotCallable),
+        },
+        _ => throws(Code::NotCallable),
+    }
+}
+
+/// The move where the argument has no such method: the later tests decide.
+fn without_method(tables: &Tables, probe: Probe) -> Move
+    ensures { move_dialog (defs_term tables.now.defs) result ≡ without_method (defs_term tables.now.defs) probe.resolution.kept.callee (entries_left (defs_term tables.now.defs) probe.resolution.kept probe.resolution.overload) (place_in probe.resolution.kept) (Value.Obj probe.obj) (left_from (length (idl_terms probe.resolution.made) + 1) probe.resolution.kept probe.resolution.args) (idl_terms probe.resolution.made) (pick_of (defs_term tables.now.defs) (entries_left (defs_term tables.now.defs) probe.resolution.kept probe.resolution.overload) (length (idl_terms probe.resolution.made)) (class_of (Value.Obj probe.obj)) true) }
+{
+    let Probe { resolution, obj } = probe;
+    let value = Value::Obj(obj);
+    match pick_overload(tables.list().defs(), &resolution.kept, value.class(), true) {
+        Pick::Entry(overload) => by_alone(tables, resolution, overload, value),
+        _ => throws(Code::NoMatch),
+    }
+}
+
+/// The move after the IDL value of the argument that was taken last.
+///
+/// # Errors
+///
+/// `AllocError` where there is no memory.
+pub(crate) fn with_argument(resolution: Resolution, value: IdlValue) -> Result<Move, AllocError>
+    ensures dialog { IfOk result (λ m. (list : DefsTerm) → move_dialog list m ≡ idl_to list (IdlFrame.Argument resolution) (idl_term value)) }
+    ensures weight { IfOk result (λ m. (list : DefsTerm) → weight list m < idl_frame_load list (IdlFrame.Argument resolution)) }
+{
+    let mut resolution = resolution;
+    resolution.made.push(value)?;
+    Ok(Move::Goes(Job::Arguments(resolution)))
+}
