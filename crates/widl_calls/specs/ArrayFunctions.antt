@@ -1,7 +1,7 @@
 -- The functions of Array.prototype and of iterators that make an array iterable.
 -- Source: ECMA-262, Array.prototype.values, CreateArrayIterator, %ArrayIteratorPrototype%.next, %IteratorPrototype%[@@iterator],
 -- CreateIterResultObject.
-use Rattle.std.specs.Prelude.{ℕ, ◌+◌, Bool, true, false, if◌then◌else◌, nat_lt, List, [], ◌∷◌, Option, None, Some, codes, decimal}
+use Rattle.std.specs.Prelude.{ℕ, ◌+◌, Bool, true, false, if◌then◌else◌, nat_lt, [], ◌∷◌, Option, None, Some, codes, decimal}
 use Rattle.widl_dialog.specs.Dialog.{End, Say, Steps}
 use Rattle.widl_text.specs.declared.key.Key.TheVariants as keys
 use Rattle.widl_value.specs.declared.object.ObjRef.{ObjRef}
@@ -14,7 +14,7 @@ use Rattle.widl_trace.specs.declared.code.Code.TheVariants as code
 use Rattle.widl_convert.specs.declared.answer.CursorState.{CursorState}
 use Rattle.widl_convert.specs.declared.answer.CursorState.TheVariants as cursors
 use Rattle.widl_convert.specs.declared.outcome.Want.TheVariants as wants
-use Rattle.widl_convert.specs.AskTerms.{GetAsk, NewObjectAsk, NewArrayIteratorAsk, CursorAsk, SetCursorAsk, AnswerTerm, NormalAnswer, ThrownAnswer, CursorAnswer}
+use Rattle.widl_convert.specs.AskTerms.{GetAsk, NewObjectAsk, NewArrayIteratorAsk, CursorAsk, SetCursorAsk, AnswerTerm, ThrownAnswer, CursorAnswer}
 use Rattle.widl_convert.specs.Tasks.{Scalar, TaskEnd, Throw, Rethrow}
 use Rattle.widl_convert.specs.Words.{returns, fails, primitive_this, done, normal, object, number}
 use Rattle.widl_calls.specs.CallTasks.{Of, CallTalk}

@@ -1,5 +1,5 @@
 -- What the steps of containers ask themselves, at most.
-use Rattle.std.proofs.Common.{◌≡◌, ℕ, Bool, true, false, if◌then◌else◌, List, [], ◌∷◌, ◌++◌, Option, None, Some, refl}
+use Rattle.std.proofs.Common.{◌≡◌, ℕ, false, if◌then◌else◌, List, [], ◌∷◌, ◌++◌, refl}
 use Rattle.std.specs.Prelude.{codes}
 use mathlib.Core.Logic.{inl, inr}
 use Rattle.widl_dialog.specs.Dialog.{End, Say, Steps}
@@ -16,7 +16,7 @@ use Rattle.widl_scalar.specs.Primitives.{truth_of}
 use Rattle.widl_convert.specs.AskTerms.{AskTerm, AnswerTerm, GetAsk, CallAsk, OwnKeysAsk, OwnAsk}
 use Rattle.widl_convert.specs.Built.{Built}
 use Rattle.widl_convert.specs.ContainerLaws.{AsksAtMost, IsGet, IsFromMethod, AreFirstTurns, IsElementOrTurns, SequencesAskOnce, AreEntries, IsConversionOrEntries, RecordsAskOnce}
-use Rattle.widl_convert.specs.Records.{is_enumerable, flags_in, keys_in, key_value, named, with_entry, entry_value, entries, to_record}
+use Rattle.widl_convert.specs.Records.{is_enumerable, flags_in, keys_in, key_value, with_entry, entry_value, entries, to_record}
 use Rattle.widl_convert.specs.Sequences.{iterator_symbol, element, told_done, turn_given, turns, with_next, with_iterator, sequence_from, found_iterator_method, to_sequence}
 use Rattle.widl_convert.specs.Tasks.{Task, Convert, SequenceFrom, Turns, Entries, TaskEnd, Talk}
 use Rattle.widl_convert.specs.Words.{normal, given}

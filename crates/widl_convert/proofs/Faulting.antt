@@ -4,9 +4,8 @@ use Rattle.std.specs.Prelude.{ℤ, nat_eq, slice_get}
 use Rattle.std.specs.Option.{option_and_then}
 use Rattle.std.specs.declared.result.Result.TheVariants as results
 use Rattle.widl_dialog.specs.Dialog.{End, Say, Steps, bind}
-use Rattle.widl_dialog.specs.Conversation.{Next, Asks, Ends, Reads, Comes}
+use Rattle.widl_dialog.specs.Conversation.{Asks, Ends, Reads, Comes}
 use Rattle.widl_text.specs.declared.key.Key.{Key}
-use Rattle.widl_idl.specs.declared.argument.Optionality.{Optionality}
 use Rattle.widl_idl.specs.declared.callee.Callee.{Callee}
 use Rattle.widl_idl.specs.declared.literal.Literal.{Literal}
 use Rattle.widl_idl.specs.declared.literal.Literal.TheVariants as literals
@@ -19,8 +18,6 @@ use Rattle.widl_overload.specs.Sets.{TupleTerm, is_variadic}
 use Rattle.widl_value.specs.Classes.{class_of}
 use Rattle.widl_value.specs.declared.number.Number.{Number}
 use Rattle.widl_value.specs.declared.object.ObjRef.{ObjRef}
-use Rattle.widl_value.specs.declared.object.Shape.{Shape}
-use Rattle.widl_value.specs.declared.object.Shape.TheVariants as shapes
 use Rattle.widl_value.specs.declared.value.Value.{Value}
 use Rattle.widl_value.specs.declared.value.Value.TheVariants as values
 use Rattle.widl_value.specs.IdlTerms.{IdlTerm, IdlTerms, no_values, more_values, UndefinedValue, NullValue, MissingValue, BooleanValue, IntegerValue, StringValue, EnumerationValue, ObjectValue, AnyValue, SequenceValue, RecordValue, DictionaryValue, PromiseValue}
@@ -36,14 +33,14 @@ use Rattle.widl_trace.specs.declared.code.Code.{Code}
 use Rattle.widl_trace.specs.declared.code.Code.TheVariants as code
 use Rattle.widl_tables.specs.declared.pick.Pick.{Pick}
 use Rattle.widl_tables.specs.declared.pick.Pick.TheVariants.{Entry, Probe, Refuse}
-use Rattle.widl_tables.specs.Kept.{argcount_of, declared_args, entry_alone, kept_tuples, telling_place, type_at, optionality_at}
+use Rattle.widl_tables.specs.Kept.{declared_args, entry_alone, telling_place, type_at}
 use Rattle.widl_tables.specs.Picks.{pick_of, pick_member_of}
 use Rattle.widl_tables.specs.Tests.{is_null_or_undefined}
 use Rattle.widl_convert.specs.declared.hint.Hint.{Hint}
 use Rattle.widl_convert.specs.declared.hint.Hint.TheVariants.{PrefersNumber, PrefersString}
 use Rattle.widl_convert.specs.declared.outcome.Want.{Want}
 use Rattle.widl_convert.specs.declared.outcome.Want.TheVariants as wants
-use Rattle.widl_convert.specs.AskTerms.{AskTerm, UnitAsk, OwnKeysAsk, OwnAsk, AnswerTerm, ThrownAnswer, NormalAnswer, BeginAnswer, DoneAnswer, KindAnswer, KeysAnswer, OwnAnswer, CursorAnswer, Fits}
+use Rattle.widl_convert.specs.AskTerms.{AskTerm, UnitAsk, OwnKeysAsk, OwnAsk, AnswerTerm, ThrownAnswer, Fits}
 use Rattle.widl_convert.specs.Built.{Built}
 use Rattle.widl_convert.specs.Defaults.{default, literal_value, defaults_from}
 use Rattle.widl_convert.specs.Dictionaries.{with_value, undefined_member, member_value, member, members, to_dictionary}
@@ -57,10 +54,10 @@ use Rattle.widl_convert.specs.Results.{entry_names, entry_items, member_names, m
 use Rattle.widl_convert.specs.Rules.{rule}
 use Rattle.widl_convert.specs.Scalars.{to_number, to_text, to_scalar, integer_result, string_result, is_bytes, to_string, null_or_string, enumeration_result, to_type}
 use Rattle.widl_convert.specs.Sequences.{element, told_done, turn_given, turns, with_next, with_iterator, sequence_from, found_iterator_method, to_sequence, element_of, element_within}
-use Rattle.widl_convert.specs.Tasks.{Container, ArrayOf, ObjectOf, Task, Primitive, Scalar, Convert, SequenceFrom, Turns, Entries, Members, Resolve, Arguments, Default, Defaults, Out, OutItems, OutUnits, TaskEnd, Gives, Plain, Picks, Throw, Rethrow, Profile, Talk, TalkOf}
+use Rattle.widl_convert.specs.Tasks.{Container, ArrayOf, ObjectOf, Task, Primitive, Scalar, Convert, SequenceFrom, Turns, Entries, Members, Resolve, Arguments, Default, Defaults, Out, OutItems, OutUnits, TaskEnd, Rethrow, Talk, TalkOf}
 use Rattle.widl_convert.specs.Unions.{to_member, without_iterator, member_from, member_probed, member_picked}
 use Rattle.widl_convert.proofs.WordCases.{of_if, of_normal, of_object, of_object_or, of_callable, of_method, of_given, of_returned, of_number, of_text, of_named}
-use Rattle.widl_convert.specs.Words.{returns, fails, normal, object, object_or, if_callable, callable_or, method_or, given, returned, number, text}
+use Rattle.widl_convert.specs.Words.{returns, fails, normal, object, object_or, callable_or, method_or, given, returned, number, text}
 
 -- 1. Generic: of steps that pass on what is thrown
 

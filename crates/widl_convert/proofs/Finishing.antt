@@ -28,7 +28,6 @@ use Rattle.widl_overload.specs.Sets.{TupleTerm, is_variadic}
 use Rattle.widl_value.specs.Classes.{class_of}
 use Rattle.widl_value.specs.declared.number.Number.{Number}
 use Rattle.widl_value.specs.declared.object.ObjRef.{ObjRef}
-use Rattle.widl_value.specs.declared.object.Shape.{Shape}
 use Rattle.widl_value.specs.declared.object.Shape.TheVariants as shapes
 use Rattle.widl_value.specs.declared.value.Value.{Value}
 use Rattle.widl_value.specs.declared.value.Value.TheVariants as values
@@ -56,7 +55,7 @@ use Rattle.widl_convert.specs.declared.hint.Hint.{Hint}
 use Rattle.widl_convert.specs.declared.hint.Hint.TheVariants.{PrefersNumber, PrefersString}
 use Rattle.widl_convert.specs.declared.outcome.Want.{Want}
 use Rattle.widl_convert.specs.declared.outcome.Want.TheVariants as wants
-use Rattle.widl_convert.specs.AskTerms.{AskTerm, UnitAsk, OwnKeysAsk, OwnAsk, AnswerTerm, BeginAnswer, DoneAnswer, NormalAnswer, ThrownAnswer, KindAnswer, KeysAnswer, OwnAnswer, CursorAnswer, Fits}
+use Rattle.widl_convert.specs.AskTerms.{AskTerm, UnitAsk, OwnKeysAsk, OwnAsk, AnswerTerm, DoneAnswer, NormalAnswer, ThrownAnswer, KeysAnswer, OwnAnswer, Fits}
 use Rattle.widl_convert.specs.Built.{Built}
 use Rattle.widl_convert.specs.Defaults.{default, literal_value, defaults_from}
 use Rattle.widl_convert.specs.Dictionaries.{with_value, undefined_member, member_value, member, members, to_dictionary}
@@ -65,16 +64,16 @@ use Rattle.widl_convert.specs.MemberOrder.{DeclaredMember, members_in_order}
 use Rattle.widl_convert.specs.Nullables.{to_nullable}
 use Rattle.widl_convert.specs.Primitives.{tried, found_ordinary, try_method, ordinary, primitive_result, found_method, object_to_primitive, to_primitive}
 use Rattle.widl_convert.specs.Resolution.{with_entries, default_at, takes_default, argument_task, argument, without_method, looked_for, sequence_given, from_method, probed, picked, of_several}
-use Rattle.widl_convert.specs.Records.{is_enumerable, flags_in, keys_in, key_value, named, with_entry, entry_value, own_entry, entries, to_record}
+use Rattle.widl_convert.specs.Records.{is_enumerable, flags_in, keys_in, key_value, with_entry, entry_value, own_entry, entries, to_record}
 use Rattle.widl_convert.specs.Results.{entry_names, entry_items, member_names, member_items, container_ask, item_task, out_items, out_units, to_script}
 use Rattle.widl_convert.specs.Rules.{rule}
 use Rattle.widl_convert.specs.Scalars.{to_number, to_text, to_scalar, integer_result, string_result, is_bytes, to_string, null_or_string, enumeration_result, to_integer, to_enumeration, to_type, convert}
 use Rattle.widl_convert.specs.Sequences.{element, told_done, turn_given, turns, with_next, with_iterator, sequence_from, found_iterator_method, to_sequence, element_of, element_within}
-use Rattle.widl_convert.specs.Tasks.{Container, ArrayOf, ObjectOf, OutItems, OutUnits, SequenceFrom, Turns, Entries, Members, Task, Primitive, Scalar, Convert, Resolve, Arguments, Default, Defaults, Out, TaskEnd, Gives, Plain, Picks, Throw, Rethrow, Profile, Talk, TalkOf}
+use Rattle.widl_convert.specs.Tasks.{Container, ArrayOf, ObjectOf, OutItems, OutUnits, SequenceFrom, Turns, Entries, Members, Task, Primitive, Scalar, Convert, Resolve, Arguments, Default, Defaults, Out, TaskEnd, Gives, Plain, Throw, Rethrow, Talk, TalkOf}
 use Rattle.widl_convert.specs.Unions.{to_member, without_iterator, member_from, member_probed, member_picked, to_union}
 use Rattle.widl_convert.proofs.WordCases.{of_if, of_normal, of_object, of_object_or, of_callable, of_method, of_given, of_returned, of_number, of_text, of_named}
 use Rattle.widl_convert.proofs.MemberChains.{HeldBy, all_held, all_weaker}
-use Rattle.widl_convert.specs.Words.{returns, fails, not_built, normal, object, object_or, if_callable, callable_or, method_or, given, returned, number, text}
+use Rattle.widl_convert.specs.Words.{returns, fails, not_built, normal, object, object_or, callable_or, method_or, given, returned, number, text}
 
 -- 1. The words, for all sets of tasks
 

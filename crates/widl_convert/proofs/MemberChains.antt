@@ -8,7 +8,7 @@ use mathlib.Core.Logic.{inl, inr}
 use Rattle.widl_graph.specs.Reaching.{Reaches, one, Step}
 use Rattle.widl_graph.proofs.Reach.{after_step}
 use Rattle.widl_idl.specs.DefinitionTerms.{DefsTerm, DictTerm, MemberTerm}
-use Rattle.widl_overload.specs.Dictionaries.{HoldsIn, IsOfLine, dictionaries_in, dictionaries_of_members, dictionary_parents}
+use Rattle.widl_overload.specs.Dictionaries.{HoldsIn, IsOfLine, dictionaries_in, dictionary_parents}
 use Rattle.widl_convert.specs.MemberOrder.{DeclaredMember, parent_in, line_within, line_of, declared_from, declared_by, comes_after, with_member, by_name, members_in_order}
 
 -- 1. Generic

@@ -1,18 +1,18 @@
 -- Of a dictionary's object each member is read once, in their order.
-use Rattle.std.proofs.Common.{◌≡◌, ℕ, zero, suc, Bool, true, false, if◌then◌else◌, List, [], ◌∷◌, ◌++◌, Option, None, Some, refl, sym, ap, subst, ◌∙◌}
-use Rattle.widl_dialog.specs.Dialog.{End, Say, Steps, bind}
-use Rattle.widl_dialog.specs.Conversation.{Next, Asks, Ends, Reads, Comes, Parts}
+use Rattle.std.proofs.Common.{◌≡◌, ℕ, zero, suc, Bool, true, false, if◌then◌else◌, List, [], ◌∷◌, ◌++◌, Option, None, Some, refl, subst, ◌∙◌}
+use Rattle.widl_dialog.specs.Dialog.{End, Steps}
+use Rattle.widl_dialog.specs.Conversation.{Ends, Reads, Comes, Parts}
 use Rattle.widl_dialog.proofs.Bind.{bind_end}
 use Rattle.widl_dialog.proofs.Nexts.{splits}
 use Rattle.widl_text.specs.declared.key.Key.TheVariants as keys
 use Rattle.widl_idl.specs.declared.literal.Literal.{Literal}
 use Rattle.widl_idl.specs.DefinitionTerms.{DefsTerm}
-use Rattle.widl_idl.specs.Terms.{TypeTerm, DictionaryType}
+use Rattle.widl_idl.specs.Terms.{DictionaryType}
 use Rattle.widl_value.specs.declared.object.ObjRef.{ObjRef}
 use Rattle.widl_value.specs.declared.value.Value.{Value}
 use Rattle.widl_value.specs.declared.value.Value.TheVariants as values
 use Rattle.widl_value.specs.IdlTerms.{IdlTerm}
-use Rattle.widl_convert.specs.AskTerms.{AskTerm, AnswerTerm, GetAsk, BeginAnswer, DoneAnswer, NormalAnswer, ThrownAnswer, KindAnswer, KeysAnswer, OwnAnswer, CursorAnswer, Fits}
+use Rattle.widl_convert.specs.AskTerms.{AnswerTerm, GetAsk, BeginAnswer, DoneAnswer, NormalAnswer, ThrownAnswer, KindAnswer, KeysAnswer, OwnAnswer, CursorAnswer, Fits}
 use Rattle.widl_convert.specs.Built.{Built}
 use Rattle.widl_convert.specs.ContainerLaws.{IsMemberTalk, converted, defaulted, left_out, ReadsInOrder, MembersAreReadInOrder}
 use Rattle.widl_trace.specs.declared.code.Code.TheVariants as code

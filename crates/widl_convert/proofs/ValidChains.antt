@@ -1,15 +1,13 @@
 -- Over the list of a valid set of files no chain of more dictionaries begins than may be.
-use Rattle.std.proofs.Common.{◌≡◌, ℕ, zero, suc, ◌+◌, ◌⊎◌, List, [], ◌∷◌, Option, None, Some, refl, sym, subst, arith}
+use Rattle.std.proofs.Common.{◌≡◌, ℕ, zero, suc, ◌+◌, ◌⊎◌, List, [], ◌∷◌, Some, refl, sym, subst, arith}
 use Rattle.std.specs.Prelude.{slice_get}
 use mathlib.Core.Logic.{inl, inr}
 use Rattle.widl_text.specs.Limits.{most_chained_dictionaries}
 use Rattle.widl_graph.specs.Reaching.{Reaches, one, more, Step}
-use Rattle.widl_idl.specs.DefinitionTerms.{DefsTerm, DictTerm, defs_term}
+use Rattle.widl_idl.specs.DefinitionTerms.{DictTerm}
 use Rattle.widl_idl.specs.First.{violation_at}
-use Rattle.widl_idl.specs.MergedSets.{MergedSet}
 use Rattle.widl_overload.specs.declared.validity_rule.ValidityRule.TheVariants as rule
 use Rattle.widl_overload.specs.Dictionaries.{BeginsChain, alone, after, HoldsIn, IsOfLine, dictionary_parents, dictionary_terms}
-use Rattle.widl_overload.specs.Validity.{IsValid}
 use Rattle.widl_convert.specs.Laws.{ValidChainsEnd}
 
 module _ (dicts : List DictTerm) where

@@ -1,11 +1,10 @@
 -- The laws of containers: what their own steps ask, in which order, and the order of a dictionary's members. The functions of `laws` have them as
 -- contracts.
 -- Source: this program's own.
-use Rattle.std.specs.Prelude.{◌≡◌, ◌⊎◌, ℕ, true, false, List, [], ◌∷◌, ◌++◌, Option, Some, codes}
+use Rattle.std.specs.Prelude.{◌≡◌, ◌⊎◌, ℕ, true, false, List, [], ◌∷◌, ◌++◌, Some, codes}
 use Rattle.std.specs.Cmp.Lexicographic.{slice_cmp}
 use Rattle.std.specs.List.Sorted.{IsPermutation, IsSortedByKey}
 use Rattle.std.specs.Ordering.{nat_cmp}
-use Rattle.widl_dialog.specs.Conversation.{Next, Ends}
 use Rattle.widl_dialog.specs.Dialog.{End, Say, Steps}
 use Rattle.widl_text.specs.declared.key.Key.{Key}
 use Rattle.widl_text.specs.declared.key.Key.TheVariants as keys
@@ -23,7 +22,7 @@ use Rattle.widl_convert.specs.Laws.{Said, IsTalk}
 use Rattle.widl_convert.specs.MemberOrder.{DeclaredMember, by_name, members_in_order}
 use Rattle.widl_convert.specs.Rules.{rule}
 use Rattle.widl_convert.specs.Sequences.{iterator_symbol}
-use Rattle.widl_convert.specs.Tasks.{Task, Convert, SequenceFrom, Turns, Entries, Members, Default, TaskEnd, Gives, Talk}
+use Rattle.widl_convert.specs.Tasks.{Task, Convert, SequenceFrom, Turns, Entries, Default, TaskEnd, Gives, Talk}
 
 -- 1. What steps ask themselves, without the tasks that they go through
 

@@ -1,6 +1,6 @@
 -- Values of the script to dictionaries.
 -- Source: Web IDL, "Dictionary types" (JavaScript binding).
-use Rattle.std.specs.Prelude.{ℕ, Bool, if◌then◌else◌, List, [], ◌∷◌, ◌++◌, Option, None, Some}
+use Rattle.std.specs.Prelude.{ℕ, if◌then◌else◌, List, [], ◌∷◌, ◌++◌, Option, None, Some}
 use Rattle.widl_dialog.specs.Dialog.{End, Say, Steps}
 use Rattle.widl_text.specs.declared.key.Key.TheVariants as keys
 use Rattle.widl_idl.specs.declared.literal.Literal.{Literal}

@@ -1,6 +1,6 @@
 -- Values of the script to records.
 -- Source: Web IDL, "Records" (JavaScript binding); ECMA-262, [[OwnPropertyKeys]], [[GetOwnProperty]].
-use Rattle.std.specs.Prelude.{ℕ, Bool, false, bytes_eq, if◌then◌else◌, List, [], ◌∷◌, Option, None, Some}
+use Rattle.std.specs.Prelude.{ℕ, Bool, false, bytes_eq, if◌then◌else◌, List, [], ◌∷◌, Option, None}
 use Rattle.std.specs.Option.{option_map_or}
 use Rattle.widl_dialog.specs.Dialog.{End, Say, Steps}
 use Rattle.widl_text.specs.declared.key.Key.{Key}

@@ -1,5 +1,5 @@
 -- Worked conversations with everything built: the functions of arrays and array iterators, and default results.
-use Rattle.std.specs.Prelude.{◌≡◌, ℕ, List, [], ◌∷◌, ◌++◌, Option, None, Some, Bool, true, false, codes, refl}
+use Rattle.std.specs.Prelude.{◌≡◌, ℕ, [], ◌∷◌, ◌++◌, None, Some, Bool, true, false, codes, refl}
 use Rattle.std.specs.Fmt.{digits}
 use Rattle.widl_dialog.specs.Conversation.{Asks, Ends, Next}
 use Rattle.widl_dialog.proofs.Nexts.{one_next}
@@ -9,8 +9,7 @@ use Rattle.widl_idl.specs.DefinitionTerms.{DefsTerm}
 use Rattle.widl_idl.specs.Terms.{TypeTerm, packed, StringType, DictionaryType, ObjectType, SequenceType, RecordType, NullableType, UnionType}
 use Rattle.widl_value.specs.declared.value.Value.{Value}
 use Rattle.widl_value.specs.declared.value.Value.TheVariants as values
-use Rattle.widl_value.specs.IdlTerms.{IdlTerm, NullValue, SequenceValue, RecordValue, DictionaryValue, no_values, no_entries, packed_members}
-use Rattle.widl_value.specs.Rounding.{near_of, step_of}
+use Rattle.widl_value.specs.IdlTerms.{NullValue, SequenceValue, RecordValue, DictionaryValue, no_values, no_entries, packed_members}
 use Rattle.widl_scalar.specs.WhiteSpace.{trimmed, is_white}
 use Rattle.widl_scalar.specs.NumeralWords.{exact_of, read_of, read_unsigned}
 use Rattle.widl_store.specs.declared.inner.Builtin.TheVariants as builtins
@@ -19,7 +18,6 @@ use Rattle.widl_store.specs.declared.inner.Turn.{Turn}
 use Rattle.widl_store.specs.declared.inner.Turn.TheVariants.{Idle, Running, Ended}
 use Rattle.widl_script_tree.specs.Trees.{ScriptTree, no_statements}
 use Rattle.widl_trace.specs.declared.code.Code.TheVariants as code
-use Rattle.widl_convert.specs.declared.answer.CursorState.{CursorState}
 use Rattle.widl_convert.specs.declared.answer.CursorState.TheVariants as cursors
 use Rattle.widl_convert.specs.AskTerms.{AskTerm, AnswerTerm, GetAsk, NewObjectAsk, NewArrayIteratorAsk, CursorAsk, SetCursorAsk, NormalAnswer, ThrownAnswer, DoneAnswer, CursorAnswer, Fits}
 use Rattle.widl_convert.specs.Laws.{Said, IsNext}
@@ -27,7 +25,7 @@ use Rattle.widl_convert.specs.Tasks.{TaskEnd, Gives, Plain, Throw, Rethrow, Prof
 use Rattle.widl_convert.proofs.Worked.{number, integer, plain, function, gets_name, takes_unit, dictionary, required_member, with_dictionaries, derived, long, nothing_defined, everything_built}
 use Rattle.widl_calls.specs.BuiltCalls.{BuiltCalls}
 use Rattle.widl_calls.specs.CallRules.{call_rule}
-use Rattle.widl_calls.specs.CallTasks.{CallTask, Function, Lines}
+use Rattle.widl_calls.specs.CallTasks.{Function, Lines}
 
 abbrev all_built : BuiltCalls
 all_built = record { conversions = everything_built; functions = λ f. true }

@@ -1,14 +1,13 @@
 -- Worked conversations with everything built: containers on their way to script.
-use Rattle.std.specs.Prelude.{[], ◌∷◌, ◌++◌, None, false, codes, refl}
+use Rattle.std.specs.Prelude.{[], ◌∷◌, ◌++◌, false, codes, refl}
 use Rattle.widl_dialog.specs.Conversation.{Asks, Ends}
 use Rattle.widl_text.specs.declared.key.Key.TheVariants as keys
 use Rattle.widl_idl.specs.declared.text_kind.TextKind.TheVariants as texts
 use Rattle.widl_idl.specs.Terms.{TypeTerm, StringType, DictionaryType, SequenceType, RecordType}
 use Rattle.widl_value.specs.declared.value.Value.TheVariants as values
-use Rattle.widl_value.specs.IdlTerms.{IdlTerm, StringValue, SequenceValue, RecordValue, DictionaryValue, packed_values, packed_entries, packed_members}
+use Rattle.widl_value.specs.IdlTerms.{StringValue, SequenceValue, RecordValue, DictionaryValue, packed_values, packed_entries, packed_members}
 use Rattle.widl_value.specs.Rounding.{near_of, step_of}
 use Rattle.widl_convert.specs.AskTerms.{AskTerm, AnswerTerm, UnitAsk, NewArrayAsk, NewObjectAsk, NormalAnswer}
-use Rattle.widl_convert.specs.Laws.{Said}
 use Rattle.widl_convert.specs.Tasks.{Task, Out, Plain}
 use Rattle.widl_convert.proofs.Worked.{number, integer, plain, takes_unit, derived, long, nothing_defined, Tells}
 

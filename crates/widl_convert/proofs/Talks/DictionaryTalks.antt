@@ -1,16 +1,14 @@
 -- Worked conversations with everything built: dictionaries.
-use Rattle.std.specs.Prelude.{ℕ, [], ◌∷◌, ◌++◌, None, Some, true, codes, pos, refl}
+use Rattle.std.specs.Prelude.{[], ◌∷◌, ◌++◌, None, Some, true, codes, pos, refl}
 use Rattle.widl_dialog.specs.Conversation.{Asks, Ends}
 use Rattle.widl_text.specs.declared.key.Key.TheVariants as keys
 use Rattle.widl_idl.specs.declared.literal.Literal.TheVariants as literals
 use Rattle.widl_idl.specs.DefinitionTerms.{DefsTerm}
 use Rattle.widl_idl.specs.Terms.{DictionaryType}
-use Rattle.widl_value.specs.declared.value.Value.{Value}
 use Rattle.widl_value.specs.declared.value.Value.TheVariants as values
-use Rattle.widl_value.specs.IdlTerms.{IdlTerm, DictionaryValue, packed_members}
+use Rattle.widl_value.specs.IdlTerms.{DictionaryValue, packed_members}
 use Rattle.widl_trace.specs.declared.code.Code.TheVariants as code
 use Rattle.widl_convert.specs.AskTerms.{GetAsk, UnitAsk, ThrownAnswer}
-use Rattle.widl_convert.specs.Laws.{Said}
 use Rattle.widl_convert.specs.Tasks.{Task, Convert, Gives, Throw, Rethrow}
 use Rattle.widl_convert.proofs.Worked.{number, integer, plain, gets_name, takes_unit, dictionary, optional_member, required_member, with_dictionaries, derived, long, nothing_defined, Tells}
 

@@ -7,7 +7,6 @@ use Rattle.widl_dialog.proofs.Nexts.{one_next}
 use Rattle.widl_text.specs.declared.key.Key.TheVariants as keys
 use Rattle.widl_idl.specs.DefinitionTerms.{DefsTerm}
 use Rattle.widl_value.specs.declared.value.Value.TheVariants as values
-use Rattle.widl_overload.specs.Index.{apart_at}
 use Rattle.widl_convert.specs.AskTerms.{AskTerm, GetAsk, CallAsk, OwnAsk, UnitAsk, NewArrayAsk, Fits}
 use Rattle.widl_convert.specs.Laws.{Said}
 use Rattle.widl_convert.specs.Rules.{rule}

@@ -1,5 +1,5 @@
 -- Worked conversations with everything built: records.
-use Rattle.std.specs.Prelude.{[], ◌∷◌, ◌++◌, None, false, codes, refl}
+use Rattle.std.specs.Prelude.{[], ◌∷◌, ◌++◌, None, codes, refl}
 use Rattle.std.specs.Char.Utf16.{utf16_chars}
 use Rattle.widl_dialog.specs.Conversation.{Asks, Ends}
 use Rattle.widl_text.specs.declared.key.Key.TheVariants as keys
@@ -11,7 +11,7 @@ use Rattle.widl_trace.specs.declared.code.Code.TheVariants as code
 use Rattle.widl_convert.specs.AskTerms.{GetAsk, OwnKeysAsk, OwnAsk, OwnAnswer, ThrownAnswer}
 use Rattle.widl_convert.specs.Laws.{Said}
 use Rattle.widl_convert.specs.Tasks.{Task, Convert, Gives, Throw, Rethrow}
-use Rattle.widl_convert.proofs.Worked.{number, integer, plain, gets, gets_name, has_keys, shows_own, hides_own, long, nothing_defined, Tells}
+use Rattle.widl_convert.proofs.Worked.{number, integer, plain, gets_name, has_keys, shows_own, hides_own, long, nothing_defined, Tells}
 
 -- `record<DOMString, long>` of object 1, which has the keys `"2"`, `"10"`, `"b"`, `"h"`, which is hidden, and symbol 3
 abbrev pub of_numbers : Task

@@ -8,7 +8,7 @@ use Rattle.widl_idl.specs.DefinitionTerms.{DefsTerm}
 use Rattle.widl_idl.specs.Terms.{TypeTerm, UndefinedType, StringType, SequenceType}
 use Rattle.widl_value.specs.declared.value.Value.{Value}
 use Rattle.widl_value.specs.declared.value.Value.TheVariants as values
-use Rattle.widl_value.specs.IdlTerms.{IdlTerm, SequenceValue, StringValue, packed_values}
+use Rattle.widl_value.specs.IdlTerms.{SequenceValue, StringValue, packed_values}
 use Rattle.widl_overload.specs.Index.{apart_at}
 use Rattle.widl_trace.specs.declared.code.Code.TheVariants as code
 use Rattle.widl_convert.specs.AskTerms.{GetAsk, CallAsk, ThrownAnswer}

@@ -12,14 +12,14 @@ use Rattle.widl_value.specs.declared.object.ObjRef.{ObjRef}
 use Rattle.widl_value.specs.declared.object.Shape.TheVariants as shapes
 use Rattle.widl_value.specs.declared.value.Value.{Value}
 use Rattle.widl_value.specs.declared.value.Value.TheVariants as values
-use Rattle.widl_value.specs.IdlTerms.{IdlTerm, NullValue, ObjectValue, StringValue, BooleanValue, SequenceValue, RecordValue, DictionaryValue, packed_values, packed_entries, packed_members}
+use Rattle.widl_value.specs.IdlTerms.{NullValue, ObjectValue, StringValue, SequenceValue, DictionaryValue, packed_values, packed_members}
 use Rattle.widl_scalar.specs.WhiteSpace.{trimmed, is_white}
 use Rattle.widl_scalar.specs.NumeralWords.{exact_of, read_of, read_radix, read_unsigned}
 use Rattle.widl_trace.specs.declared.code.Code.TheVariants as code
-use Rattle.widl_convert.specs.AskTerms.{GetAsk, CallAsk, OwnKeysAsk, UnitAsk}
+use Rattle.widl_convert.specs.AskTerms.{GetAsk, CallAsk, OwnKeysAsk}
 use Rattle.widl_convert.specs.Laws.{Said}
-use Rattle.widl_convert.specs.Tasks.{Task, Convert, Resolve, Gives, Picks, Throw, Profile}
-use Rattle.widl_convert.proofs.Worked.{number, integer, plain, function, gets, gets_name, takes_unit, long, nothing_defined, argument, overload, with_overloads, dictionary, optional_member, f, Tells}
+use Rattle.widl_convert.specs.Tasks.{Convert, Resolve, Gives, Picks, Throw, Profile}
+use Rattle.widl_convert.proofs.Worked.{number, integer, plain, function, gets, gets_name, long, nothing_defined, argument, overload, with_overloads, dictionary, optional_member, f, Tells}
 use Rattle.widl_convert.proofs.Talks.SequenceTalks.{method, begun, first_turn, last_turn}
 
 abbrev text : TypeTerm
