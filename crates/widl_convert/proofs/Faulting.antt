@@ -1,6 +1,6 @@
 -- After a thrown answer a conversation ends with the value that was thrown.
 use Rattle.std.proofs.Common.{◌≡◌, ℕ, zero, suc, Bool, true, false, ◌&&◌, if◌then◌else◌, List, [], ◌∷◌, ◌++◌, length, Option, None, Some, Result, refl, sym, ap, subst, ◌∙◌}
-use Rattle.std.specs.Prelude.{ℤ, nat_eq, slice_get}
+use Rattle.std.specs.Prelude.{◌^◌, ℤ, nat_abs, nat_eq, nat_le, slice_get}
 use Rattle.std.specs.Option.{option_and_then}
 use Rattle.std.specs.declared.result.Result.TheVariants as results
 use Rattle.widl_dialog.specs.Dialog.{End, Say, Steps, bind}
@@ -372,7 +372,7 @@ module _ (built : Built) (list : DefsTerm) where
   pass_script NullValue = pass_end _
   pass_script MissingValue = pass_end _
   pass_script (BooleanValue b) = pass_end _
-  pass_script (IntegerValue n) = pass_end _
+  pass_script (IntegerValue n) = pass_if (nat_le (nat_abs n) (2 ^ 64)) _ _ (pass_end _) (pass_end _)
   pass_script (StringValue units) = pass_end _
   pass_script (EnumerationValue n place) = pass_end _
   pass_script (ObjectValue o) = pass_end _
