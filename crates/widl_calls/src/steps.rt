@@ -13,6 +13,7 @@ ghost use Rattle.widl_calls.specs.Waits.{call_kind_for};
 
 use crate::arguments::Arguments;
 use crate::conversions::{begins, goes_on};
+use crate::ends::gives;
 use crate::frames::CallFrame;
 use crate::functions::function;
 use crate::jobs::CallJob;
@@ -86,10 +87,7 @@ fn of_undefined(alloc: Global, tables: &Tables, overload: Overload) -> Result<Ca
     ensures weight { IfOk result (λ m. call_weight (defs_term tables.now.defs) m ≤ job_load (defs_term tables.now.defs) (CallJob.OfUndefined overload)) }
 {
     match overload.result_type(tables) {
-        None => begins(
-            tables,
-            Asker::start_convert(alloc, &IdlType::Undefined, Value::Undefined)?,
-        ),
+        None => Ok(gives(IdlValue::Undefined)),
         Some(ty) => begins(tables, Asker::start_convert(alloc, ty, Value::Undefined)?),
     }
 }

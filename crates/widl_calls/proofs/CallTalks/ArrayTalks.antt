@@ -16,7 +16,6 @@ use Rattle.widl_store.specs.declared.inner.Builtin.TheVariants as builtins
 use Rattle.widl_store.specs.declared.inner.PairKind.TheVariants.{Entries}
 use Rattle.widl_store.specs.declared.inner.Turn.{Turn}
 use Rattle.widl_store.specs.declared.inner.Turn.TheVariants.{Idle, Running, Ended}
-use Rattle.widl_script_tree.specs.Trees.{ScriptTree, no_statements}
 use Rattle.widl_trace.specs.declared.code.Code.TheVariants as code
 use Rattle.widl_convert.specs.declared.answer.CursorState.TheVariants as cursors
 use Rattle.widl_convert.specs.AskTerms.{AskTerm, AnswerTerm, GetAsk, NewObjectAsk, NewArrayIteratorAsk, CursorAsk, SetCursorAsk, NormalAnswer, ThrownAnswer, DoneAnswer, CursorAnswer, Fits}
@@ -26,12 +25,13 @@ use Rattle.widl_convert.proofs.Worked.{number, integer, plain, function, gets_na
 use Rattle.widl_calls.specs.BuiltCalls.{BuiltCalls}
 use Rattle.widl_calls.specs.CallRules.{call_rule}
 use Rattle.widl_calls.specs.CallTasks.{Function, Lines}
+use Rattle.widl_calls.specs.Operations.{StepsOf}
 
 abbrev all_built : BuiltCalls
 all_built = record { conversions = everything_built; functions = λ f. true }
 
-abbrev no_steps : ScriptTree
-no_steps = record { functions = []; top = no_statements }
+abbrev no_steps : StepsOf
+no_steps callee number = []
 
 -- the call of the function of a number
 abbrev Does : ℕ → Value → Said → Next AskTerm TaskEnd → Type 0
