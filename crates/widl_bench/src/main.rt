@@ -2,17 +2,13 @@
 //! part: `tokens`, `syntax` and `tree` read files of Web IDL so far, `script` and `statements` read scripts so
 //! far, `whole` reads scripts whole over a set of one file, `nodes` puts a million nodes into the tables of a
 //! script, `lines`, `texts` and `text` write lines of a trace or make a text for one, `store` changes and reads
-//! the properties of objects, `realm` makes the first store of a set of files, `choice` chooses overloads and
-//! members of unions, and `convert` converts values. It stands on the crates of these parts and serves to measure
-//! them: the programs in `bench/` run it.
+//! the properties of objects, and `realm` makes the first store of a set of files. It stands on the crates of
+//! these parts and serves to measure them: the programs in `bench/` run it.
 #![tactic(auto)]
 
-mod choices;
-mod conversions;
 mod files;
 mod lines;
 mod nodes;
-mod numbers;
 mod realm;
 mod script;
 mod sets;
@@ -41,12 +37,10 @@ enum Word {
     Text,
     Store,
     Realm,
-    Choice,
-    Convert,
 }
 
 /// How each part is asked for.
-const WORDS: [(&str, Word); 14] = [
+const WORDS: [(&str, Word); 12] = [
     ("tokens", Word::Tokens),
     ("syntax", Word::Syntax),
     ("tree", Word::Tree),
@@ -59,8 +53,6 @@ const WORDS: [(&str, Word); 14] = [
     ("text", Word::Text),
     ("store", Word::Store),
     ("realm", Word::Realm),
-    ("choice", Word::Choice),
-    ("convert", Word::Convert),
 ];
 
 /// The part that a text asks for.
@@ -97,7 +89,5 @@ fn main(rt: HostRuntime) -> Result<()> {
         Word::Text => lines::run_text(&rt, false),
         Word::Store => store::run(&rt, rest),
         Word::Realm => realm::run(&rt, rest),
-        Word::Choice => choices::run(&rt, rest),
-        Word::Convert => conversions::run(&rt, rest),
     }
 }
