@@ -26,6 +26,8 @@ pub struct ReadFailed;
 pub trait Folder {
     ghost use Rattle.std.specs.Prelude.{◌≡◌, ℕ, ◌+◌, ◌^◌, ◌<◌, ◌≤◌, ◌↔◌, Bool, true, List, length, take, IfOk, OnErr, OnOk, IsTrue};
     ghost use Rattle.std.specs.declared.option.Option.{Option};
+    ghost use Rattle.std.specs.declared.result.Result.{Result};
+    ghost use Rattle.widl_folder.specs.declared.folder.Started as answers;
     ghost use Rattle.std.specs.Io.KnownBytes.{prepend_known, IsAtEnd};
     ghost use Rattle.widl_sink.specs.Causes.{HasCause};
     ghost use Rattle.widl_folder.specs.Folders.{TakesUp, Counts, next_count};
@@ -51,6 +53,13 @@ pub trait Folder {
     /// How many starts there were.
     ghost starts: { Self → ℕ };
 
+    /// What a folder of this kind says of a start besides what each folder does: of the folder before it,
+    /// the answer, and the folder after it.
+    ghost Starts: { Self → answers.Started → Self → Type 0 };
+
+    /// The same of a read into so much room.
+    ghost Reads: { {E : Type 0} → Self → ℕ → Result ℕ E → Self → Type 0 };
+
     /// Takes up a file from its first byte. Where it isn't ready no file is started.
     fn start(&mut self, name: &str) -> Started
         ensures content { TakesUp (files self.old) name.now result (left self.new) }
@@ -59,7 +68,8 @@ pub trait Folder {
         ensures faults { Counts (result ≡ Started.Failed) (faults self.old) (faults self.new) }
         ensures given { given self.new ≡ 0 }
         ensures starts { starts self.new ≡ next_count (starts self.old) }
-        ensures files { files self.new ≡ files self.old };
+        ensures files { files self.new ≡ files self.old }
+        ensures own { Starts self.old result self.new };
 
     /// Gives some more bytes of the started file, none only at its end.
     ///
@@ -79,5 +89,6 @@ pub trait Folder {
         ensures started { IsTrue (is_started self.new) }
         ensures misses { misses self.new ≡ misses self.old }
         ensures starts { starts self.new ≡ starts self.old }
-        ensures files { files self.new ≡ files self.old };
+        ensures files { files self.new ≡ files self.old }
+        ensures own { Reads self.old (length into.old) result self.new };
 }

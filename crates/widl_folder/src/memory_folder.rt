@@ -1,6 +1,6 @@
 //! A folder in memory that fails where it is told to.
 
-ghost use Rattle.std.specs.Prelude.{◌≡◌, None};
+ghost use Rattle.std.specs.Prelude.{◌≡◌, ◌+◌, ◌-◌, ◌^◌, ◌↔◌, min, Contains, IsTrue, None};
 ghost use Rattle.widl_folder.specs.Readings.{MemoryFolderState};
 
 use crate::reading::{Reading, find, give};
@@ -46,7 +46,10 @@ impl MemoryFolder {
     }
 
     /// Counts a call, and tells whether it is to fail.
-    fn fails_now(calls: &mut u64, fails: &Numbers) -> bool {
+    fn fails_now(calls: &mut u64, fails: &Numbers) -> bool
+        ensures counted { calls.new ≡ min (calls.old + 1) (2 ^ 64 - 1) }
+        ensures failed { IsTrue result ↔ Contains fails.now calls.new }
+    {
         *calls = calls.saturating_add(1);
         fails.has(*calls)
     }
@@ -54,7 +57,7 @@ impl MemoryFolder {
 
 impl Folder for MemoryFolder {
     ghost use Rattle.std.specs.Prelude.{Some, is_some};
-    ghost use Rattle.widl_folder.specs.Readings.{left_of};
+    ghost use Rattle.widl_folder.specs.Readings.{MemoryReads, MemoryStarts, left_of};
 
     ghost files = { λ f. Some f.files };
 
@@ -69,6 +72,10 @@ impl Folder for MemoryFolder {
     ghost given = { λ f. f.given };
 
     ghost starts = { λ f. f.starts };
+
+    ghost Starts = { MemoryStarts };
+
+    ghost Reads = { MemoryReads };
 
     fn start(&mut self, name: &str) -> Started {
         self.given = 0;

@@ -1,8 +1,8 @@
 //! Reading a file in memory piece by piece.
 
-ghost use Rattle.std.specs.Prelude.{◌≡◌, ◌<◌, Some, None, drop, length, MatchOption, ◌≤◌, ◌^◌, ◌++◌, [], take};
+ghost use Rattle.std.specs.Prelude.{◌≡◌, ◌<◌, min, Some, None, drop, length, MatchOption, ◌≤◌, ◌^◌, ◌++◌, [], take};
 ghost use Rattle.widl_folder.specs.Files.{file_at, bytes_at};
-ghost use Rattle.widl_folder.specs.Readings.{left_of};
+ghost use Rattle.widl_folder.specs.Readings.{given_by, left_of};
 
 use crate::Files;
 
@@ -29,6 +29,7 @@ pub fn find(files: &Files, name: &str) -> Option<usize>
 /// and how many bytes that is.
 pub fn give(files: &Files, reading: Reading, into: &mut [u8]) -> (Reading, u32)
     requires { length into.old < 2 ^ 32 }
+    ensures count { result.1 ≡ given_by files.now (Some reading) (length into.old) }
     ensures most { result.1 ≤ length into.new }
     ensures content { left_of files.now (Some reading) ≡ take result.1 into.new ++ left_of files.now (Some result.0) }
     ensures end { result.1 ≡ 0 → 0 < length into.old → left_of files.now (Some result.0) ≡ [] }
@@ -66,6 +67,7 @@ fn file_bytes(files: &Files, place: usize) -> &[u8]
 
 /// Copies the front of some bytes, as much as fits, and says how many bytes that is.
 fn copy_front(from: &[u8], into: &mut [u8]) -> usize
+    ensures count { result ≡ min (length into.old) (length from.now) }
     ensures most { result ≤ length into.new }
     ensures some { result ≡ 0 → 0 < length into.old → from.now ≡ [] }
     ensures front { from.now ≡ take result into.new ++ drop result from.now }

@@ -40,7 +40,7 @@ impl SureFolder {
 
 impl Folder for SureFolder {
     ghost use Rattle.std.specs.Prelude.{Some, is_some};
-    ghost use Rattle.widl_folder.specs.Readings.{left_of};
+    ghost use Rattle.widl_folder.specs.Readings.{SureReads, SureStarts, left_of};
 
     ghost files = { λ f. Some f.files };
 
@@ -55,6 +55,10 @@ impl Folder for SureFolder {
     ghost given = { λ f. f.given };
 
     ghost starts = { λ f. f.starts };
+
+    ghost Starts = { λ old answer new. SureStarts answer };
+
+    ghost Reads = { λ old room result new. SureReads old room result };
 
     fn start(&mut self, name: &str) -> Started {
         self.given = 0;

@@ -1,7 +1,7 @@
 //! A sink in memory.
 
-ghost use Rattle.std.specs.Prelude.{◌≡◌, ℕ, ◌<◌, ◌≤◌, List, [], Some, IfOk, vec_capacity};
-ghost use Rattle.widl_sink.specs.Memory.{MemoryState};
+ghost use Rattle.std.specs.Prelude.{◌≡◌, ℕ, ◌<◌, ◌≤◌, List, [], Some, IfOk, IsTrue, ◌↔◌, vec_capacity};
+ghost use Rattle.widl_sink.specs.Memory.{FailsNext, MemoryState, MemoryWrites, fitting};
 
 use crate::{Numbers, Sink, WriteFailed};
 use std::alloc::{AllocError, Global};
@@ -63,6 +63,22 @@ impl MemorySink {
     {
         &self.bytes
     }
+
+    /// How many bytes of a piece the next call can take.
+    fn fitting(&self, piece: &[u8]) -> usize
+        ensures { result ≡ fitting self.now piece.now }
+    {
+        let left = (self.room as usize).saturating_sub(self.bytes.len());
+        piece.len().min((self.most as usize).min(left))
+    }
+
+    /// Whether the next call fails, where so many bytes of the piece can be taken.
+    fn fails_next(&self, piece: &[u8], count: usize) -> bool
+        requires { count ≡ fitting self.now piece.now }
+        ensures { IsTrue result ↔ FailsNext self.now piece.now }
+    {
+        self.fails.has(self.calls.saturating_add(1)) || (count == 0 && !piece.is_empty())
+    }
 }
 
 impl Sink for MemorySink {
@@ -70,11 +86,13 @@ impl Sink for MemorySink {
 
     ghost faults = { λ s. s.faults };
 
+    ghost Writes = { MemoryWrites };
+
     fn write(&mut self, piece: &[u8]) -> Result<u32, WriteFailed> {
+        let count = self.fitting(piece);
+        let fails = self.fails_next(piece, count);
         self.calls = self.calls.saturating_add(1);
-        let left = (self.room as usize).saturating_sub(self.bytes.len());
-        let count = piece.len().min(self.most as usize).min(left);
-        if self.fails.has(self.calls) || (count == 0 && !piece.is_empty()) {
+        if fails {
             self.faults = self.faults.saturating_add(1);
             return Err(WriteFailed);
         }

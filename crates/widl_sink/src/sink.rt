@@ -2,6 +2,7 @@
 
 ghost use Rattle.std.specs.Prelude.{◌≡◌, ℕ, ◌^◌, ◌<◌, ◌≤◌, List, length, take, IfOk, OnErr};
 ghost use Rattle.std.specs.declared.option.Option.{Option};
+ghost use Rattle.std.specs.declared.result.Result.{Result};
 ghost use Rattle.std.specs.Io.KnownBytes.{append_known};
 ghost use Rattle.widl_sink.specs.Causes.{HasCause};
 
@@ -23,6 +24,10 @@ pub trait Sink {
     /// How often it has failed.
     ghost faults: { Self → ℕ };
 
+    /// What a sink of this kind says of a call besides what each sink does: of the sink before it, the
+    /// piece, the answer, and the sink after it.
+    ghost Writes: { {E : Type 0} → Self → List ℕ → Result ℕ E → Self → Type 0 };
+
     /// Takes some bytes of the piece's front, at least one of a piece that isn't empty, and says how
     /// many.
     ///
@@ -35,5 +40,6 @@ pub trait Sink {
         ensures some { IfOk result (λ count. 0 < length piece.now → 0 < count) }
         ensures front { IfOk result (λ count. held self.new ≡ append_known (held self.old) (take count piece.now)) }
         ensures nothing { OnErr result (held self.new ≡ held self.old) }
-        ensures cause { HasCause (faults self.old) (faults self.new) result };
+        ensures cause { HasCause (faults self.old) (faults self.new) result }
+        ensures own { Writes self.old piece.now result self.new };
 }

@@ -1,6 +1,6 @@
 //! Standard output as a sink.
 
-ghost use Rattle.std.specs.Prelude.{◌≡◌, None};
+ghost use Rattle.std.specs.Prelude.{◌≡◌, None, ⊤};
 
 use crate::{Sink, WriteFailed};
 use std::io::Write;
@@ -28,6 +28,8 @@ impl<W: Write> Sink for StdoutSink<W> {
     ghost held = { λ _. None };
 
     ghost faults = { λ s. s.faults };
+
+    ghost Writes = { λ old piece result new. ⊤ };
 
     fn write(&mut self, piece: &[u8]) -> Result<u32, WriteFailed> {
         match self.out.write(piece) {

@@ -1,6 +1,6 @@
 //! A sink that never fails.
 
-ghost use Rattle.std.specs.Prelude.{◌≡◌, None};
+ghost use Rattle.std.specs.Prelude.{◌≡◌, None, length, IsOkAnd};
 
 use crate::{Sink, WriteFailed};
 
@@ -21,6 +21,8 @@ impl Sink for SureSink {
     ghost held = { λ _. None };
 
     ghost faults = { λ _. 0 };
+
+    ghost Writes = { λ old piece result new. IsOkAnd result (λ count. count ≡ length piece) };
 
     fn write(&mut self, piece: &[u8]) -> Result<u32, WriteFailed> {
         Ok(piece.len() as u32)
