@@ -1,4 +1,5 @@
 pub mod Index
 pub mod IntegerTokens
 pub mod Limits
+pub mod Storage
 pub mod Utf16

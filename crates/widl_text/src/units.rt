@@ -13,18 +13,35 @@ ghost use Rattle.std.specs.Char.Escape.{encode_utf16};
 use std::alloc::{AllocError, Global};
 use std::hash::{Hash, Hasher};
 use std::marker::Model;
+use std::rc::Rc;
+
+/// The fewest units of a text that its copies share. A copy of a shorter one takes less memory than what
+/// it stands in, and a text that isn't shared is read without a step more.
+const FEWEST_SHARED: usize = 64;
 
 /// A text as a script sees it: a list of 16-bit units, in which surrogates need not come in pairs
-/// (ECMA-262, "The String Type"; a `DOMString` of Web IDL).
+/// (ECMA-262, "The String Type"; a `DOMString` of Web IDL). The copies of a long text share its units.
 #[derive(Debug, Drop)]
 pub struct Units {
-    items: Vec<u16>,
+    storage: Storage,
+}
+
+/// Where the units of a text are.
+#[derive(Debug, Drop)]
+enum Storage {
+    /// In a list of its own.
+    Owned(Vec<u16>),
+    /// In a list that copies of the text have too.
+    Shared(Rc<Vec<u16>>),
 }
 
 impl Model for Units {
+    ghost use Rattle.std.specs.Prelude.{ℕ, List};
+    ghost use Rattle.widl_text.specs.Storage.{units_in};
+
     ghost Value = { List ℕ };
 
-    ghost view = { λ u. u.items.items };
+    ghost view = { λ u. units_in u.storage };
 }
 
 impl PartialEq for Units {
@@ -33,7 +50,7 @@ impl PartialEq for Units {
     ghost laws = { Prim.search (comparing, rules) };
 
     fn eq(&self, other: &Units) -> bool {
-        self.items.as_slice() == other.items.as_slice()
+        self.as_slice() == other.as_slice()
     }
 }
 
@@ -47,7 +64,7 @@ impl Hash for Units {
     ghost respects_eq = { Prim.search (hashing, rules) };
 
     fn hash<H: Hasher>(&self, state: &mut H) {
-        self.items.as_slice().hash(state);
+        self.as_slice().hash(state);
     }
 }
 
@@ -57,7 +74,7 @@ impl Units {
         ensures { result ≡ [] }
     {
         Units {
-            items: Vec::new(alloc),
+            storage: Storage::Owned(Vec::new(alloc)),
         }
     }
 
@@ -65,7 +82,7 @@ impl Units {
     pub fn len(&self) -> usize
         ensures { result ≡ length self.now }
     {
-        self.items.len()
+        self.as_slice().len()
     }
 
     /// The unit at a place below `len`.
@@ -73,14 +90,17 @@ impl Units {
         requires { place < length self.now }
         ensures { result ≡ slice_index self.now place }
     {
-        self.items[place]
+        self.as_slice()[place]
     }
 
     /// The units, in order.
     pub fn as_slice(&self) -> &[u16]
         ensures { result.now ≡ self.now }
     {
-        self.items.as_slice()
+        match &self.storage {
+            Storage::Owned(items) => items.as_slice(),
+            Storage::Shared(items) => items.as_ref().as_slice(),
+        }
     }
 
     /// Adds a unit at the end.
@@ -92,7 +112,16 @@ impl Units {
         ensures ok { OnOk result (self.new ≡ self.old ++ unit ∷ []) }
         ensures err { OnErr result (self.new ≡ self.old) }
     {
-        self.items.push(unit)?;
+        match &mut self.storage {
+            Storage::Owned(items) => items.push(unit)?,
+            Storage::Shared(items) => {
+                let alloc = *items.as_ref().allocator();
+                let items = with_unit(alloc, self.as_slice(), unit)?;
+                *self = Units {
+                    storage: Storage::Owned(items),
+                };
+            }
+        }
         Ok(())
     }
 
@@ -109,7 +138,8 @@ impl Units {
         for character in text.chars() {
             push_character(&mut items, character)?;
         }
-        Ok(Units { items })
+        let units = of_items(items)?;
+        Ok(units)
     }
 
     /// The text of these ASCII characters, each of which is a unit.
@@ -122,8 +152,22 @@ impl Units {
         requires { IsAscii text.now }
         ensures { IfOk result (λ units. units ≡ text.now) }
     {
-        let units = Units::of_str(alloc, text)?;
-        Ok(units)
+        Units::of_bytes(alloc, text.as_bytes())
+    }
+
+    /// The text whose units are these bytes. Of ASCII characters it is their text.
+    ///
+    /// # Errors
+    ///
+    /// `AllocError` where there is no memory.
+    pub fn of_bytes(alloc: Global, bytes: &[u8]) -> Result<Units, AllocError>
+        ensures { IfOk result (λ units. units ≡ bytes.now) }
+    {
+        let mut items = Vec::with_capacity(alloc, bytes.len())?;
+        for byte in bytes {
+            items.push(u16::from(*byte))?;
+        }
+        of_items(items)
     }
 
     /// A text with the same units.
@@ -134,10 +178,34 @@ impl Units {
     pub fn copy(&self) -> Result<Units, AllocError>
         ensures { IfOk result (λ copy. copy ≡ self.now) }
     {
-        Ok(Units {
-            items: self.items.clone()?,
-        })
+        match &self.storage {
+            Storage::Owned(items) => of_items(items.clone()?),
+            Storage::Shared(items) => Ok(Units {
+                storage: Storage::Shared(items.clone()?),
+            }),
+        }
     }
+}
+
+/// The text of these units, which its copies share if it is long.
+fn of_items(items: Vec<u16>) -> Result<Units, AllocError>
+    ensures { IfOk result (λ units. units ≡ items.items) }
+{
+    let storage = if items.len() < FEWEST_SHARED {
+        Storage::Owned(items)
+    } else {
+        Storage::Shared(Rc::new(*items.allocator(), items)?)
+    };
+    Ok(Units { storage })
+}
+
+/// A list of these units and one more.
+fn with_unit(alloc: Global, items: &[u16], unit: u16) -> Result<Vec<u16>, AllocError>
+    ensures { IfOk result (λ all. all.items ≡ items.now ++ unit ∷ []) }
+{
+    let mut all = Vec::from_slice(alloc, items)?;
+    all.push(unit)?;
+    Ok(all)
 }
 
 /// Adds the one or two units of a character.
@@ -152,4 +220,18 @@ fn push_character(items: &mut Vec<u16>, character: char) -> Result<(), AllocErro
     let units = character.encode_utf16(&mut pair);
     items.extend_from_slice(units)?;
     Ok(())
+}
+
+#[cfg(test)]
+mod tests {
+    use super::*;
+
+    #[test]
+    fn leaves_a_long_text_where_its_copy_grows(rt: HostRuntime) -> Result<(), AllocError> {
+        let text = Units::of_bytes(rt.alloc(), &[0x61; 100])?;
+        let mut copy = text.copy()?;
+        copy.push(0x62)?;
+        assert_eq!(rt; (text.len(), copy.len(), copy.at(100)), (100, 101, 0x62));
+        Ok(())
+    }
 }

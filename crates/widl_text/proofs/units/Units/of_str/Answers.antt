@@ -31,4 +31,4 @@ loop-character-preserved c =
 pub returns : goal.returns
 returns c =
     let turn = YieldsList-end (YieldsList-from_chars c.args.text.now c.utf8.text cc) c.loop-character.yielded _ c.loop-character.yielded_by _ _ c.in-None.is c.next.ensures.steps in
-    all_done (chars c.args.text.now) _ (length c.loop-character.yielded) (at_drop_all utf16_of (chars c.args.text.now) (length c.loop-character.yielded) (omega (arith, turn))) c.loop-character.invariant
+    c.in_ok-units.ensures ∙ all_done (chars c.args.text.now) _ (length c.loop-character.yielded) (at_drop_all utf16_of (chars c.args.text.now) (length c.loop-character.yielded) (omega (arith, turn))) c.loop-character.invariant
