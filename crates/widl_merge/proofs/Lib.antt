@@ -1,3 +1,4 @@
+pub mod KeptTexts
 pub mod Unsupported
 pub mod OneRefusal
 pub mod NameRules

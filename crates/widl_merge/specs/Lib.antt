@@ -6,6 +6,7 @@ pub mod Links
 pub mod Depths
 pub mod ListedValues
 pub mod DictionaryTables
+pub mod LongTexts
 pub mod PutTogether
 pub mod PlainMain
 pub mod GrownLists

@@ -8,6 +8,7 @@ ghost use Rattle.widl_idl.specs.MergedMembers.{first_in, operations_in};
 ghost use Rattle.widl_idl.specs.PlainTrees.{arguments_of, members_of, operation_of, plain_definitions};
 ghost use Rattle.widl_idl.specs.PlainTypes.{name_of, type_of};
 
+use crate::long_texts::LongTexts;
 use crate::name_units::{name_units, operation_units};
 use crate::numbered::type_alone;
 use crate::signatures::{args_meant, operation_sig};
@@ -27,6 +28,7 @@ pub fn callback_meant<'a>(
     alloc: Global,
     resolver: &Resolver<'_, '_, 'a>,
     steps: &mut usize,
+    texts: &mut LongTexts<'a>,
     callback: &'a tree::Callback,
 ) -> Result<Callback, AllocError>
     ensures term { IfOk result (λ c. callback_term c ≡ callback_of (plain_definitions resolver.now) (record { name = name_of callback.now.name; returned = type_of callback.now.result; arguments = arguments_of callback.now.arguments })) }
@@ -34,7 +36,7 @@ pub fn callback_meant<'a>(
 {
     let at = callback.name.at;
     let name = name_units(alloc, &callback.name)?;
-    let args = args_meant(alloc, resolver, steps, callback.arguments.as_slice())?;
+    let args = args_meant(alloc, resolver, steps, texts, callback.arguments.as_slice())?;
     let result = type_alone(alloc, resolver, steps, &callback.result)?;
     Ok(Callback {
         at,
@@ -53,6 +55,7 @@ pub fn callback_interface_meant<'a>(
     alloc: Global,
     resolver: &Resolver<'_, '_, 'a>,
     steps: &mut usize,
+    texts: &mut LongTexts<'a>,
     callback: &'a CallbackInterface,
 ) -> Result<Callback, AllocError>
     ensures term { IfOk result (λ c. callback_term c ≡ callback_interface_of (plain_definitions resolver.now) (record { name = name_of callback.now.name; members = members_of callback.now.members })) }
@@ -60,7 +63,7 @@ pub fn callback_interface_meant<'a>(
 {
     match first_operation(callback.members.as_slice()) {
         None => callback_without_operation(alloc, &callback.name),
-        Some(operation) => callback_by(alloc, resolver, steps, &callback.name, operation),
+        Some(operation) => callback_by(alloc, resolver, steps, texts, &callback.name, operation),
     }
 }
 
@@ -100,6 +103,7 @@ fn callback_by<'a>(
     alloc: Global,
     resolver: &Resolver<'_, '_, 'a>,
     steps: &mut usize,
+    texts: &mut LongTexts<'a>,
     name: &Name,
     operation: &'a Operation,
 ) -> Result<Callback, AllocError>
@@ -108,7 +112,7 @@ fn callback_by<'a>(
 {
     let units = name_units(alloc, name)?;
     let op = operation_units(alloc, &operation.name)?;
-    let sig = operation_sig(alloc, resolver, steps, operation)?;
+    let sig = operation_sig(alloc, resolver, steps, texts, operation)?;
     Ok(Callback {
         at: name.at,
         name: units,

@@ -10,6 +10,7 @@ ghost use Rattle.widl_merge.specs.PlainMain.{plain_dictionary, plain_interface, 
 
 use crate::callbacks::{callback_interface_meant, callback_meant};
 use crate::enumerations::enumeration_meant;
+use crate::long_texts::LongTexts;
 use crate::merged_dictionaries::dictionary_meant;
 use crate::merged_interfaces::{interface_meant, namespace_meant};
 use crate::numbered_items::add_numbered;
@@ -37,10 +38,19 @@ pub fn merge_definitions(
     ensures { IfOk result (λ defs. AreListed (plain_definitions meanings.now) (plain_definitions meanings.now) defs) }
 {
     let sources = Sources::of(alloc, meanings)?;
+    let mut texts = LongTexts::new(alloc);
     let mut defs = no_definitions(alloc);
     let definitions = meanings.all();
     for (number, definition) in definitions.iter().enumerate() {
-        add_definition(alloc, &sources, steps, &mut defs, number, &definition.kind)?;
+        add_definition(
+            alloc,
+            &sources,
+            steps,
+            &mut texts,
+            &mut defs,
+            number,
+            &definition.kind,
+        )?;
     }
     Ok(defs)
 }
@@ -64,6 +74,7 @@ fn add_definition<'a>(
     alloc: Global,
     sources: &Sources<'_, '_, 'a>,
     steps: &mut usize,
+    texts: &mut LongTexts<'a>,
     defs: &mut Defs,
     number: usize,
     kind: &'a DefinitionKind,
@@ -73,18 +84,26 @@ fn add_definition<'a>(
 {
     match kind {
         DefinitionKind::Callback(callback) => {
-            let meant = callback_meant(alloc, sources.resolver(), steps, callback)?;
+            let meant = callback_meant(alloc, sources.resolver(), steps, texts, callback)?;
             add_numbered(&mut defs.callback_fns, meant)
         }
         DefinitionKind::CallbackInterface(callback) => {
-            let meant = callback_interface_meant(alloc, sources.resolver(), steps, callback)?;
+            let meant = callback_interface_meant(
+                alloc,
+                sources.resolver(),
+                steps,
+                texts,
+                callback,
+            )?;
             add_numbered(&mut defs.callback_ifaces, meant)
         }
         DefinitionKind::Interface(interface) => {
-            add_interface(alloc, sources, steps, &mut defs.ifaces, number, interface)
+            let ifaces = &mut defs.ifaces;
+            add_interface(alloc, sources, steps, texts, ifaces, number, interface)
         }
         DefinitionKind::Namespace(namespace) => {
-            add_namespace(alloc, sources, steps, &mut defs.spaces, number, namespace)
+            let spaces = &mut defs.spaces;
+            add_namespace(alloc, sources, steps, texts, spaces, number, namespace)
         }
         DefinitionKind::Dictionary(dictionary) => {
             add_dictionary(alloc, sources, steps, &mut defs.dicts, number, dictionary)
@@ -98,10 +117,11 @@ fn add_definition<'a>(
     }
 }
 
-fn add_interface(
+fn add_interface<'a>(
     alloc: Global,
-    sources: &Sources<'_, '_, '_>,
+    sources: &Sources<'_, '_, 'a>,
     steps: &mut usize,
+    texts: &mut LongTexts<'a>,
     ifaces: &mut Ifaces,
     number: usize,
     interface: &Interface,
@@ -114,14 +134,15 @@ fn add_interface(
     }
     add_numbered(
         ifaces,
-        interface_meant(alloc, sources, steps, number, interface)?,
+        interface_meant(alloc, sources, steps, texts, number, interface)?,
     )
 }
 
-fn add_namespace(
+fn add_namespace<'a>(
     alloc: Global,
-    sources: &Sources<'_, '_, '_>,
+    sources: &Sources<'_, '_, 'a>,
     steps: &mut usize,
+    texts: &mut LongTexts<'a>,
     spaces: &mut Spaces,
     number: usize,
     namespace: &Namespace,
@@ -134,7 +155,7 @@ fn add_namespace(
     }
     add_numbered(
         spaces,
-        namespace_meant(alloc, sources, steps, number, namespace)?,
+        namespace_meant(alloc, sources, steps, texts, number, namespace)?,
     )
 }
 

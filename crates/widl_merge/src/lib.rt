@@ -10,6 +10,7 @@ mod cycles;
 mod defs;
 mod dictionary_parts;
 mod enumerations;
+mod long_texts;
 mod member_parts;
 mod merged_dictionaries;
 mod merged_interfaces;

@@ -10,6 +10,7 @@ ghost use Rattle.widl_idl.specs.PlainTrees as PlainTrees;
 ghost use Rattle.widl_idl.specs.PlainTypes.{annotated_of, attribute_of};
 ghost use Rattle.widl_idl.specs.Terms.{type_term};
 
+use crate::long_texts::LongTexts;
 use crate::name_units::name_units;
 use crate::numbered::{type_alone, type_with};
 use std::alloc::{AllocError, Global};
@@ -29,13 +30,14 @@ pub fn attribute_meant<'a>(
     alloc: Global,
     resolver: &Resolver<'_, '_, 'a>,
     steps: &mut usize,
+    texts: &mut LongTexts<'a>,
     attributes: &'a [ExtendedAttribute],
     attribute: &'a Attribute,
 ) -> Result<Attr, AllocError>
     ensures term { IfOk result (λ a. attr_term a ≡ attr_of (plain_definitions resolver.now) (record { attributes = map attribute_of attributes.now; attribute = attribute_member_of attribute.now })) }
     ensures numbered { IfOk result (λ a. NumberedAttr a) }
 {
-    let name = name_units(alloc, &attribute.name)?;
+    let name = texts.units_of(alloc, attribute.name.text.as_str())?;
     let ty = type_with(alloc, resolver, steps, attributes, &attribute.ty)?;
     Ok(Attr {
         at: attribute.name.at,
@@ -66,12 +68,13 @@ pub fn constant_meant<'a>(
     alloc: Global,
     resolver: &Resolver<'_, '_, 'a>,
     steps: &mut usize,
+    texts: &mut LongTexts<'a>,
     constant: &'a tree::Constant,
 ) -> Result<Constant, AllocError>
     ensures term { IfOk result (λ k. constant_term k ≡ MergedMembers.constant_of (plain_definitions resolver.now) (PlainTrees.constant_of constant.now)) }
     ensures numbered { IfOk result (λ k. NumberedConstant k) }
 {
-    let name = name_units(alloc, &constant.name)?;
+    let name = texts.units_of(alloc, constant.name.text.as_str())?;
     let ty = type_alone(alloc, resolver, steps, &constant.ty)?;
     let value = value_meant(alloc, &constant.value.value)?;
     Ok(Constant {

@@ -10,6 +10,7 @@ ghost use Rattle.widl_idl.specs.PlainTypes.{name_of};
 ghost use Rattle.widl_merge.specs.GrownLists.{HasParentOf, Means};
 ghost use Rattle.widl_merge.specs.PlainMain.{plain_interface, plain_namespace};
 
+use crate::long_texts::LongTexts;
 use crate::merged_members::put_together;
 use crate::sources::Sources;
 use std::alloc::{AllocError, Global};
@@ -23,10 +24,11 @@ use widl_text::Units;
 ///
 /// `AllocError` where there is no memory, also where no steps are left or 32 bits can't number its
 /// members.
-pub fn interface_meant(
+pub fn interface_meant<'a>(
     alloc: Global,
-    sources: &Sources<'_, '_, '_>,
+    sources: &Sources<'_, '_, 'a>,
     steps: &mut usize,
+    texts: &mut LongTexts<'a>,
     number: usize,
     interface: &Interface,
 ) -> Result<Iface, AllocError>
@@ -36,7 +38,7 @@ pub fn interface_meant(
     ensures numbered { IfOk result (λ i. NumberedInterface i) }
 {
     let list = sources.members(alloc, number)?;
-    let members = put_together(alloc, sources.resolver(), steps, &list)?;
+    let members = put_together(alloc, sources.resolver(), steps, texts, &list)?;
     let name = Units::of_str(alloc, interface.name.text.as_str())?;
     let parent = sources.parent(interface.parent.as_ref(), Kind::Interface);
     Ok(Iface {
@@ -59,10 +61,11 @@ pub fn interface_meant(
 ///
 /// `AllocError` where there is no memory, also where no steps are left or 32 bits can't number its
 /// members.
-pub fn namespace_meant(
+pub fn namespace_meant<'a>(
     alloc: Global,
-    sources: &Sources<'_, '_, '_>,
+    sources: &Sources<'_, '_, 'a>,
     steps: &mut usize,
+    texts: &mut LongTexts<'a>,
     number: usize,
     namespace: &Namespace,
 ) -> Result<Space, AllocError>
@@ -71,7 +74,7 @@ pub fn namespace_meant(
     ensures numbered { IfOk result (λ s. NumberedNamespace s) }
 {
     let list = sources.members(alloc, number)?;
-    let members = put_together(alloc, sources.resolver(), steps, &list)?;
+    let members = put_together(alloc, sources.resolver(), steps, texts, &list)?;
     let name = Units::of_str(alloc, namespace.name.text.as_str())?;
     Ok(Space {
         at: namespace.name.at,

@@ -8,6 +8,7 @@ ghost use Rattle.widl_idl.specs.PlainTypes.{PlainAttribute, attribute_of};
 ghost use Rattle.widl_idl.specs.WrittenLiterals.{units_of};
 ghost use Rattle.widl_merge.specs.PutTogether.{ArePutTogether, GetsStringifier, Grows, GrowsByMember, GrowsByOperation, HasName, HasOverload, listed_members, number_named};
 
+use crate::long_texts::LongTexts;
 use crate::member_parts::{attribute_meant, constant_meant, pair_meant};
 use crate::numbered_items::push_numbered;
 use crate::operation_numbers::OperationNumbers;
@@ -51,6 +52,7 @@ pub fn put_together<'a>(
     alloc: Global,
     resolver: &Resolver<'_, '_, 'a>,
     steps: &mut usize,
+    texts: &mut LongTexts<'a>,
     members: &[&'a Member],
 ) -> Result<MergedMembers, AllocError>
     ensures { IfOk result (λ m. ArePutTogether (plain_definitions resolver.now) (listed_members members.now) m) }
@@ -58,7 +60,7 @@ pub fn put_together<'a>(
     let mut merged = MergedMembers::new(alloc);
     let mut numbers = OperationNumbers::new(alloc);
     for member in members {
-        merged.add(alloc, resolver, steps, &mut numbers, *member)?;
+        merged.add(alloc, resolver, steps, texts, &mut numbers, *member)?;
     }
     Ok(merged)
 }
@@ -85,6 +87,7 @@ impl MergedMembers {
         alloc: Global,
         resolver: &Resolver<'_, '_, 'a>,
         steps: &mut usize,
+        texts: &mut LongTexts<'a>,
         numbers: &mut OperationNumbers<'a>,
         member: &'a Member,
     ) -> Result<(), AllocError>
@@ -92,17 +95,20 @@ impl MergedMembers {
     {
         let attributes = member.attributes.as_slice();
         match &member.kind {
-            MemberKind::Constant(constant) => self.add_constant(alloc, resolver, steps, constant),
+            MemberKind::Constant(constant) => self.add_constant(
+                alloc, resolver, steps, texts, constant,
+            ),
             MemberKind::Attribute(attribute) => self.add_attribute(
-                alloc, resolver, steps, attributes, attribute,
+                alloc, resolver, steps, texts, attributes, attribute,
             ),
             MemberKind::Operation(operation) => self.add_operation(
-                alloc, resolver, steps, numbers, operation,
+                alloc, resolver, steps, texts, numbers, operation,
             ),
             MemberKind::Constructor(constructor) => self.add_constructor(
                 alloc,
                 resolver,
                 steps,
+                texts,
                 constructor,
             ),
             MemberKind::Stringifier(_) => self.add_stringifier(Stringify::Plain),
@@ -118,11 +124,12 @@ impl MergedMembers {
         alloc: Global,
         resolver: &Resolver<'_, '_, 'a>,
         steps: &mut usize,
+        texts: &mut LongTexts<'a>,
         constructor: &'a Constructor,
     ) -> Result<(), AllocError>
         ensures { OnOk result ((attributes : List PlainAttribute) → Grows (plain_definitions resolver.now) attributes (ConstructorMember (constructor_of constructor.now)) self.old self.new) }
     {
-        let sig = constructor_sig(alloc, resolver, steps, constructor)?;
+        let sig = constructor_sig(alloc, resolver, steps, texts, constructor)?;
         push_numbered(&mut self.ctors, sig)?;
         Ok(())
     }
@@ -132,11 +139,12 @@ impl MergedMembers {
         alloc: Global,
         resolver: &Resolver<'_, '_, 'a>,
         steps: &mut usize,
+        texts: &mut LongTexts<'a>,
         constant: &'a Constant,
     ) -> Result<(), AllocError>
         ensures { OnOk result ((attributes : List PlainAttribute) → Grows (plain_definitions resolver.now) attributes (ConstantMember (constant_of constant.now)) self.old self.new) }
     {
-        let meant = constant_meant(alloc, resolver, steps, constant)?;
+        let meant = constant_meant(alloc, resolver, steps, texts, constant)?;
         let number = push_numbered(&mut self.consts, meant)?;
         push_numbered(&mut self.order, Slot::Constant(number))?;
         Ok(())
@@ -147,12 +155,13 @@ impl MergedMembers {
         alloc: Global,
         resolver: &Resolver<'_, '_, 'a>,
         steps: &mut usize,
+        texts: &mut LongTexts<'a>,
         attributes: &'a [ExtendedAttribute],
         attribute: &'a Attribute,
     ) -> Result<(), AllocError>
         ensures { OnOk result (Grows (plain_definitions resolver.now) (map attribute_of attributes.now) (AttributeMember (attribute_member_of attribute.now)) self.old self.new) }
     {
-        let meant = attribute_meant(alloc, resolver, steps, attributes, attribute)?;
+        let meant = attribute_meant(alloc, resolver, steps, texts, attributes, attribute)?;
         let number = push_numbered(&mut self.attrs, meant)?;
         push_numbered(&mut self.order, Slot::Attr(number))?;
         if is_stringifier(attribute.kind) {
@@ -204,18 +213,19 @@ impl MergedMembers {
         alloc: Global,
         resolver: &Resolver<'_, '_, 'a>,
         steps: &mut usize,
+        texts: &mut LongTexts<'a>,
         numbers: &mut OperationNumbers<'a>,
         operation: &'a Operation,
     ) -> Result<(), AllocError>
         ensures { OnOk result (GrowsByOperation (plain_definitions resolver.now) (operation_of operation.now) self.old (number_named numbers.old.regular numbers.old.fixed) self.new (number_named numbers.new.regular numbers.new.fixed)) }
     {
-        let sig = operation_sig(alloc, resolver, steps, operation)?;
+        let sig = operation_sig(alloc, resolver, steps, texts, operation)?;
         let text = operation_text(operation);
         let fixed = is_static(operation.kind);
         match numbers.number(text, fixed) {
             Some(number) => add_overload(alloc, &mut self.ops, number as usize, sig),
             None => {
-                let number = add_name(alloc, &mut self.ops, text, fixed, sig)?;
+                let number = add_name(alloc, &mut self.ops, texts, text, fixed, sig)?;
                 numbers.keep(text, fixed, number)?;
                 push_numbered(&mut self.order, Slot::Op(number))?;
                 Ok(())
@@ -269,10 +279,11 @@ fn nameless(alloc: Global) -> OpName
 }
 
 /// Adds a name with one operation, and gives its number.
-fn add_name(
+fn add_name<'a>(
     alloc: Global,
     ops: &mut OpNames,
-    text: &str,
+    texts: &mut LongTexts<'a>,
+    text: &'a str,
     fixed: bool,
     sig: Sig,
 ) -> Result<u32, AllocError>
@@ -280,7 +291,7 @@ fn add_name(
     ensures few { OnOk result (length ops.new < 4294967296) }
     ensures number { IfOk result (λ number. number ≡ length ops.old) }
 {
-    let name = Units::of_str(alloc, text)?;
+    let name = texts.units_of(alloc, text)?;
     let mut sigs = Items::new(alloc);
     push_numbered(&mut sigs, sig)?;
     push_numbered(ops, OpName { name, fixed, sigs })

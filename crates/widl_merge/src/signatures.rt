@@ -9,12 +9,12 @@ ghost use Rattle.widl_idl.specs.PlainTrees.{ConstructorMember, argument_kind_of,
 ghost use Rattle.widl_idl.specs.PlainTypes.{name_of};
 ghost use Rattle.widl_idl.specs.Terms.{type_term};
 
-use crate::name_units::name_units;
+use crate::long_texts::LongTexts;
 use crate::numbered::{check_count, type_alone, type_with};
 use std::alloc::{AllocError, Global};
 use widl_idl::tree::{Argument, ArgumentKind, Constructor, Operation};
 use widl_idl::{Arg, Args, IdlType, Literal, Optionality, Sig};
-use widl_names::{Resolver, default_meant};
+use widl_names::Resolver;
 use widl_text::Place;
 
 /// The signature of an operation.
@@ -27,12 +27,19 @@ pub fn operation_sig<'a>(
     alloc: Global,
     resolver: &Resolver<'_, '_, 'a>,
     steps: &mut usize,
+    texts: &mut LongTexts<'a>,
     operation: &'a Operation,
 ) -> Result<Sig, AllocError>
     ensures term { IfOk result (λ sig. sig_term sig ≡ sig_of_operation (plain_definitions resolver.now) (operation_of operation.now)) }
     ensures numbered { IfOk result (λ sig. NumberedSig sig) }
 {
-    let args = args_meant(alloc, resolver, steps, operation.arguments.as_slice())?;
+    let args = args_meant(
+        alloc,
+        resolver,
+        steps,
+        texts,
+        operation.arguments.as_slice(),
+    )?;
     let result = type_alone(alloc, resolver, steps, &operation.result)?;
     Ok(Sig {
         at: operation_place(operation),
@@ -60,12 +67,19 @@ pub fn constructor_sig<'a>(
     alloc: Global,
     resolver: &Resolver<'_, '_, 'a>,
     steps: &mut usize,
+    texts: &mut LongTexts<'a>,
     constructor: &'a Constructor,
 ) -> Result<Sig, AllocError>
     ensures term { IfOk result (λ sig. Some (sig_term sig) ≡ constructor_in (plain_definitions resolver.now) (ConstructorMember (constructor_of constructor.now))) }
     ensures numbered { IfOk result (λ sig. NumberedSig sig) }
 {
-    let args = args_meant(alloc, resolver, steps, constructor.arguments.as_slice())?;
+    let args = args_meant(
+        alloc,
+        resolver,
+        steps,
+        texts,
+        constructor.arguments.as_slice(),
+    )?;
     Ok(Sig {
         at: constructor.at,
         args,
@@ -82,6 +96,7 @@ pub fn args_meant<'a>(
     alloc: Global,
     resolver: &Resolver<'_, '_, 'a>,
     steps: &mut usize,
+    texts: &mut LongTexts<'a>,
     arguments: &'a [Argument],
 ) -> Result<Args, AllocError>
     ensures term { IfOk result (λ args. map arg_term args ≡ map (arg_of (plain_definitions resolver.now)) (arguments_of arguments.now)) }
@@ -90,7 +105,7 @@ pub fn args_meant<'a>(
     check_count(arguments.len())?;
     let mut args = Args::new(alloc);
     for argument in arguments {
-        let arg = arg_meant(alloc, resolver, steps, argument)?;
+        let arg = arg_meant(alloc, resolver, steps, texts, argument)?;
         args.push(arg)?;
     }
     Ok(args)
@@ -100,15 +115,16 @@ fn arg_meant<'a>(
     alloc: Global,
     resolver: &Resolver<'_, '_, 'a>,
     steps: &mut usize,
+    texts: &mut LongTexts<'a>,
     argument: &'a Argument,
 ) -> Result<Arg, AllocError>
     ensures term { IfOk result (λ arg. arg_term arg ≡ arg_of (plain_definitions resolver.now) (argument_of argument.now)) }
     ensures numbered { IfOk result (λ arg. NumberedType (type_term arg.ty)) }
 {
-    let name = name_units(alloc, &argument.name)?;
+    let name = texts.units_of(alloc, argument.name.text.as_str())?;
     let attributes = argument.attributes.as_slice();
     let ty = type_with(alloc, resolver, steps, attributes, &argument.ty)?;
-    let value = default_in(alloc, &argument.kind)?;
+    let value = default_in(alloc, texts, &argument.kind)?;
     Ok(Arg {
         name,
         ty,
@@ -128,11 +144,15 @@ fn optionality_of(kind: &ArgumentKind) -> Optionality
 }
 
 /// The default value of an argument, if it has one.
-fn default_in(alloc: Global, kind: &ArgumentKind) -> Result<Option<Literal>, AllocError>
+fn default_in<'a>(
+    alloc: Global,
+    texts: &mut LongTexts<'a>,
+    kind: &'a ArgumentKind,
+) -> Result<Option<Literal>, AllocError>
     ensures { IfOk result (λ value. value ≡ default_in (argument_kind_of kind.now)) }
 {
     match kind {
-        ArgumentKind::Optional(default) => default_meant(alloc, default),
+        ArgumentKind::Optional(default) => texts.default_of(alloc, default),
         ArgumentKind::Required | ArgumentKind::Variadic(_) => Ok(None),
     }
 }
