@@ -1,5 +1,6 @@
 pub mod Names
 pub mod Parts
+pub mod Marks
 pub mod Ranks
 pub mod Prints
 pub mod RuleOf
@@ -9,3 +10,4 @@ pub mod FaultPlaces
 pub mod QuotedTokens
 pub mod FirstBytes
 pub mod SpellingTable
+pub mod Spelled

@@ -1,6 +1,7 @@
 pub mod Terminals
 pub mod Rules
 pub mod Rows
+pub mod Levels
 pub mod Tables
 pub mod Owed
 pub mod Printed

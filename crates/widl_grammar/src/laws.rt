@@ -7,6 +7,7 @@ ghost use Rattle.widl_predictive.specs.Grammar.{Sentence, SyntaxPlace, DeepPlace
 ghost use Rattle.widl_predictive.specs.declared.fault.Fault.{Fault};
 ghost use Rattle.widl_grammar.specs.declared.rule.Rule.TheVariants.{Definitions};
 ghost use Rattle.widl_grammar.specs.declared.terminal.Terminal.{Terminal};
+ghost use Rattle.widl_grammar.specs.Levels.{AreMarked};
 ghost use Rattle.widl_grammar.specs.Printed.{PrintedSentence};
 ghost use Rattle.widl_grammar.specs.Rows.{grammar};
 ghost use Rattle.widl_grammar.specs.Words.{quoted, spelling};
@@ -19,9 +20,25 @@ pub fn same_sentences()
     ensures { (terminals : List Terminal) → (Sentence grammar Definitions terminals ↔ PrintedSentence terminals) }
 {}
 
+/// What lies one level further in than the type that it is a part of: the marks of the rows say so of
+/// exactly the parts that the definition names.
+pub fn levels_are_marked()
+    ensures { AreMarked }
+{}
+
 /// No two quoted terminals are spelled the same: the spelling tells the terminal.
 pub fn spelling_tells_terminal()
     ensures { (t : Terminal) (text : List ℕ) → spelling t ≡ Some text → quoted text ≡ Some t }
+{}
+
+/// And the other way round: the terminal that a text is quoted as is spelled so.
+pub fn quoted_terminal_is_spelled_so()
+    ensures { (t : Terminal) (text : List ℕ) → quoted text ≡ Some t → spelling t ≡ Some text }
+{}
+
+/// Each spelling of a terminal is a word or sign that a token can be quoted as.
+pub fn spelled_terminals_are_quoted_tokens()
+    ensures { (t : Terminal) (text : List ℕ) → spelling t ≡ Some text → IsQuoted text }
 {}
 
 /// Each word or sign that a token can be quoted as is a terminal of the grammar.

@@ -7,9 +7,11 @@ mod members;
 mod terminals;
 mod types;
 
-use crate::{Terminal, quoted, read_definitions};
+use crate::{SyntaxFault, Terminal, check_syntax, quoted, read_definitions};
 use std::alloc::{AllocFailed, Global};
 use std::process::Abort;
+use std::test::Fail;
+use widl_lex::Tokens;
 use widl_predictive::Fault;
 
 /// The terminal that a word of a test stands for: a quoted one, or a class by its first byte.
@@ -52,4 +54,13 @@ fn assert_rule(rt: &impl Abort, alloc: Global, sentence: &str, near_miss: &str, 
         Err(Fault::Syntax(place)),
         "{near_miss}"
     );
+}
+
+/// The answer for the file number 3, of this text.
+fn check(alloc: Global, text: &str) -> Result<Result<(), SyntaxFault>, Fail> {
+    if text.len() > 1_048_576 {
+        return Err("the text is too long".into());
+    }
+    let tokens = Tokens::read(alloc, 3, text.as_bytes())?;
+    Ok(check_syntax(alloc, &tokens))
 }

@@ -1,15 +1,18 @@
 //! Why a file has no tokens.
 
 use std::alloc::AllocFailed;
+use thiserror::Error;
 use widl_text::Place;
 
 /// Why a file has no tokens.
-#[derive(Debug, Drop)]
+#[derive(Debug, Drop, Error)]
 pub enum LexFault {
     /// The file is not UTF-8: the first byte that no UTF-8 text continues, or the file's length where it ends
     /// inside a character.
+    #[error("no UTF-8 text goes on here")]
     NotUtf8(Place),
     /// There is no memory for the list.
+    #[error("out of memory")]
     Memory,
 }
 

@@ -1,47 +1,69 @@
-use super::terminals_of;
-use crate::{Terminal, read_definitions};
-use std::alloc::AllocFailed;
+use super::check;
+use crate::{SyntaxFault, Terminal, read_definitions};
+use std::alloc::{AllocError, AllocFailed, Global};
+use std::process::Abort;
+use std::string::String;
+use std::test::Fail;
 use widl_predictive::Fault;
+use widl_text::Place;
 
-/// `typedef`, so many times `sequence<`, and `long`.
-fn nested(alloc: std::alloc::Global, depth: u32) -> Result<Vec<Terminal>, AllocFailed<Terminal>> {
-    let mut terminals = terminals_of(alloc, "typedef")?;
+/// A type definition in which a text stands so many times before a type, and another one after it.
+fn nested(
+    alloc: Global,
+    depth: u32,
+    before: &str,
+    ty: &str,
+    after: &str,
+) -> Result<String, AllocError> {
+    let mut text = String::from_str(alloc, "typedef ")?;
     for _ in 0..depth {
-        terminals.push(Terminal::Sequence)?;
-        terminals.push(Terminal::Less)?;
+        text.push_str(before)?;
     }
-    terminals.push(Terminal::Long)?;
-    Ok(terminals)
+    text.push_str(ty)?;
+    for _ in 0..depth {
+        text.push_str(after)?;
+    }
+    text.push_str(" T;")?;
+    Ok(text)
 }
 
-#[test]
-fn a_type_of_level_17_is_too_deep(rt: HostRuntime) -> Result<(), AllocFailed<Terminal>> {
-    let terminals = nested(rt.alloc(), 16)?;
-    assert_eq!(rt;
-        read_definitions(rt.alloc(), &terminals),
-        Err(Fault::TooDeep(33))
-    );
-    let terminals = nested(rt.alloc(), 15)?;
-    assert_eq!(rt;
-        read_definitions(rt.alloc(), &terminals),
-        Err(Fault::Syntax(32))
-    );
+/// Asserts that a type that lies in 15 others is none too deep, and that one in 16 others is, at this byte.
+fn assert_levels(
+    rt: &impl Abort,
+    alloc: Global,
+    before: &str,
+    ty: &str,
+    after: &str,
+    place: u32,
+) -> Result<(), Fail> {
+    let text = nested(alloc, 15, before, ty, after)?;
+    assert_eq!(rt; check(alloc, text.as_str())?, Ok(()), "{text}");
+    let text = nested(alloc, 16, before, ty, after)?;
+    let deep = SyntaxFault::TooDeep(Place { file: 3, at: place });
+    assert_eq!(rt; check(alloc, text.as_str())?, Err(deep), "{text}");
     Ok(())
 }
 
-// The third member of a union is as deep as the first two.
 #[test]
-fn each_member_of_a_union_is_one_level_in(rt: HostRuntime) -> Result<(), AllocFailed<Terminal>> {
-    let mut terminals = nested(rt.alloc(), 15)?;
-    let _ = terminals.pop();
-    for terminal in terminals_of(rt.alloc(), "( A or B or C ) ")? {
-        terminals.push(terminal)?;
-    }
-    assert_eq!(rt;
-        read_definitions(rt.alloc(), &terminals),
-        Err(Fault::TooDeep(32))
-    );
+fn what_promises_records_and_other_types_are_of_is_one_level_in(
+    rt: HostRuntime,
+) -> Result<(), Fail> {
+    let alloc = rt.alloc();
+    assert_levels(&rt, alloc, "Promise<", "any", ">", 136)?;
+    assert_levels(&rt, alloc, "record<DOMString, ", "any", ">", 296)?;
+    assert_levels(&rt, alloc, "sequence<", "long?", ">?", 152)?;
     Ok(())
+}
+
+// In the union inside 15 third members the first member is the first type that is too deep.
+#[test]
+fn the_third_member_of_a_union_is_one_level_in(rt: HostRuntime) -> Result<(), Fail> {
+    assert_levels(&rt, rt.alloc(), "(A or B or ", "C", ")", 174)
+}
+
+#[test]
+fn an_attribute_of_a_type_has_its_level(rt: HostRuntime) -> Result<(), Fail> {
+    assert_levels(&rt, rt.alloc(), "sequence<[X(", "long", " a)] long>", 200)
 }
 
 // Extended attributes in the arguments of extended attributes have no limit, and need no stack of the

@@ -1,18 +1,8 @@
-use crate::{SyntaxFault, check_syntax};
-use std::alloc::Global;
+use super::check;
+use crate::SyntaxFault;
 use std::string::String;
 use std::test::Fail;
-use widl_lex::Tokens;
 use widl_text::Place;
-
-/// The answer for a file of this text.
-fn check(alloc: Global, text: &str) -> Result<Result<(), SyntaxFault>, Fail> {
-    if text.len() > 1_048_576 {
-        return Err("the text is too long".into());
-    }
-    let tokens = Tokens::read(alloc, 3, text.as_bytes())?;
-    Ok(check_syntax(alloc, &tokens))
-}
 
 fn syntax(at: u32) -> Result<(), SyntaxFault> {
     Err(SyntaxFault::Syntax(Place { file: 3, at }))
@@ -33,25 +23,6 @@ fn places_are_offsets_in_the_file(rt: HostRuntime) -> Result<(), Fail> {
         syntax(25)
     );
     assert_eq!(rt; check(rt.alloc(), "")?, Ok(()));
-    Ok(())
-}
-
-#[test]
-fn the_seventeenth_type_is_too_deep(rt: HostRuntime) -> Result<(), Fail> {
-    let mut text = String::new(rt.alloc());
-    text.push_str("typedef ")?;
-    for _ in 0..16u32 {
-        text.push_str("sequence<")?;
-    }
-    text.push_str("long")?;
-    for _ in 0..16u32 {
-        text.push_str(">")?;
-    }
-    text.push_str(" T;")?;
-    assert_eq!(rt;
-        check(rt.alloc(), text.as_str())?,
-        Err(SyntaxFault::TooDeep(Place { file: 3, at: 152 }))
-    );
     Ok(())
 }
 
