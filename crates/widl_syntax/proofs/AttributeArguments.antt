@@ -6,7 +6,7 @@ use Rattle.widl_lex.specs.Tokens.{Lexeme}
 use Rattle.widl_predictive.specs.Derivation.{Terminal as Token}
 use Rattle.widl_predictive.specs.Predictive.{ahead}
 use Rattle.widl_predictive.specs.Runs as runs
-use Rattle.widl_predictive.specs.Runs.{Takes, taken}
+use Rattle.widl_predictive.specs.Runs.{Takes, stripped}
 use Rattle.widl_grammar.specs.declared.rule.Rule.TheVariants as rule
 use Rattle.widl_grammar.specs.declared.terminal.Terminal.{Terminal}
 use Rattle.widl_grammar.specs.Rows.{grammar}
@@ -14,7 +14,9 @@ use Rattle.widl_grammar.specs.Tables.{sets}
 use Rattle.widl_grammar.specs.Source.{terminal_of}
 use Rattle.widl_syntax.specs.Signs.{Sign, UnparsesTo, AreTexts, OfText, all_signs, at, ◌⧺◌}
 use Rattle.widl_syntax.specs.UnparsedNames.{text_of, attribute_rest}
-use Rattle.widl_syntax.specs.Reading.{Symbols, Runs, Reads, part, IfAhead, IsTaken}
+use Rattle.widl_syntax.specs.Deriving.{AnyRuns}
+use Rattle.widl_syntax.specs.Reading.{Symbols, RunsOf, Reads, part, IfAhead, IsTaken}
+use Rattle.widl_syntax.proofs.Leveling.{AnyReads, leveled, any_levels, as_stack, reads_itself, reads_only, runs_taken}
 use Rattle.widl_syntax.proofs.Reading.{spells_append, took_text}
 use Rattle.widl_syntax.proofs.Words.{taken_shorter}
 use Rattle.widl_syntax.proofs.Lists.{fewer_left, all_signs_more}
@@ -35,24 +37,28 @@ as_texts (t ∷ ts) w v s =
     (token.0, s.2.0, sym place.4 ∙ token.1, ap (λ l. l.at) (sym same.0) ∙ place.3, token.3, as_texts ts s.2.0 v s.2.2)
 
 -- they are the whole part of the rule
-as_part : (tokens : List SourceToken) (start now : List Lexeme) → Reads (part rule.ExtendedAttributeRest) (all_signs source_token tokens) start now → Reads (part rule.ExtendedAttributeRest) (attribute_rest tokens) start now
-as_part tokens start now f = record {
+as_part : (tokens : List SourceToken) (start now : List Lexeme) → AnyReads (part rule.ExtendedAttributeRest) (all_signs source_token tokens) start now → Reads (part rule.ExtendedAttributeRest) (attribute_rest tokens) start now
+as_part tokens start now f = leveled (record {
   reads = λ others r. let g = f.reads others r in ((now, (as_texts tokens start now g.0, (others, r), λ after run. (f.reads after run).1), refl), g.1);
-}
+})
 
 -- the tokens so far stand between two tokens of the file, the stack is what is still to be read from the second on, and each turn took a token
 pub record InMachine (start now : List Lexeme) (tokens : List SourceToken) (stack : Symbols) (turns : ℕ) : Type 0 where
-  pub so_far : (others : Symbols) → Runs (part rule.ExtendedAttributeRest ++ others) start → UnparsesTo (all_signs source_token tokens) start now × Runs (stack ++ others) now × (turns + length now ≤ length start)
+  pub so_far : (others : Symbols) → AnyRuns (part rule.ExtendedAttributeRest ++ others) start → UnparsesTo (all_signs source_token tokens) start now × AnyRuns (stack ++ others) now × (turns + length now ≤ length start)
   pub shorter : length now ≤ length start
 
 pub machine_begins : (start : List Lexeme) (tokens : List SourceToken) (stack : Symbols) → tokens ≡ [] → stack ≡ part rule.ExtendedAttributeRest → InMachine start start tokens stack 0
 machine_begins start tokens stack none is = record {
-  so_far = λ others r. (subst (λ ts. UnparsesTo (all_signs source_token ts) start start) (sym none) refl, subst (λ s. Runs (s ++ others) start) (sym is) r, omega arith);
+  so_far = λ others r. (subst (λ ts. UnparsesTo (all_signs source_token ts) start start) (sym none) refl, subst (λ s. AnyRuns (s ++ others) start) (sym is) r, omega arith);
   shorter = omega arith;
 }
 
-taken_first : (token : SourceToken) (after others : Symbols) (now next : List Lexeme) (a : Terminal) (v : List Terminal) → map terminal_of now ≡ a ∷ v → runs.Runs grammar sets (after ++ others) v → IsTaken token.at now next → IfAhead now (λ l. string_bytes token.text ≡ l.text) → UnparsesTo (source_token token) now next × Runs (after ++ others) next
-taken_first token after others now next a v e r t b = (took_text a (λ terminal. true) (string_bytes token.text) refl t b).reads (after ++ others) (subst (runs.Runs grammar sets (Token a ∷ (after ++ others))) (sym e) (taken r))
+taken_first : (token : SourceToken) (after others : Symbols) (now next : List Lexeme) (a : Terminal) (v : List Terminal) → map terminal_of now ≡ a ∷ v → runs.Runs grammar sets (after ++ others) v → IsTaken token.at now next → IfAhead now (λ l. string_bytes token.text ≡ l.text) → UnparsesTo (source_token token) now next × AnyRuns (after ++ others) next
+taken_first token after others now next a v e r t b =
+    let rest = stripped (as_stack v) in
+    let k = (took_text a (λ terminal. true) (string_bytes token.text) refl t b).reads rest (subst (RunsOf (Token a ∷ rest)) (sym e) (runs_taken (as_stack v, refl, reads_itself v))) in
+    let left = subst (λ s. runs.Runs grammar sets s (map terminal_of next)) k.1.1 (any_levels k.1.2) in
+    (k.0, subst (runs.Runs grammar sets (after ++ others)) (sym (reads_only v (map terminal_of next) left)) r)
 
 -- one token more
 pub machine_goes_on : {start now next : List Lexeme} {tokens : List SourceToken} {stack after : Symbols} {turns : ℕ} (ahead_is : Option Terminal) (goes : Bool) (token : SourceToken) → InMachine start now tokens stack turns → ahead_is ≡ ahead (map terminal_of now) → Takes grammar sets ahead_is stack after goes → goes ≡ true → IsTaken token.at now next → IfAhead now (λ l. string_bytes token.text ≡ l.text) → InMachine start next (tokens ++ token ∷ []) after (turns + 1)
@@ -80,7 +86,7 @@ none_left : (now : List Lexeme) (turns all : ℕ) → turns + length now ≤ all
 none_left [] turns all le used = refl
 none_left (l ∷ now) turns all le used = absurd (omega arith)
 
-takes_none : (stack after others : Symbols) (goes : Bool) → Takes grammar sets None stack after goes → Runs (stack ++ others) [] → Runs others []
+takes_none : (stack after others : Symbols) (goes : Bool) → Takes grammar sets None stack after goes → AnyRuns (stack ++ others) [] → AnyRuns others []
 takes_none stack after others false takes r = takes others [] refl r
 takes_none stack after others true takes r = let k = takes others [] refl r in let bad : [] ≡ k.0 ∷ k.1 = k.2 in cc
 
@@ -89,5 +95,5 @@ machine_used_up {start} {now} {tokens} {stack} {turns} after goes m takes used =
   reads = λ others r.
       let g = m.so_far others r in
       let none = none_left now turns (length start) g.2 used in
-      (g.0, subst (λ w. Runs others w) (sym none) (takes_none stack after others goes takes (subst (λ w. Runs (stack ++ others) w) none g.1)));
+      (g.0, subst (λ w. AnyRuns others w) (sym none) (takes_none stack after others goes takes (subst (λ w. AnyRuns (stack ++ others) w) none g.1)));
 })

@@ -1,3 +1,4 @@
+pub mod Leveling
 pub mod Lexemes
 pub mod Reading
 pub mod Lists
@@ -8,6 +9,9 @@ pub mod Separated
 pub mod AttributeArguments
 pub mod Members
 pub mod Types
+pub mod TypeLevels
 pub mod TypeForms
+pub mod Accepted
 pub mod Whole
+pub mod FileLevels
 pub mod Unique

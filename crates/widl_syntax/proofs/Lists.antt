@@ -6,7 +6,6 @@ use Rattle.widl_predictive.specs.declared.grammar.Symbol.{Symbol as RowSymbol}
 use Rattle.widl_predictive.specs.Derivation.{Nonterminal}
 use Rattle.widl_predictive.specs.Lookahead.{choice, nth}
 use Rattle.widl_predictive.specs.Predictive.{ahead}
-use Rattle.widl_predictive.specs.Runs as runs
 use Rattle.widl_predictive.specs.Runs.{plain}
 use Rattle.widl_grammar.specs.declared.rule.Rule.{Rule}
 use Rattle.widl_grammar.specs.declared.terminal.Terminal.{Terminal}
@@ -15,7 +14,7 @@ use Rattle.widl_grammar.specs.Tables.{sets, picked}
 use Rattle.widl_grammar.specs.Terminals.{all_terminals}
 use Rattle.widl_grammar.specs.Source.{terminal_of}
 use Rattle.widl_syntax.specs.Signs.{Sign, UnparsesTo, Text, AreTexts, AtPlace, OfTerminal, OfBytes, OfText, OfPart, Nowhere, all_signs, after, separated}
-use Rattle.widl_syntax.specs.Reading.{Symbols, Runs, Reads, Appends, part, terminal_ahead}
+use Rattle.widl_syntax.specs.Reading.{Symbols, Runs, RunsOf, Reads, Appends, part, terminal_ahead}
 use Rattle.widl_syntax.proofs.Reading.{part_first, ahead_is, that_row, rest_picks, spells_append, and_then, is_rest, is_among, is_other, is_row_or_none, pass_all, passes}
 
 -- signs that stand for a token at least
@@ -74,7 +73,7 @@ pub all_signs_append : {X : Type 0} (one : X → List Sign) (xs ys : List X) →
 all_signs_append one [] ys = refl
 all_signs_append one (x ∷ xs) ys = ap (λ signs. one x ++ signs) (all_signs_append one xs ys) ∙ sym (append_assoc (one x) (all_signs one xs) (all_signs one ys))
 
-append_none : {X : Type 0} (xs : List X) → xs ++ [] ≡ xs
+pub append_none : {X : Type 0} (xs : List X) → xs ++ [] ≡ xs
 append_none [] = refl
 append_none (x ∷ xs) = ap (λ more. x ∷ more) (append_none xs)
 
@@ -123,7 +122,7 @@ ends_here rule [] e none = record {
   reads = λ others r.
       let p = part_first r in
       let is : p.0 ≡ [] = cc in
-      (refl, subst (λ s. runs.Runs grammar sets (plain s ++ others) []) is p.2);
+      (refl, subst (λ s. RunsOf (plain s ++ others) []) is p.2);
 }
 ends_here rule (l ∷ now) e none = absurd (omega arith)
 

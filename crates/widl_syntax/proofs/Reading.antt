@@ -12,25 +12,24 @@ use Rattle.widl_predictive.specs.declared.grammar.Symbol.{Symbol as RowSymbol}
 use Rattle.widl_predictive.specs.Derivation.{Terminal as Token, Nonterminal}
 use Rattle.widl_predictive.specs.Lookahead.{choice, nth}
 use Rattle.widl_predictive.specs.Predictive.{ahead}
-use Rattle.widl_predictive.specs.Runs as runs
 use Rattle.widl_predictive.specs.Runs.{plain}
-use Rattle.widl_predictive.proofs.Inversion.{runs_over, runs_terminal, runs_nonterminal}
 use Rattle.widl_grammar.specs.declared.rule.Rule.{Rule}
 use Rattle.widl_grammar.specs.declared.terminal.Terminal.{Terminal}
 use Rattle.widl_grammar.specs.declared.terminal.Terminal.TheVariants.{Other, Identifier}
 use Rattle.widl_grammar.specs.Rows.{grammar, rows_of}
 use Rattle.widl_grammar.specs.Tables.{sets, picked}
 use Rattle.widl_grammar.specs.Source.{terminal_of}
+use Rattle.widl_syntax.proofs.Leveling.{runs_over, runs_terminal, runs_nonterminal}
 use Rattle.widl_syntax.specs.Signs.{Sign, UnparsesTo, OfBytes, OfText, Nowhere, at, word, ◌⧺◌}
 use Rattle.widl_syntax.specs.UnparsedNames.{name_bytes, is_escape_apart, escape_apart, identifier, is_word_of, any_name}
-use Rattle.widl_syntax.specs.Reading.{Symbols, Runs, Reads, token, part, terminal_ahead, IfAhead, IsTaken, IsTakenAs, IsPassedBy, IsName}
+use Rattle.widl_syntax.specs.Reading.{Symbols, Runs, RunsOf, Reads, token, part, terminal_ahead, IfAhead, IsTaken, IsTakenAs, IsPassedBy, IsName}
 
 abbrev pub Row : Type 0
 Row = List (RowSymbol Terminal Rule)
 
 -- what is read where a rule comes first
-pub part_first : {rule : Rule} {z : Symbols} {w : List Terminal} → runs.Runs grammar sets (Nonterminal rule ∷ z) w → (α : Row) × (choice grammar sets rule (ahead w) ≡ Some α) × runs.Runs grammar sets (plain α ++ z) w
-part_first r = runs_nonterminal grammar sets r
+pub part_first : {rule : Rule} {z : Symbols} {w : List Terminal} → RunsOf (Nonterminal rule ∷ z) w → (α : Row) × (choice grammar sets rule (ahead w) ≡ Some α) × RunsOf (plain α ++ z) w
+part_first r = runs_nonterminal r
 
 -- a token of the terminal comes first
 pub record First (a : Terminal) (z : Symbols) (w : List Lexeme) : Type 0 where
@@ -41,15 +40,15 @@ pub record First (a : Terminal) (z : Symbols) (w : List Lexeme) : Type 0 where
   pub runs : Runs z rest
 
 pub first_of_token : (a : Terminal) (z : Symbols) (w : List Lexeme) → Runs (Token a ∷ z) w → First a z w
-first_of_token a z [] r = let i = runs_terminal grammar sets r in absurd (let e : [] ≡ a ∷ i.0 = i.1 in cc)
+first_of_token a z [] r = let i = runs_terminal r in absurd (let e : [] ≡ a ∷ i.0 = i.1 in cc)
 first_of_token a z (l ∷ v) r =
-    let i = runs_terminal grammar sets r in
+    let i = runs_terminal r in
     let same : map terminal_of v ≡ i.0 = cc in
-    record { lexeme = l; rest = v; is = refl; terminal = cc; runs = subst (runs.Runs grammar sets z) (sym same) i.2 }
+    record { lexeme = l; rest = v; is = refl; terminal = cc; runs = subst (RunsOf z) (sym same) i.2 }
 
 pub end_of_nothing : (w : List Lexeme) → Runs [] w → w ≡ []
 end_of_nothing [] r = refl
-end_of_nothing (l ∷ v) r = let e = runs_over grammar sets r in cc
+end_of_nothing (l ∷ v) r = let e = runs_over r in cc
 
 pub spells_append : (x y : List Sign) (w m v : List Lexeme) → UnparsesTo x w m → UnparsesTo y m v → UnparsesTo (x ++ y) w v
 spells_append [] y w m v e h = subst (λ u. UnparsesTo y u v) (sym e) h
@@ -182,7 +181,7 @@ row_read rule α {x} {w} {v} e f = record {
 pub by_row : (rule : Rule) (t : Terminal) {α : Row} {x : List Sign} {w v : List Lexeme} → terminal_ahead w ≡ t → is_other t ≡ false → choice grammar sets rule (Some t) ≡ Some α → Reads (plain α) x w v → Reads (part rule) x w v
 by_row rule t {α} {x} {w} {v} e other c f = row_read rule α (ap (choice grammar sets rule) (ahead_is t w other e) ∙ c) f
 
-only_row : {α β : Row} (k : ℕ) → nth (α ∷ []) k ≡ Some β → β ≡ α
+pub only_row : {α β : Row} (k : ℕ) → nth (α ∷ []) k ≡ Some β → β ≡ α
 only_row zero e = cc
 only_row (suc k) e = cc
 

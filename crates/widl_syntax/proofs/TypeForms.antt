@@ -12,11 +12,13 @@ use Rattle.widl_idl.specs.declared.tree.types.TypeForm.{TypeForm, the_lemmas}
 use Rattle.widl_idl.specs.declared.tree.types.TypeForm.TheVariants as form
 use Rattle.widl_idl.specs.declared.tree.types.UnionMembers.{UnionMembers}
 use Rattle.widl_idl.specs.declared.tree.types.WrittenType.{WrittenType, roll-WrittenType}
+use Rattle.widl_idl.specs.PlainTypes.{form_term, type_of, annotated_of, plain_of, plain_inner}
 use Rattle.widl_idl.specs.TypeTrees.{FormTree, AnyForm, BooleanForm, BigIntForm, IntegerForm, FloatForm, NamedForm, ContainerForm, RecordForm, PromiseForm, UnionForm, type_tree, annotated_tree, packed_members, form_of, tree_of_type, tree_of_annotated, trees_of_members}
 use Rattle.widl_idl.specs.Written.{members_in}
+use Rattle.widl_syntax.specs.Nesting.{form_levels, type_levels, annotated_levels}
 use Rattle.widl_syntax.specs.Signs.{at, ◌⧺◌}
 use Rattle.widl_syntax.specs.UnparsedNames.{extended_attributes}
-use Rattle.widl_syntax.specs.UnparsedTypes.{form_signs, type_signs, annotated_signs, question_mark, written_type, annotated_type, bare_signs, bare_type}
+use Rattle.widl_syntax.specs.UnparsedTypes.{form_signs, type_signs, annotated_signs, question_mark, inner_type, inner_annotated, within_levels, outer_annotated, written_type, annotated_type, bare_signs, bare_type}
 
 pub form-Any : form_of form.Any ≡ AnyForm
 form-Any = search (rules, the_lemmas)
@@ -58,15 +60,25 @@ pub trees-UnionMembers : (members : UnionMembers) → trees_of_members members �
 trees-UnionMembers members = search (rules, the_lemmas)
 
 -- the signs of a type, from the term of its form
-pub type-WrittenType : (place : Place) (f : TypeForm) (tree : FormTree) (question : Option Place) → form_of f ≡ tree → written_type (roll-WrittenType (record { at = place; form = f; question = question })) ≡ at place ⧺ form_signs tree ⧺ question_mark question
+pub type-WrittenType : (place : Place) (f : TypeForm) (tree : FormTree) (question : Option Place) → form_of f ≡ tree → inner_type (roll-WrittenType (record { at = place; form = f; question = question })) ≡ at place ⧺ form_signs tree ⧺ question_mark question
 type-WrittenType place f tree question e = ap type_signs (tree-WrittenType place f question) ∙ ap (λ form. at place ⧺ form_signs form ⧺ question_mark question) e
 
-pub type-AnnotatedType : (place : Place) (attributes : List ExtendedAttribute) (ty : WrittenType) → annotated_type (roll-AnnotatedType (record { at = place; attributes = attributes; ty = ty })) ≡ at place ⧺ extended_attributes attributes ⧺ written_type ty
+pub type-AnnotatedType : (place : Place) (attributes : List ExtendedAttribute) (ty : WrittenType) → inner_annotated (roll-AnnotatedType (record { at = place; attributes = attributes; ty = ty })) ≡ at place ⧺ extended_attributes attributes ⧺ inner_type ty
 type-AnnotatedType place attributes ty = ap annotated_signs (tree-AnnotatedType place attributes ty)
+
+pub outer-AnnotatedType : (place : Place) (attributes : List ExtendedAttribute) (ty : WrittenType) → annotated_type (roll-AnnotatedType (record { at = place; attributes = attributes; ty = ty })) ≡ at place ⧺ extended_attributes attributes ⧺ written_type ty
+outer-AnnotatedType place attributes ty = ap outer_annotated (tree-AnnotatedType place attributes ty)
 
 pub type-bare : (place : Place) (attributes : List ExtendedAttribute) (ty : WrittenType) → attributes ≡ [] → bare_type (roll-AnnotatedType (record { at = place; attributes = attributes; ty = ty })) ≡ at place ⧺ written_type ty
 type-bare place attributes ty none = ap bare_signs (tree-AnnotatedType place attributes ty) ∙ ap (λ all. bare_signs (annotated_tree place all (tree_of_type ty))) none
 
 -- the signs of a type begin at its place
-pub type-at : (ty : WrittenType) → written_type ty ≡ at ty.at ⧺ form_signs (form_of ty.form) ⧺ question_mark ty.question
-type-at ty = let e : tree_of_type ty ≡ type_tree ty.at (form_of ty.form) ty.question = search (rules, the_lemmas) in ap type_signs e
+pub type-at : (ty : WrittenType) → written_type ty ≡ at ty.at ⧺ (form_signs (form_of ty.form) ⧺ question_mark ty.question) ⧺ within_levels (tree_of_type ty)
+type-at ty = let e : tree_of_type ty ≡ type_tree ty.at (form_of ty.form) ty.question = search (rules, the_lemmas) in ap (λ tree. type_signs tree ⧺ within_levels (tree_of_type ty)) e
+
+-- the levels of a type, from those of its parts
+pub levels-WrittenType : (place : Place) (f : TypeForm) (question : Option Place) → type_levels (type_of (roll-WrittenType (record { at = place; form = f; question = question }))) ≡ form_levels (form_term f)
+levels-WrittenType place f question = ap (λ tree. type_levels (plain_of tree)) (tree-WrittenType place f question)
+
+pub levels-AnnotatedType : (place : Place) (attributes : List ExtendedAttribute) (ty : WrittenType) → annotated_levels (annotated_of (roll-AnnotatedType (record { at = place; attributes = attributes; ty = ty }))) ≡ type_levels (type_of ty)
+levels-AnnotatedType place attributes ty = ap (λ tree. annotated_levels (plain_inner tree)) (tree-AnnotatedType place attributes ty)

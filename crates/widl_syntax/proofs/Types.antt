@@ -12,9 +12,7 @@ use Rattle.widl_predictive.specs.Lookahead.{choice, nth}
 use Rattle.widl_predictive.specs.Predictive.{ahead}
 use Rattle.widl_predictive.specs.declared.grammar.Symbol.{Symbol as RowSymbol}
 use Rattle.widl_predictive.specs.declared.grammar.Symbol.TheVariants.{Token, Part, Inner}
-use Rattle.widl_predictive.specs.Derivation.{Terminal as Derived, Nonterminal}
-use Rattle.widl_predictive.specs.Runs as runs
-use Rattle.widl_predictive.specs.Runs.{plain, over, taken, chosen}
+use Rattle.widl_predictive.specs.Runs.{plain}
 use Rattle.widl_grammar.specs.declared.rule.Rule.{Rule}
 use Rattle.widl_grammar.specs.declared.rule.Rule.TheVariants as rule
 use Rattle.widl_grammar.specs.declared.terminal.Terminal.{Terminal}
@@ -26,7 +24,7 @@ use Rattle.widl_grammar.specs.Terminals.{all_terminals}
 use Rattle.widl_grammar.specs.Source.{terminal_of}
 use Rattle.widl_syntax.specs.Signs.{Sign, at, word, all_signs, after, ◌⧺◌}
 use Rattle.widl_syntax.specs.UnparsedNames.{word_if}
-use Rattle.widl_syntax.specs.UnparsedTypes.{container_terminal, question_mark, annotated_type, member_signs, more_member_signs, union_signs}
+use Rattle.widl_syntax.specs.UnparsedTypes.{container_terminal, question_mark, inner_annotated, member_signs, more_member_signs, union_signs}
 use Rattle.widl_syntax.specs.TypeWords.{is_primitive_word, is_type_word, is_container_word}
 use Rattle.widl_syntax.specs.Reading.{Symbols, Runs, Reads, token, part, terminal_ahead, IsTaken, IsTakenAs, IsPassedBy}
 use Rattle.widl_syntax.proofs.Reading.{pass_all, passes, is_other, is_row_or_none, that_row, part_first, by_row, by_rest, took, took_at, nothing_if, is_among, other_than}
@@ -154,37 +152,13 @@ named_row ahead w {x} {v} e primitive type generic other f =
     f
 
 -- members with `or` between each two
-more_member_list : (xs : List AnnotatedType) → more_member_signs (packed_members (map tree_of_annotated xs)) ≡ all_signs (after terminal.Or annotated_type) xs
+more_member_list : (xs : List AnnotatedType) → more_member_signs (packed_members (map tree_of_annotated xs)) ≡ all_signs (after terminal.Or inner_annotated) xs
 more_member_list [] = refl
-more_member_list (x ∷ xs) = ap (λ s. word terminal.Or ⧺ annotated_type x ⧺ s) (more_member_list xs)
+more_member_list (x ∷ xs) = ap (λ s. word terminal.Or ⧺ inner_annotated x ⧺ s) (more_member_list xs)
 
 pub member_list : (xs : List AnnotatedType) → member_signs (packed_members (map tree_of_annotated xs)) ≡ union_signs xs
 member_list [] = refl
-member_list (x ∷ xs) = ap (λ s. annotated_type x ⧺ s) (more_member_list xs)
-
--- what is to be read after others, in place of what can be read as it
-pub in_place_of : {z y : Symbols} → ((w : List Terminal) → runs.Runs grammar sets z w → runs.Runs grammar sets y w) → (α : Symbols) {s : Symbols} {w : List Terminal} → runs.Runs grammar sets s w → s ≡ α ++ z → runs.Runs grammar sets (α ++ y) w
-in_place_of f [] {s} {w} r e = f w (subst (λ u. runs.Runs grammar sets u w) e r)
-in_place_of f (x ∷ α) over e = cc
-in_place_of {z} {y} f (x ∷ α) (taken {a} {z = rest} {w} r) e =
-    let head : Derived a ≡ x = cc in
-    let tail : rest ≡ α ++ z = cc in
-    subst (λ u. runs.Runs grammar sets (u ∷ (α ++ y)) (a ∷ w)) head (taken (in_place_of f α r tail))
-in_place_of {z} {y} f (x ∷ α) (chosen {r = one} {z = rest} {w} row c r) e =
-    let head : Nonterminal one ≡ x = cc in
-    let tail : rest ≡ α ++ z = cc in
-    let same : plain row ++ rest ≡ (plain row ++ α) ++ z = ap (λ u. plain row ++ u) tail ∙ sym (append_assoc (plain row) α z) in
-    subst (λ u. runs.Runs grammar sets (u ∷ (α ++ y)) w) head
-    (chosen row c (subst (λ u. runs.Runs grammar sets u w) (append_assoc (plain row) α y) (in_place_of f (plain row ++ α) r same)))
-
-or_first : {z : Symbols} {w : List Terminal} → runs.Runs grammar sets (token terminal.Or ++ part rule.UnionMember ++ part rule.MoreUnionMembers ++ z) w → runs.Runs grammar sets (part rule.MoreUnionMembers ++ z) w
-or_first {z} (taken {w} r) = chosen (Token terminal.Or ∷ Inner rule.UnionMember ∷ Part rule.MoreUnionMembers ∷ []) refl (taken r)
-
--- the second member of a union and those after it are read as any others
-pub union_row : {x : List Sign} {w v : List Lexeme} → Reads (part rule.UnionMember ++ part rule.MoreUnionMembers) x w v → Reads (part rule.UnionMember ++ token terminal.Or ++ part rule.UnionMember ++ part rule.MoreUnionMembers) x w v
-union_row {x} {w} {v} f = record {
-  reads = λ others r. f.reads others (in_place_of (λ u q. or_first q) (part rule.UnionMember) r refl);
-}
+member_list (x ∷ xs) = ap (λ s. inner_annotated x ⧺ s) (more_member_list xs)
 
 -- a `?`, if there is one
 pub question_here : (w m : List Lexeme) (o : Option Place) → MatchOption o (IsPassedBy terminal.Question w m) (λ place. IsTakenAs terminal.Question place w m) → Reads (part rule.Nullable) (question_mark o) w m

@@ -1,4 +1,6 @@
+pub mod Leveled
 pub mod Deriving
+pub mod Nesting
 pub mod Signs
 pub mod UnparsedNames
 pub mod UnparsedTypes
@@ -6,5 +8,6 @@ pub mod UnparsedMembers
 pub mod UnparsedDefinitions
 pub mod MemberLists
 pub mod TypeWords
+pub mod TypeLevels
 pub mod Reading
 pub mod OneTree

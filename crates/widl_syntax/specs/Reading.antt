@@ -7,7 +7,7 @@ use Rattle.widl_grammar.specs.declared.rule.Rule.{Rule}
 use Rattle.widl_grammar.specs.declared.terminal.Terminal.{Terminal}
 use Rattle.widl_grammar.specs.declared.terminal.Terminal.TheVariants.{Other}
 use Rattle.widl_grammar.specs.Source.{terminal_of}
-pub use Rattle.widl_syntax.specs.Deriving.{Symbols, token, part, Runs}
+pub use Rattle.widl_syntax.specs.Deriving.{Symbols, token, part, Runs, RunsOf}
 use Rattle.widl_syntax.specs.UnparsedNames.{name_bytes, is_escape_apart}
 use Rattle.widl_syntax.specs.Signs.{Sign, UnparsesTo, all_signs}
 

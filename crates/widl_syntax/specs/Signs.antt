@@ -5,7 +5,7 @@ use Rattle.widl_lex.specs.Tokens.{Lexeme}
 use Rattle.widl_grammar.specs.declared.rule.Rule.{Rule}
 use Rattle.widl_grammar.specs.declared.terminal.Terminal.{Terminal}
 use Rattle.widl_grammar.specs.Source.{terminal_of}
-use Rattle.widl_syntax.specs.Deriving.{Symbols, Runs, part}
+use Rattle.widl_syntax.specs.Deriving.{Symbols, AnyRuns, part}
 
 -- a token by its place and its bytes
 pub record Text : Type 0 where
@@ -28,11 +28,11 @@ AreTexts (t ∷ more) from to = (l : Lexeme) × (rest : List Lexeme) × (from �
 
 -- a part of the rule begins at `from`, with some symbols to follow it
 abbrev pub BeginsAt : Rule → List Lexeme → Type 0
-BeginsAt rule from = (others : Symbols) × Runs (part rule ++ others) from
+BeginsAt rule from = (others : Symbols) × AnyRuns (part rule ++ others) from
 
 -- the rule's part ends at `to`: whatever may follow the rule goes on there
 abbrev pub EndsAt : Rule → List Lexeme → List Lexeme → Type 0
-EndsAt rule from to = (others : Symbols) → Runs (part rule ++ others) from → Runs others to
+EndsAt rule from to = (others : Symbols) → AnyRuns (part rule ++ others) from → AnyRuns others to
 
 -- the sign stands for the tokens between two of a file
 abbrev pub Stands : Sign → List Lexeme → List Lexeme → Type 0

@@ -5,9 +5,11 @@ use Rattle.widl_idl.specs.declared.int_kind.IntKind.TheVariants as int
 use Rattle.widl_idl.specs.declared.tree.types.FloatKind.{FloatKind}
 use Rattle.widl_idl.specs.declared.tree.types.FloatKind.TheVariants as float
 use Rattle.widl_idl.specs.declared.tree.types.TypeForm.{TypeForm}
+use Rattle.widl_idl.specs.PlainTypes.{form_term}
 use Rattle.widl_idl.specs.TypeTrees.{form_of}
 use Rattle.widl_grammar.specs.declared.terminal.Terminal.{Terminal}
 use Rattle.widl_grammar.specs.declared.terminal.Terminal.TheVariants as t
+use Rattle.widl_syntax.specs.Nesting.{form_levels}
 use Rattle.widl_syntax.specs.Signs.{Sign, word, ◌⧺◌}
 use Rattle.widl_syntax.specs.UnparsedTypes.{form_signs}
 
@@ -84,3 +86,4 @@ is_container_word _ = false
 pub record IsWordForm (test : Terminal → Bool) (terminal : Terminal) (form : TypeForm) : Type 0 where
   pub known : test terminal ≡ true
   pub signs : form_signs (form_of form) ≡ word terminal
+  pub flat : form_levels (form_term form) ≡ 1

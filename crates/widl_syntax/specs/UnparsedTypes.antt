@@ -1,5 +1,5 @@
 -- The signs of types.
-use Rattle.std.specs.Prelude.{◌∷◌, Option, None, Some, List, []}
+use Rattle.std.specs.Prelude.{◌∷◌, Option, None, Some, List, [], if◌then◌else◌, nat_le}
 use Rattle.widl_text.specs.declared.place.Place.{Place}
 use Rattle.widl_idl.specs.declared.int_kind.IntKind.{IntKind}
 use Rattle.widl_idl.specs.declared.int_kind.IntKind.TheVariants as int
@@ -13,9 +13,11 @@ use Rattle.widl_idl.specs.declared.tree.types.Container.TheVariants as container
 use Rattle.widl_idl.specs.declared.tree.types.FloatKind.{FloatKind}
 use Rattle.widl_idl.specs.declared.tree.types.FloatKind.TheVariants as float
 use Rattle.widl_idl.specs.declared.tree.types.WrittenType.{WrittenType}
+use Rattle.widl_idl.specs.PlainTypes.{plain_of}
 use Rattle.widl_idl.specs.TypeTrees.{FormTree, TypeTree, AnnotatedTree, MemberTrees, AnyForm, UndefinedForm, BooleanForm, ObjectForm, SymbolForm, BigIntForm, IntegerForm, FloatForm, TextForm, BufferForm, NamedForm, ContainerForm, RecordForm, PromiseForm, UnionForm, type_tree, annotated_tree, no_members, more_members, tree_of_type, tree_of_annotated}
 use Rattle.widl_grammar.specs.declared.terminal.Terminal.{Terminal}
 use Rattle.widl_grammar.specs.declared.terminal.Terminal.TheVariants as t
+use Rattle.widl_syntax.specs.Nesting.{type_levels}
 use Rattle.widl_syntax.specs.Signs.{Sign, Nowhere, at, word, separated, ◌⧺◌}
 use Rattle.widl_syntax.specs.UnparsedNames.{identifier, extended_attributes}
 
@@ -100,16 +102,33 @@ abbrev mutual
   more_member_signs no_members = []
   more_member_signs (more_members member more) = word t.Or ⧺ annotated_signs member ⧺ more_member_signs more
 
--- a type of a tree
+-- a type inside another one
+abbrev pub inner_type : WrittenType → List Sign
+inner_type ty = type_signs (tree_of_type ty)
+
+abbrev pub inner_annotated : AnnotatedType → List Sign
+inner_annotated ty = annotated_signs (tree_of_annotated ty)
+
+-- no more tokens; and a type of more than 16 levels has no spelling
+abbrev pub within_levels : TypeTree → List Sign
+within_levels ty = if nat_le (type_levels (plain_of ty)) 16 then [] else Nowhere ∷ []
+
+-- a type of a tree, inside no other
+abbrev pub outer_signs : TypeTree → List Sign
+outer_signs ty = type_signs ty ⧺ within_levels ty
+
 abbrev pub written_type : WrittenType → List Sign
-written_type ty = type_signs (tree_of_type ty)
+written_type ty = outer_signs (tree_of_type ty)
+
+abbrev pub outer_annotated : AnnotatedTree → List Sign
+outer_annotated (annotated_tree place attributes inner) = at place ⧺ extended_attributes attributes ⧺ outer_signs inner
 
 abbrev pub annotated_type : AnnotatedType → List Sign
-annotated_type ty = annotated_signs (tree_of_annotated ty)
+annotated_type ty = outer_annotated (tree_of_annotated ty)
 
 -- a type where no extended attributes may stand: with some of its own it has no spelling
 abbrev pub bare_signs : AnnotatedTree → List Sign
-bare_signs (annotated_tree place [] inner) = at place ⧺ type_signs inner
+bare_signs (annotated_tree place [] inner) = at place ⧺ outer_signs inner
 bare_signs (annotated_tree place (a ∷ more) inner) = Nowhere ∷ []
 
 abbrev pub bare_type : AnnotatedType → List Sign
@@ -117,7 +136,7 @@ bare_type ty = bare_signs (tree_of_annotated ty)
 
 -- the members of a union
 abbrev pub union_signs : List AnnotatedType → List Sign
-union_signs members = separated t.Or annotated_type members
+union_signs members = separated t.Or inner_annotated members
 
 abbrev pub second_type : Option AnnotatedType → List Sign
 second_type None = []

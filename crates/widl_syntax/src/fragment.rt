@@ -6,6 +6,7 @@ ghost use Rattle.widl_grammar.specs.declared.fault.SyntaxFault.TheVariants.{Memo
 ghost use Rattle.widl_grammar.specs.declared.rule.Rule.TheVariants.{Definitions};
 ghost use Rattle.widl_grammar.specs.Rows.{grammar};
 ghost use Rattle.widl_grammar.specs.Source.{terminals_of, IsFaultOf};
+ghost use Rattle.widl_syntax.specs.Nesting.{HasLevels};
 ghost use Rattle.widl_syntax.specs.Signs.{UnparsesTo};
 ghost use Rattle.widl_syntax.specs.UnparsedDefinitions.{fragment};
 
@@ -20,7 +21,8 @@ use widl_lex::Tokens;
 ///
 /// The tree spells the file: the signs that it stands for, one case for each alternative of the grammar,
 /// are the file's tokens in order, with their texts where the tree has texts and their places where it
-/// has places. Its number is the file's, and its count of tokens theirs.
+/// has places. Its number is the file's, and its count of tokens theirs. No type of it nests deeper than
+/// 16 levels, which bounds every recursion over its types.
 ///
 /// `Ok` exactly for a sentence of the grammar without a type of level 17. Otherwise the lower of the
 /// file's two places: [`SyntaxFault::Syntax`] at the first token up to and including which no sentence
@@ -31,6 +33,7 @@ pub fn parse(alloc: Global, tokens: &Tokens<'_>) -> Result<Fragment, SyntaxFault
     ensures ok { OnOk result (IsAccepted grammar Definitions (terminals_of tokens.now)) }
     ensures file { IfOk result (λ fragment. fragment.file ≡ tokens.now.file) }
     ensures tokens { IfOk result (λ fragment. fragment.token_count ≡ length tokens.now.lexemes) }
+    ensures levels { IfOk result (λ read. HasLevels 16 read) }
     ensures spelled { IfOk result (λ read. UnparsesTo (fragment read) tokens.now.lexemes []) }
     ensures fault { IfErr result (λ e. (e ≡ Memory) ⊎ IsFaultOf tokens.now e) }
     ensures complete { IsAccepted grammar Definitions (terminals_of tokens.now) → IsOkUnless result Memory }

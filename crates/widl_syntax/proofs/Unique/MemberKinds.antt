@@ -16,7 +16,7 @@ use Rattle.widl_grammar.specs.declared.terminal.Terminal.{Terminal}
 use Rattle.widl_grammar.specs.declared.terminal.Terminal.TheVariants as t
 use Rattle.widl_syntax.specs.Signs.{Sign, UnparsesTo, word, all_signs, ◌⧺◌}
 use Rattle.widl_syntax.specs.UnparsedNames.{word_if}
-use Rattle.widl_syntax.specs.UnparsedTypes.{type_signs}
+use Rattle.widl_syntax.specs.UnparsedTypes.{outer_signs}
 use Rattle.widl_syntax.specs.UnparsedMembers.{constant, attribute_word, operation_word, constructor, stringifier, iterable, async_words, maplike_rest, setlike_rest, member_kind, member}
 use Rattle.widl_syntax.proofs.Unique.Same.{SameMemberKind, SameMember, SameMembers}
 use Rattle.widl_syntax.specs.Reading.{terminal_ahead}
@@ -104,16 +104,16 @@ attribute_ahead (attribute_kind.Inherited p) readonly x w m s = by_first number_
 attribute_ahead (attribute_kind.Stringifier p) true x w m s = by_two number_by t.Stringifier (word t.Readonly ⧺ word t.Attribute ⧺ x) w m refl (without_place (word t.Stringifier ⧺ word t.Readonly ⧺ word t.Attribute ⧺ x) m s)
 attribute_ahead (attribute_kind.Stringifier p) false x w m s = by_two number_by t.Stringifier (word t.Attribute ⧺ x) w m refl (without_place (word t.Stringifier ⧺ word t.Attribute ⧺ x) m s)
 
-operation_ahead : (k : OperationKind) (ty : TypeTree) (x : List Sign) (w m : List Lexeme) → UnparsesTo (operation_word k ⧺ type_signs ty ⧺ x) w m → number_at number_by w ≡ 2
+operation_ahead : (k : OperationKind) (ty : TypeTree) (x : List Sign) (w m : List Lexeme) → UnparsesTo (operation_word k ⧺ outer_signs ty ⧺ x) w m → number_at number_by w ≡ 2
 operation_ahead operation_kind.Regular ty x w m s =
-    let known : Keeps (NoneAhead other_words) Anywhere (type_signs ty ⧺ x) = first_keeps x (type_keeps ty other_words refl) in
+    let known : Keeps (NoneAhead other_words) Anywhere (outer_signs ty ⧺ x) = first_keeps x (type_keeps ty other_words refl) in
     operation_number (terminal_ahead w) (terminal_ahead (drop 1 w)) (known.keeps w m s tt).none
 operation_ahead operation_kind.Static ty x w m s =
-    let known : Keeps (NoneAhead (t.Attribute ∷ t.Readonly ∷ [])) Anywhere (type_signs ty ⧺ x) = first_keeps x (type_keeps ty (t.Attribute ∷ t.Readonly ∷ []) refl) in
-    by_first number_by (word t.Static ⧺ type_signs ty ⧺ x) w m refl s ∙ static_number (terminal_ahead (drop 1 w)) (known.keeps (drop 1 w) m (after_word (type_signs ty ⧺ x) m s) tt).none
-operation_ahead (operation_kind.Special Getter p) ty x w m s = by_first number_by (operation_word (operation_kind.Special Getter p) ⧺ type_signs ty ⧺ x) w m refl s
-operation_ahead (operation_kind.Special Setter p) ty x w m s = by_first number_by (operation_word (operation_kind.Special Setter p) ⧺ type_signs ty ⧺ x) w m refl s
-operation_ahead (operation_kind.Special Deleter p) ty x w m s = by_first number_by (operation_word (operation_kind.Special Deleter p) ⧺ type_signs ty ⧺ x) w m refl s
+    let known : Keeps (NoneAhead (t.Attribute ∷ t.Readonly ∷ [])) Anywhere (outer_signs ty ⧺ x) = first_keeps x (type_keeps ty (t.Attribute ∷ t.Readonly ∷ []) refl) in
+    by_first number_by (word t.Static ⧺ outer_signs ty ⧺ x) w m refl s ∙ static_number (terminal_ahead (drop 1 w)) (known.keeps (drop 1 w) m (after_word (outer_signs ty ⧺ x) m s) tt).none
+operation_ahead (operation_kind.Special Getter p) ty x w m s = by_first number_by (operation_word (operation_kind.Special Getter p) ⧺ outer_signs ty ⧺ x) w m refl s
+operation_ahead (operation_kind.Special Setter p) ty x w m s = by_first number_by (operation_word (operation_kind.Special Setter p) ⧺ outer_signs ty ⧺ x) w m refl s
+operation_ahead (operation_kind.Special Deleter p) ty x w m s = by_first number_by (operation_word (operation_kind.Special Deleter p) ⧺ outer_signs ty ⧺ x) w m refl s
 
 async_ahead : (word : AsyncWord) (x : List Sign) (w m : List Lexeme) → UnparsesTo (async_words word ⧺ x) w m → number_at number_by w ≡ 6
 async_ahead TwoWords x w m s = by_first number_by (async_words TwoWords ⧺ x) w m refl s
@@ -165,10 +165,10 @@ attribute_inside attribute_kind.Regular readonly x = word_if_keeps t.Readonly re
 attribute_inside attribute_kind.Static readonly x = begins_else (word t.Static ⧺ word_if readonly t.Readonly ⧺ word t.Attribute ⧺ x) around_members refl
 attribute_inside k readonly x = begins_else (attribute_word k ⧺ word_if readonly t.Readonly ⧺ word t.Attribute ⧺ x) around_members refl
 
-operation_inside : (k : OperationKind) (ty : TypeTree) (x : List Sign) → Inside (operation_word k ⧺ type_signs ty ⧺ x)
+operation_inside : (k : OperationKind) (ty : TypeTree) (x : List Sign) → Inside (operation_word k ⧺ outer_signs ty ⧺ x)
 operation_inside operation_kind.Regular ty x = first_keeps x (type_keeps ty around_members refl)
-operation_inside (operation_kind.Special Getter p) ty x = begins_else (operation_word (operation_kind.Special Getter p) ⧺ type_signs ty ⧺ x) around_members refl
-operation_inside k ty x = begins_else (operation_word k ⧺ type_signs ty ⧺ x) around_members refl
+operation_inside (operation_kind.Special Getter p) ty x = begins_else (operation_word (operation_kind.Special Getter p) ⧺ outer_signs ty ⧺ x) around_members refl
+operation_inside k ty x = begins_else (operation_word k ⧺ outer_signs ty ⧺ x) around_members refl
 
 async_inside : (word : AsyncWord) (x : List Sign) → Inside (async_words word ⧺ x)
 async_inside TwoWords x = begins_else (async_words TwoWords ⧺ x) around_members refl

@@ -1,6 +1,6 @@
 -- Types have one spelling each.
-use Rattle.std.proofs.Common.{◌≡◌, ℕ, suc, Bool, true, false, if◌then◌else◌, Option, Some, None, List, [], ◌∷◌, refl, sym, ◌∙◌, ap, subst, eqb-true, inl, inr}
-use Rattle.std.specs.Prelude.{not, ◌||◌, ◌&&◌, nat_eq}
+use Rattle.std.proofs.Common.{◌≡◌, ◌≤◌, ℕ, suc, leb-true, Bool, true, false, if◌then◌else◌, Option, Some, None, List, [], ◌∷◌, refl, sym, ◌∙◌, ap, subst, eqb-true, inl, inr}
+use Rattle.std.specs.Prelude.{not, ◌||◌, ◌&&◌, nat_eq, nat_le}
 use Rattle.widl_text.specs.declared.place.Place.{Place}
 use Rattle.widl_idl.specs.declared.int_kind.IntKind.{IntKind}
 use Rattle.widl_idl.specs.declared.int_kind.IntKind.TheVariants as int
@@ -20,13 +20,15 @@ use Rattle.widl_predictive.proofs.Booleans.{and_cases, or_cases}
 use Rattle.widl_grammar.specs.declared.terminal.Terminal.{Terminal}
 use Rattle.widl_grammar.specs.declared.terminal.Terminal.TheVariants as t
 use Rattle.widl_grammar.specs.Terminals.{all_terminals}
-use Rattle.widl_syntax.specs.Signs.{UnparsesTo, word, ◌⧺◌}
+use Rattle.widl_syntax.specs.Signs.{UnparsesTo, Nowhere, word, ◌⧺◌}
 use Rattle.widl_syntax.specs.UnparsedNames.{extended_attributes}
-use Rattle.widl_syntax.specs.UnparsedTypes.{integer_words, float_words, string_terminal, buffer_terminal, container_terminal, question_mark, form_signs, type_signs, annotated_signs, member_signs, more_member_signs, bare_signs, second_type}
+use Rattle.widl_syntax.specs.UnparsedTypes.{integer_words, float_words, string_terminal, buffer_terminal, container_terminal, question_mark, form_signs, type_signs, annotated_signs, member_signs, more_member_signs, within_levels, outer_signs, outer_annotated, bare_signs, second_type}
+use Rattle.widl_syntax.specs.Nesting.{type_levels}
+use Rattle.widl_idl.specs.PlainTypes.{plain_of}
 use Rattle.widl_syntax.proofs.Unique.Same.{SameOption, SameForm, SameTypeTree, SameAnnotatedTree, SameMembersTree, SameAnnotatedType}
 use Rattle.widl_syntax.specs.Reading.{terminal_ahead}
 use Rattle.widl_syntax.proofs.Reading.{is_among, is_other, pass_all, passes}
-use Rattle.widl_syntax.proofs.Unique.Ahead.{Keeps, NoneAhead, IsAhead, Anywhere, head, head_ahead, not_true, begins_else, first_keeps, place_keeps, ahead_none, fewer}
+use Rattle.widl_syntax.proofs.Unique.Ahead.{split, Keeps, NoneAhead, IsAhead, Anywhere, head, head_ahead, not_true, begins_else, first_keeps, place_keeps, ahead_none, fewer}
 use Rattle.widl_syntax.proofs.Unique.Tells.{Tells, told, where_ends, under, nothing_told, and_tells, place_then, terminal_then, word_then, word_told, clashes, word_after, up_to}
 use Rattle.widl_syntax.proofs.Unique.Items.{not_without, not_before, begins_another, first_excludes, none_some, some_none, option_tells}
 use Rattle.widl_syntax.proofs.Unique.Numbers.{number_at, of_one_number, other_number}
@@ -191,12 +193,12 @@ form_keeps {F} form ts h = record { keeps = λ w m s fm. record { none = go w m 
       | inr none ↦ let bad : true ≡ false = sym none ∙ ap (λ n. nat_eq n 15) (form_ahead form w m s) ∙ each_has_number form in cc
     ]
 
-pub type_keeps : {F : List Lexeme → Type 0} (ty : TypeTree) (ts : List Terminal) → begin_no_type ts ≡ true → Keeps (NoneAhead ts) F (type_signs ty)
-type_keeps (type_tree place form question) ts h = place_keeps (first_keeps _ (form_keeps form ts h))
+pub inner_type_keeps : {F : List Lexeme → Type 0} (ty : TypeTree) (ts : List Terminal) → begin_no_type ts ≡ true → Keeps (NoneAhead ts) F (type_signs ty)
+inner_type_keeps (type_tree place form question) ts h = place_keeps (first_keeps _ (form_keeps form ts h))
 
-pub annotated_keeps : {F : List Lexeme → Type 0} (ty : AnnotatedTree) (ts : List Terminal) → begin_no_type ts ≡ true → not (is_among ts t.OpenBracket) ≡ true → Keeps (NoneAhead ts) F (annotated_signs ty)
-annotated_keeps (annotated_tree place [] inner) ts h no_bracket = place_keeps (type_keeps inner ts h)
-annotated_keeps (annotated_tree place (a ∷ more) inner) ts h no_bracket = place_keeps (begins_else (extended_attributes (a ∷ more) ⧺ type_signs inner) ts no_bracket)
+pub inner_annotated_keeps : {F : List Lexeme → Type 0} (ty : AnnotatedTree) (ts : List Terminal) → begin_no_type ts ≡ true → not (is_among ts t.OpenBracket) ≡ true → Keeps (NoneAhead ts) F (annotated_signs ty)
+inner_annotated_keeps (annotated_tree place [] inner) ts h no_bracket = place_keeps (inner_type_keeps inner ts h)
+inner_annotated_keeps (annotated_tree place (a ∷ more) inner) ts h no_bracket = place_keeps (begins_else (extended_attributes (a ∷ more) ⧺ type_signs inner) ts no_bracket)
 
 more_members_keep : (members : MemberTrees) → Keeps TypeEnd (IsAhead t.CloseParen) (more_member_signs members)
 more_members_keep no_members = record { keeps = λ w m s is. subst TypeEnd (sym s) (ahead_none t.CloseParen (t.Question ∷ t.Long ∷ []) refl m is) }
@@ -291,30 +293,51 @@ mutual
   form_tells (TextForm a) b e = text_form a b e
   form_tells (BufferForm a) b e = buffer_form a b e
   form_tells (NamedForm a) b e = named_form a b e
-  form_tells (ContainerForm a x) b e = container_form a x (λ y. annotated_tells x y) b e
-  form_tells (RecordForm a x) b e = record_form a x (λ y. annotated_tells x y) b e
-  form_tells (PromiseForm x) b e = promise_form x (λ y. type_tells x y) b e
+  form_tells (ContainerForm a x) b e = container_form a x (λ y. inner_annotated_tells x y) b e
+  form_tells (RecordForm a x) b e = record_form a x (λ y. inner_annotated_tells x y) b e
+  form_tells (PromiseForm x) b e = promise_form x (λ y. inner_type_tells x y) b e
   form_tells (UnionForm x) b e = union_form x (λ y. members_tell x y) b e
 
-  pub type_tells : (a b : TypeTree) → Tells (SameTypeTree a b) TypeEnd (type_signs a) (type_signs b)
-  type_tells (type_tree p form q) (type_tree p2 form2 q2) =
+  pub inner_type_tells : (a b : TypeTree) → Tells (SameTypeTree a b) TypeEnd (type_signs a) (type_signs b)
+  inner_type_tells (type_tree p form q) (type_tree p2 form2 q2) =
       told (place_then p p2 (and_tells (of_one_number form_by form_signs form_number form_ahead form form2 (λ e. form_tells form form2 e)) (where_ends (fewer (t.Question ∷ []) (t.Question ∷ t.Long ∷ []) refl) (question_tells q q2)) (question_keeps q) (question_keeps q2))) (λ s. (s.0, s.1.0, s.1.1))
 
-  pub annotated_tells : (a b : AnnotatedTree) → Tells (SameAnnotatedTree a b) TypeEnd (annotated_signs a) (annotated_signs b)
-  annotated_tells (annotated_tree p xs inner) (annotated_tree p2 ys inner2) =
-      told (place_then p p2 (and_tells (extended_attributes_tell xs ys) (type_tells inner inner2) (type_keeps inner (t.OpenBracket ∷ []) refl) (type_keeps inner2 (t.OpenBracket ∷ []) refl))) (λ s. (s.0, s.1.0, s.1.1))
+  pub inner_annotated_tells : (a b : AnnotatedTree) → Tells (SameAnnotatedTree a b) TypeEnd (annotated_signs a) (annotated_signs b)
+  inner_annotated_tells (annotated_tree p xs inner) (annotated_tree p2 ys inner2) =
+      told (place_then p p2 (and_tells (extended_attributes_tell xs ys) (inner_type_tells inner inner2) (inner_type_keeps inner (t.OpenBracket ∷ []) refl) (inner_type_keeps inner2 (t.OpenBracket ∷ []) refl))) (λ s. (s.0, s.1.0, s.1.1))
 
   members_tell : (a b : MemberTrees) → Tells (SameMembersTree a b) (IsAhead t.CloseParen) (member_signs a) (member_signs b)
   members_tell no_members no_members = nothing_told
-  members_tell no_members (more_members y ys) = none_some (first_excludes _ (not_before (annotated_keeps y (t.CloseParen ∷ []) refl refl)))
-  members_tell (more_members x xs) no_members = some_none (first_excludes _ (not_before (annotated_keeps x (t.CloseParen ∷ []) refl refl)))
-  members_tell (more_members x xs) (more_members y ys) = and_tells (annotated_tells x y) (more_members_tell xs ys) (more_members_keep xs) (more_members_keep ys)
+  members_tell no_members (more_members y ys) = none_some (first_excludes _ (not_before (inner_annotated_keeps y (t.CloseParen ∷ []) refl refl)))
+  members_tell (more_members x xs) no_members = some_none (first_excludes _ (not_before (inner_annotated_keeps x (t.CloseParen ∷ []) refl refl)))
+  members_tell (more_members x xs) (more_members y ys) = and_tells (inner_annotated_tells x y) (more_members_tell xs ys) (more_members_keep xs) (more_members_keep ys)
 
   more_members_tell : (a b : MemberTrees) → Tells (SameMembersTree a b) (IsAhead t.CloseParen) (more_member_signs a) (more_member_signs b)
   more_members_tell no_members no_members = nothing_told
   more_members_tell no_members (more_members y ys) = none_some (begins_another t.CloseParen (more_member_signs (more_members y ys)) refl)
   more_members_tell (more_members x xs) no_members = some_none (begins_another t.CloseParen (more_member_signs (more_members x xs)) refl)
-  more_members_tell (more_members x xs) (more_members y ys) = word_then t.Or (and_tells (annotated_tells x y) (more_members_tell xs ys) (more_members_keep xs) (more_members_keep ys))
+  more_members_tell (more_members x xs) (more_members y ys) = word_then t.Or (and_tells (inner_annotated_tells x y) (more_members_tell xs ys) (more_members_keep xs) (more_members_keep ys))
+
+-- types inside no other, whose signs say that they have at most 16 levels
+pub has_levels : (ty : TypeTree) (w m : List Lexeme) → UnparsesTo (outer_signs ty) w m → UnparsesTo (type_signs ty) w m × (type_levels (plain_of ty) ≤ 16)
+has_levels ty w m s =
+    let a = split (type_signs ty) (within_levels ty) w m s in
+    let k = go (nat_le (type_levels (plain_of ty)) 16) a.0 refl a.2 in
+    (subst (UnparsesTo (type_signs ty) w) k.0 a.1, k.1)
+  where
+    go : (b : Bool) (v : List Lexeme) → nat_le (type_levels (plain_of ty)) 16 ≡ b → UnparsesTo (if b then [] else Nowhere ∷ []) v m → (v ≡ m) × (type_levels (plain_of ty) ≤ 16)
+    go true v e h = (h, leb-true (type_levels (plain_of ty)) 16 e)
+    go false v e h = absurd h.1
+
+pub type_tells : (a b : TypeTree) → Tells (SameTypeTree a b) TypeEnd (outer_signs a) (outer_signs b)
+type_tells a b = record { tells = λ w m n s r em en. (inner_type_tells a b).tells w m n (has_levels a w m s).0 (has_levels b w n r).0 em en }
+
+pub type_keeps : {F : List Lexeme → Type 0} (ty : TypeTree) (ts : List Terminal) → begin_no_type ts ≡ true → Keeps (NoneAhead ts) F (outer_signs ty)
+type_keeps ty ts h = first_keeps (within_levels ty) (inner_type_keeps ty ts h)
+
+pub annotated_tells : (a b : AnnotatedTree) → Tells (SameAnnotatedTree a b) TypeEnd (outer_annotated a) (outer_annotated b)
+annotated_tells (annotated_tree p xs inner) (annotated_tree p2 ys inner2) =
+    told (place_then p p2 (and_tells (extended_attributes_tell xs ys) (type_tells inner inner2) (type_keeps inner (t.OpenBracket ∷ []) refl) (type_keeps inner2 (t.OpenBracket ∷ []) refl))) (λ s. (s.0, s.1.0, s.1.1))
 
 -- types without extended attributes
 pub bare_tells : (a b : AnnotatedTree) → Tells (SameAnnotatedTree a b) TypeEnd (bare_signs a) (bare_signs b)

@@ -1,7 +1,9 @@
 //! The types that are words.
 
 ghost use Rattle.std.specs.Prelude.{◌≡◌, ◌≤◌, IfOk, MatchOption, false, length};
+ghost use Rattle.widl_idl.specs.PlainTypes.{form_term};
 ghost use Rattle.widl_idl.specs.TypeTrees.{form_of};
+ghost use Rattle.widl_syntax.specs.Nesting.{form_levels};
 ghost use Rattle.widl_text.specs.declared.place.Place.{Place};
 ghost use Rattle.widl_grammar.specs.declared.rule.Rule.TheVariants as rule;
 ghost use Rattle.widl_grammar.specs.declared.terminal.Terminal.TheVariants as terminal;
@@ -154,7 +156,8 @@ impl<'t, 's> Reader<'t, 's> {
 
     /// The form of the type of a constant.
     fn constant_form(&mut self) -> Result<TypeForm, AllocError>
-        ensures { IfOk result (λ form. Reads (part rule.ConstType) (form_signs (form_of form)) self.old self.new) }
+        ensures reads { IfOk result (λ form. Reads (part rule.ConstType) (form_signs (form_of form)) self.old self.new) }
+        ensures flat { IfOk result (λ form. form_levels (form_term form) ≡ 1) }
     {
         if is_primitive(self.ahead()) {
             return Ok(self.primitive_form());
@@ -165,6 +168,7 @@ impl<'t, 's> Reader<'t, 's> {
     /// A primitive type.
     pub fn primitive_form(&mut self) -> TypeForm
         ensures reads { Reads (part rule.Primitive) (form_signs (form_of result)) self.old self.new }
+        ensures flat { form_levels (form_term result) ≡ 1 }
         ensures shorter { length self.new ≤ length self.old }
     {
         match self.ahead() {
@@ -192,6 +196,7 @@ impl<'t, 's> Reader<'t, 's> {
     fn unsigned_form(&mut self) -> TypeForm
         requires { terminal_ahead self.old ≡ terminal.Unsigned }
         ensures reads { Reads (part rule.Primitive) (form_signs (form_of result)) self.old self.new }
+        ensures flat { form_levels (form_term result) ≡ 1 }
         ensures shorter { length self.new ≤ length self.old }
     {
         let _unsigned = self.take();
@@ -202,6 +207,7 @@ impl<'t, 's> Reader<'t, 's> {
     fn unrestricted_form(&mut self) -> TypeForm
         requires { terminal_ahead self.old ≡ terminal.Unrestricted }
         ensures reads { Reads (part rule.Primitive) (form_signs (form_of result)) self.old self.new }
+        ensures flat { form_levels (form_term result) ≡ 1 }
         ensures shorter { length self.new ≤ length self.old }
     {
         let _unrestricted = self.take();

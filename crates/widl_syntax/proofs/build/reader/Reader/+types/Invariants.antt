@@ -3,8 +3,9 @@ use Rattle.widl_idl.specs.Written.{members_in}
 use Rattle.widl_grammar.specs.declared.rule.Rule.TheVariants as rule
 use Rattle.widl_grammar.specs.declared.terminal.Terminal.TheVariants as terminal
 use Rattle.widl_syntax.specs.Signs.{after}
-use Rattle.widl_syntax.specs.UnparsedTypes.{annotated_type}
+use Rattle.widl_syntax.specs.UnparsedTypes.{inner_annotated}
 use Rattle.widl_syntax.proofs.Lists.{Adds}
+use Rattle.widl_syntax.proofs.TypeLevels.{InUnion}
 use Rattle.widl_syntax.proofs.build.reader.Reader.+types.Given as goal
 
 abbrev pub decreases-container_form : goal.decreases-container_form
@@ -40,5 +41,6 @@ decreases-annotated_type l = 5 * length l.self.now + 4
 abbrev pub invariant-union_members-loop : goal.invariant-union_members-loop
 invariant-union_members-loop l = record {
   shorter : length l.self ≤ length l.fn.self;
-  so_far : Adds rule.MoreUnionMembers (after terminal.Or annotated_type) l.initial.self l.self (members_in l.initial.members) (members_in l.members) l.counter;
+  so_far : Adds rule.MoreUnionMembers (after terminal.Or inner_annotated) l.initial.self l.self (members_in l.initial.members) (members_in l.members) l.counter;
+  inside : InUnion l.fn.self l.self (members_in l.members);
 }

@@ -3,13 +3,13 @@ use Rattle.std.specs.Prelude.{map}
 use Rattle.widl_text.specs.declared.place.Place.{Place}
 use Rattle.widl_lex.specs.Tokens.{Lexeme}
 use Rattle.widl_predictive.specs.Derivation.{Terminal as Token, Nonterminal}
-use Rattle.widl_predictive.specs.Runs as runs
 use Rattle.widl_grammar.specs.declared.rule.Rule.TheVariants as rule
 use Rattle.widl_grammar.specs.declared.terminal.Terminal.TheVariants as terminal
 use Rattle.widl_grammar.specs.Rows.{grammar}
 use Rattle.widl_grammar.specs.Tables.{sets}
 use Rattle.widl_grammar.specs.Source.{terminal_of}
-use Rattle.widl_syntax.specs.Reading.{Symbols, Runs, IsTakenAs, token, terminal_ahead}
+use Rattle.widl_syntax.proofs.Leveling.{runs_taken}
+use Rattle.widl_syntax.specs.Reading.{Symbols, Runs, RunsOf, IsTakenAs, token, terminal_ahead}
 use Rattle.widl_syntax.proofs.Reading.{by_row, by_rest, and_then, took, nothing, nothing_if, other_than, passed_by, taken_as, first_of_token}
 use Rattle.widl_syntax.proofs.Lists.{Repeats, runs_at, goes_and, goes_used_up, adds_further}
 use Rattle.widl_syntax.proofs.build.reader.Reader.more_values.Goals as goal
@@ -23,7 +23,7 @@ another {now} {mid} comma string = record {
       let next : Runs (Token terminal.String ∷ Nonterminal rule.EnumMore ∷ others) mid = runs_at rule.EnumNext terminal.String others mid string refl refl (subst (Runs (Nonterminal rule.EnumNext ∷ others)) after f.runs) in
       let rest : Symbols = Token terminal.String ∷ Nonterminal rule.EnumMore ∷ others in
       subst (Runs (Token terminal.Comma ∷ rest)) (sym (f.is ∙ ap (λ u. f.lexeme ∷ u) after))
-      (subst (λ a. runs.Runs grammar sets (Token terminal.Comma ∷ rest) (a ∷ map terminal_of mid)) (sym f.terminal) (runs.taken next));
+      (subst (λ a. RunsOf (Token terminal.Comma ∷ rest) (a ∷ map terminal_of mid)) (sym f.terminal) (runs_taken next));
 }
 
 pub returns-then-is_none : goal.returns-then-is_none
