@@ -16,6 +16,7 @@ use Rattle.widl_syntax.specs.Signs.{Sign, UnparsesTo, AreTexts, OfText, all_sign
 use Rattle.widl_syntax.specs.UnparsedNames.{text_of, attribute_rest}
 use Rattle.widl_syntax.specs.Deriving.{AnyRuns}
 use Rattle.widl_syntax.specs.Reading.{Symbols, RunsOf, Reads, part, IfAhead, IsTaken}
+use Rattle.widl_syntax.proofs.Derived.{read_sentence}
 use Rattle.widl_syntax.proofs.Leveling.{AnyReads, leveled, any_levels, as_stack, reads_itself, reads_only, runs_taken}
 use Rattle.widl_syntax.proofs.Reading.{spells_append, took_text}
 use Rattle.widl_syntax.proofs.Words.{taken_shorter}
@@ -36,10 +37,13 @@ as_texts (t ∷ ts) w v s =
     let same = same_rest place.0 token.0 place.1 s.2.0 w s.0 place.2 place.4 token.1 in
     (token.0, s.2.0, sym place.4 ∙ token.1, ap (λ l. l.at) (sym same.0) ∙ place.3, token.3, as_texts ts s.2.0 v s.2.2)
 
--- they are the whole part of the rule
+-- the rows of the rule derive them
 as_part : (tokens : List SourceToken) (start now : List Lexeme) → AnyReads (part rule.ExtendedAttributeRest) (all_signs source_token tokens) start now → Reads (part rule.ExtendedAttributeRest) (attribute_rest tokens) start now
 as_part tokens start now f = leveled (record {
-  reads = λ others r. let g = f.reads others r in ((now, (as_texts tokens start now g.0, (others, r), λ after run. (f.reads after run).1), refl), g.1);
+  reads = λ others r.
+      let g = f.reads others r in
+      let texts = as_texts tokens start now g.0 in
+      ((now, (texts, read_sentence f others r (map text_of tokens) texts), refl), g.1);
 })
 
 -- the tokens so far stand between two tokens of the file, the stack is what is still to be read from the second on, and each turn took a token

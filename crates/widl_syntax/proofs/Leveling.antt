@@ -99,7 +99,7 @@ any_levels (chosen {n} {z} {w} α c i l) =
     runs.chosen α c (subst (λ u. runs.Runs grammar sets u w) (stripped-append (gr.row_at grammar n.1 α) z ∙ ap (λ u. u ++ stripped z) (row_stripped grammar n.1 α)) (any_levels l))
 
 -- tokens as what they are read as
-pub as_stack : List Terminal → Stack
+unfoldable pub as_stack : List Terminal → Stack
 as_stack [] = []
 as_stack (a ∷ w) = Token a ∷ as_stack w
 

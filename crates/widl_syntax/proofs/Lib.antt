@@ -6,6 +6,7 @@ pub mod Tokens
 pub mod Words
 pub mod Texts
 pub mod Separated
+pub mod Derived
 pub mod AttributeArguments
 pub mod Members
 pub mod Types

@@ -1,18 +1,19 @@
 -- What a tree says of the tokens that it stands for.
-use Rattle.std.specs.Prelude.{◌≡◌, ℕ, Bool, true, List, [], ◌∷◌, ◌++◌}
+use Rattle.std.specs.Prelude.{◌≡◌, ℕ, Bool, true, List, [], ◌∷◌, ◌++◌, length, map, take}
 use Rattle.widl_text.specs.declared.place.Place.{Place}
 use Rattle.widl_lex.specs.Tokens.{Lexeme}
+use Rattle.widl_predictive.specs.Grammar.{Sentence}
 use Rattle.widl_grammar.specs.declared.rule.Rule.{Rule}
 use Rattle.widl_grammar.specs.declared.terminal.Terminal.{Terminal}
+use Rattle.widl_grammar.specs.Rows.{grammar}
 use Rattle.widl_grammar.specs.Source.{terminal_of}
-use Rattle.widl_syntax.specs.Deriving.{Symbols, AnyRuns, part}
 
 -- a token by its place and its bytes
 pub record Text : Type 0 where
   pub at : Place
   pub bytes : List ℕ
 
--- a sign of tokens: the next token stands at the place (which is no token of its own); a token of the terminal; one of the terminal with these bytes; one of a terminal that passes the test with these bytes; all tokens of a part of the grammar; nothing that any tokens are
+-- a sign of tokens: the next token stands at the place (which is no token of its own); a token of the terminal; one of the terminal with these bytes; one of a terminal that passes the test with these bytes; tokens with these texts, which the rows of the rule derive; nothing that any tokens are
 pub data Sign : Type 0 where
   AtPlace : Place → Sign
   OfTerminal : Terminal → Sign
@@ -26,21 +27,13 @@ abbrev pub AreTexts : List Text → List Lexeme → List Lexeme → Type 0
 AreTexts [] from to = from ≡ to
 AreTexts (t ∷ more) from to = (l : Lexeme) × (rest : List Lexeme) × (from ≡ l ∷ rest) × (l.at ≡ t.at) × (l.text ≡ t.bytes) × AreTexts more rest to
 
--- a part of the rule begins at `from`, with some symbols to follow it
-abbrev pub BeginsAt : Rule → List Lexeme → Type 0
-BeginsAt rule from = (others : Symbols) × AnyRuns (part rule ++ others) from
-
--- the rule's part ends at `to`: whatever may follow the rule goes on there
-abbrev pub EndsAt : Rule → List Lexeme → List Lexeme → Type 0
-EndsAt rule from to = (others : Symbols) → AnyRuns (part rule ++ others) from → AnyRuns others to
-
 -- the sign stands for the tokens between two of a file
 abbrev pub Stands : Sign → List Lexeme → List Lexeme → Type 0
 Stands (AtPlace place) from to = (l : Lexeme) × (rest : List Lexeme) × (from ≡ l ∷ rest) × (l.at ≡ place) × (to ≡ from)
 Stands (OfTerminal t) from to = (l : Lexeme) × (from ≡ l ∷ to) × (terminal_of l ≡ t)
 Stands (OfBytes t bytes) from to = (l : Lexeme) × (from ≡ l ∷ to) × (terminal_of l ≡ t) × (l.text ≡ bytes)
 Stands (OfText test bytes) from to = (l : Lexeme) × (from ≡ l ∷ to) × (test (terminal_of l) ≡ true) × (l.text ≡ bytes)
-Stands (OfPart rule texts) from to = AreTexts texts from to × BeginsAt rule from × EndsAt rule from to
+Stands (OfPart rule texts) from to = AreTexts texts from to × Sentence grammar rule (take (length texts) (map terminal_of from))
 Stands Nowhere from to = ⊥
 
 -- the signs in order stand for the tokens between two of a file

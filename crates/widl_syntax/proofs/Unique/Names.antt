@@ -14,8 +14,11 @@ use Rattle.widl_grammar.specs.declared.terminal.Terminal.TheVariants as t
 use Rattle.widl_syntax.specs.Signs.{Sign, Nowhere, after}
 use Rattle.widl_syntax.specs.UnparsedNames.{name_bytes, is_escape_apart, escape_apart, identifier, is_word_of, any_name, optional_name, text_of, extended_attribute, extended_attributes, quoted_bytes, literal_value, literal, default_value}
 use Rattle.widl_syntax.proofs.Unique.Same.{SameName, SameOption, SameExtendedAttribute, SameExtendedAttributes, SameValue, SameLiteral}
-use Rattle.widl_syntax.proofs.Reading.{is_among}
-use Rattle.widl_syntax.proofs.Unique.Ahead.{Keeps, begins_else, NoneAhead, IsAhead, Anywhere, keeps_anywhere}
+use Rattle.widl_grammar.specs.Tables.{sets}
+use Rattle.widl_syntax.specs.Reading.{terminal_ahead}
+use Rattle.widl_syntax.proofs.Derived.{Follows}
+use Rattle.widl_syntax.proofs.Reading.{ahead_is, is_among, is_other}
+use Rattle.widl_syntax.proofs.Unique.Ahead.{Keeps, begins_else, NoneAhead, IsAhead, Anywhere, word_ahead}
 use Rattle.widl_syntax.proofs.Unique.Tells.{Tells, told, under, nothing_told, then_tells, up_to, place_then, word_then, word_told, bytes_then, text_then, clashes}
 use Rattle.widl_syntax.proofs.Unique.Items.{SeparatedTell, not_without, begins_another, none_some, some_none, option_tells, separated_tell}
 use Rattle.widl_syntax.proofs.Unique.Parts.{part_tells}
@@ -53,13 +56,17 @@ any_name_tells rule a b = told (place_then a.at b.at (text_then (is_word_of rule
 pub optional_name_tells : (a b : Option Name) → Tells (SameOption SameName a b) (IsAhead t.OpenParen) (optional_name a) (optional_name b)
 optional_name_tells a b = option_tells optional_name refl (λ x. begins_another t.OpenParen (any_name OperationName x) refl) (λ x y. under (any_name_tells OperationName x y)) a b
 
-extended_attribute_tells : (a b : ExtendedAttribute) → Tells (SameExtendedAttribute a b) Anywhere (extended_attribute a) (extended_attribute b)
+-- a comma or a bracket follows an extended attribute
+follows_attribute : (t : Terminal) (w : List Lexeme) → is_other t ≡ false → sets.follow ExtendedAttributeRest (Some t) ≡ true → terminal_ahead w ≡ t → Follows ExtendedAttributeRest w
+follows_attribute t w other h e = record { follows = ap (sets.follow ExtendedAttributeRest) (ahead_is t w other e) ∙ h }
+
+extended_attribute_tells : (a b : ExtendedAttribute) → Tells (SameExtendedAttribute a b) (Follows ExtendedAttributeRest) (extended_attribute a) (extended_attribute b)
 extended_attribute_tells a b = told (then_tells (identifier_tells a.name b.name) (part_tells ExtendedAttributeRest (map text_of a.arguments) (map text_of b.arguments))) (λ p. record { name = p.0; arguments = p.1 })
 
-between_brackets : SeparatedTell t.Comma Anywhere (IsAhead t.CloseBracket) extended_attribute SameExtendedAttribute
+between_brackets : SeparatedTell t.Comma (Follows ExtendedAttributeRest) (IsAhead t.CloseBracket) extended_attribute SameExtendedAttribute
 between_brackets = record {
-  last = λ w is. tt;
-  next = λ x. keeps_anywhere;
+  last = λ w is. follows_attribute t.CloseBracket w refl refl is.ahead;
+  next = λ x. record { keeps = λ w m s fm. follows_attribute t.Comma w refl refl (word_ahead (extended_attribute x) m s) };
   more = λ x. begins_another t.CloseBracket (after t.Comma extended_attribute x) refl;
   begins = λ x. begins_another t.CloseBracket (extended_attribute x) refl;
   tells = extended_attribute_tells;
