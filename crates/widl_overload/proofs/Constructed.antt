@@ -1,7 +1,6 @@
 -- The closed form of the effective overload set and the standard's construction give the same tuples.
-use Rattle.std.proofs.Common.{◌≡◌, ℕ, zero, suc, ◌+◌, ◌-◌, ◌<◌, ◌≤◌, ◌++◌, ◌&&◌, Bool, true, false, cond, max, List, [], ◌∷◌, length, take, drop, replicate, get_or, nat_lt, arith, refl, sym, ap, subst, ◌∙◌, inl, inr, append-nil}
+use Rattle.std.proofs.Common.{◌≡◌, ℕ, zero, suc, ◌+◌, ◌-◌, ◌<◌, ◌≤◌, ◌++◌, ◌&&◌, Bool, true, false, cond, max, List, [], ◌∷◌, length, take, replicate, get_or, nat_lt, arith, refl, sym, ap, subst, ◌∙◌, inl, inr, append-nil}
 use Rattle.std.specs.Prelude.{Option, None, Some, ◌⊎◌, ◌↔◌, Contains, slice_get, option_map}
-use Rattle.std.specs.List.{list_all}
 use Rattle.std.proofs.lemmas.Bool.{lt-ltb}
 use Rattle.std.proofs.lemmas.List.{append_assoc, take-take, length-map, replicate-append-replicate}
 use Rattle.std.proofs.lemmas.Option.{slice_get-map}
@@ -10,7 +9,8 @@ use Rattle.widl_idl.specs.declared.argument.Arg.{Arg}
 use Rattle.widl_idl.specs.declared.argument.Optionality.TheVariants.{Variadic}
 use Rattle.widl_idl.specs.declared.signature.Sig.{Sig}
 use Rattle.widl_idl.specs.Terms.{TypeTerm, type_term}
-use Rattle.widl_overload.specs.Sets.{TupleTerm, declared_opts, declared_types, effective_tuples, is_free, longer, longest, of_length, of_lengths, shorter, tuple_of, variadic_last, with_tuple}
+use Rattle.widl_overload.specs.Sets.{TupleTerm, declared_opts, declared_types, effective_tuples, are_free, is_end, is_free, longer, longest, of_length, of_lengths, shorter, tuple_of, variadic_last, with_tuple}
+use Rattle.widl_overload.proofs.Shorter.{free_from, free_step, is_last}
 use Rattle.widl_overload.specs.Construction.{constructed, cut_to, cuts, declared_tuple, grown, grown_if_variadic, is_free_one, of_overload, of_overloads, with_one_more}
 
 -- membership, an item at a time
@@ -172,14 +172,10 @@ not_less a b h = grind arith
 short_is : (number : ℕ) (args : List Arg) (m : ℕ) → m ≤ length args → tuple_of number args m ≡ shorter number args m
 short_is number args m le = ap (λ b. cond b (longer number args (m - length args) (variadic_last args)) (shorter number args m)) (not_less (length args) m le)
 
--- each argument from a place on may be left out
-free_from : List Arg → ℕ → Bool
-free_from args m = list_all (λ (a : Arg). is_free a.opt) (drop m args)
-
-item_at : (args : List Arg) (n : ℕ) → n < length args → (a : Arg) × (slice_get args n ≡ Some a) × (drop n args ≡ a ∷ drop (suc n) args)
+item_at : (args : List Arg) (n : ℕ) → n < length args → (a : Arg) × (slice_get args n ≡ Some a)
 item_at [] n below = absurd (omega arith)
-item_at (a ∷ args) zero below = (a, refl, refl)
-item_at (a ∷ args) (suc n) below = let r : (b : Arg) × (slice_get args n ≡ Some b) × (drop n args ≡ b ∷ drop (suc n) args) = item_at args n (omega arith) in (r.0, r.1, r.2)
+item_at (a ∷ args) zero below = (a, refl)
+item_at (a ∷ args) (suc n) below = item_at args n (omega arith)
 
 slice_get-take : {A : Type 0} (xs : List A) (n k : ℕ) → k < n → slice_get (take n xs) k ≡ slice_get xs k
 slice_get-take [] zero k below = absurd (omega arith)
@@ -189,7 +185,6 @@ slice_get-take (x ∷ xs) (suc n) zero below = refl
 slice_get-take (x ∷ xs) (suc n) (suc k) below = slice_get-take xs n k (omega arith)
 
 free_at_end : (args : List Arg) → free_from args (length args) ≡ true
-unfolding free_from
 free_at_end [] = refl
 free_at_end (a ∷ args) = free_at_end args
 
@@ -202,20 +197,15 @@ left true b h = refl
 left false b h = h
 
 free_later : (args : List Arg) (m n : ℕ) → m ≤ n → free_from args m ≡ true → free_from args n ≡ true
-unfolding free_from
-free_later [] m n le h = ap (list_all (λ (a : Arg). is_free a.opt)) (drop-nil n)
+free_later [] m n le h = ap (λ xs. are_free (declared_opts xs)) (drop-nil n)
 free_later (a ∷ args) zero zero le h = h
-free_later (a ∷ args) zero (suc n) le h = free_later args zero n (omega arith) (right (is_free a.opt) (list_all (λ (b : Arg). is_free b.opt) args) h)
+free_later (a ∷ args) zero (suc n) le h = free_later args zero n (omega arith) (right (is_free a.opt (is_end (declared_opts args))) (are_free (declared_opts args)) h)
 free_later (a ∷ args) (suc m) zero le h = absurd (omega arith)
 free_later (a ∷ args) (suc m) (suc n) le h = free_later args m n (omega arith) h
 
-free_step : (args : List Arg) (n : ℕ) (a : Arg) → drop n args ≡ a ∷ drop (suc n) args → free_from args n ≡ (is_free a.opt && free_from args (suc n))
-unfolding free_from
-free_step args n a e = ap (list_all (λ (b : Arg). is_free b.opt)) e
-
-free_here : (args : List Arg) (n : ℕ) (a : Arg) → n < length args → slice_get args n ≡ Some a → is_free_one (slice_get (take (suc n) (declared_opts args)) n) ≡ is_free a.opt
+free_here : (args : List Arg) (n : ℕ) (a : Arg) → n < length args → slice_get args n ≡ Some a → is_free_one (slice_get (take (suc n) (declared_opts args)) n) (is_last args n) ≡ is_free a.opt (is_last args n)
 free_here args n a below e =
-    ap is_free_one (slice_get-take (declared_opts args) (suc n) n (omega arith) ∙ slice_get-map (λ (b : Arg). b.opt) args n ∙ ap (option_map (λ (b : Arg). b.opt)) e)
+    ap (λ o. is_free_one o (is_last args n)) (slice_get-take (declared_opts args) (suc n) n (omega arith) ∙ slice_get-map (λ (b : Arg). b.opt) args n ∙ ap (option_map (λ (b : Arg). b.opt)) e)
 
 cut_twice : (n : ℕ) (t : TupleTerm) → cut_to n (cut_to (suc n) t) ≡ cut_to n t
 cut_twice n t = λ i. record { overload = t.overload; types = take-take n (suc n) t.types (omega arith) i; opts = take-take n (suc n) t.opts (omega arith) i }
@@ -228,52 +218,50 @@ cut_whole number args =
 
 -- one cut more, where the argument is this one
 cuts_step : (number : ℕ) (args : List Arg) (n : ℕ) (a : Arg) → n < length args → slice_get args n ≡ Some a
-    → cuts (cut_to (suc n) (declared_tuple number args)) (suc n) ≡ cond (is_free a.opt) (cut_to n (declared_tuple number args) ∷ cuts (cut_to n (declared_tuple number args)) n) []
+    → cuts (length args) (cut_to (suc n) (declared_tuple number args)) (suc n) ≡ cond (is_free a.opt (is_last args n)) (cut_to n (declared_tuple number args) ∷ cuts (length args) (cut_to n (declared_tuple number args)) n) []
 cuts_step number args n a below e =
-    ap (λ b. cond b (cut_to n (cut_to (suc n) (declared_tuple number args)) ∷ cuts (cut_to n (cut_to (suc n) (declared_tuple number args))) n) []) (free_here args n a below e)
-    ∙ ap (λ t. cond (is_free a.opt) (t ∷ cuts t n) []) (cut_twice n (declared_tuple number args))
+    ap (λ b. cond b (cut_to n (cut_to (suc n) (declared_tuple number args)) ∷ cuts (length args) (cut_to n (cut_to (suc n) (declared_tuple number args))) n) []) (free_here args n a below e)
+    ∙ ap (λ t. cond (is_free a.opt (is_last args n)) (t ∷ cuts (length args) t n) []) (cut_twice n (declared_tuple number args))
 
 CutAt : ℕ → List Arg → ℕ → TupleTerm → Type 0
 CutAt number args n t = (m : ℕ) × (m < n) × (free_from args m ≡ true) × (cut_to m (declared_tuple number args) ≡ t)
 
 -- a cut at a place, or one further down
-cut_one : (n number : ℕ) (args : List Arg) (t : TupleTerm) (a : Arg) (free_a : Bool) → is_free a.opt ≡ free_a → free_from args n ≡ (is_free a.opt && free_from args (suc n)) → free_from args (suc n) ≡ true
-    → (free_from args n ≡ true → In (cuts (cut_to n (declared_tuple number args)) n) t → CutAt number args n t)
-    → In (cond free_a (cut_to n (declared_tuple number args) ∷ cuts (cut_to n (declared_tuple number args)) n) []) t → CutAt number args (suc n) t
+cut_one : (n number : ℕ) (args : List Arg) (t : TupleTerm) (a : Arg) (free_a : Bool) → is_free a.opt (is_last args n) ≡ free_a → free_from args n ≡ (is_free a.opt (is_last args n) && free_from args (suc n)) → free_from args (suc n) ≡ true
+    → (free_from args n ≡ true → In (cuts (length args) (cut_to n (declared_tuple number args)) n) t → CutAt number args n t)
+    → In (cond free_a (cut_to n (declared_tuple number args) ∷ cuts (length args) (cut_to n (declared_tuple number args)) n) []) t → CutAt number args (suc n) t
 unfolding CutAt
 cut_one n number args t a false is step free later h = absurd h
 cut_one n number args t a true is step free later (inl e) = (n, omega arith, step ∙ (λ i. is i && free i), e)
 cut_one n number args t a true is step free later (inr h) = let r : CutAt number args n t = later (step ∙ (λ i. is i && free i)) h in (r.0, omega (arith, r.1), r.2, r.3)
 
-cuts_have : (n number : ℕ) (args : List Arg) (t : TupleTerm) → n ≤ length args → free_from args n ≡ true → In (cuts (cut_to n (declared_tuple number args)) n) t → CutAt number args n t
+cuts_have : (n number : ℕ) (args : List Arg) (t : TupleTerm) → n ≤ length args → free_from args n ≡ true → In (cuts (length args) (cut_to n (declared_tuple number args)) n) t → CutAt number args n t
 cuts_have zero number args t le free h = absurd h
 cuts_have (suc n) number args t le free h =
     let below : n < length args = omega arith in
-    let r : (a : Arg) × (slice_get args n ≡ Some a) × (drop n args ≡ a ∷ drop (suc n) args) = item_at args n below in
+    let r : (a : Arg) × (slice_get args n ≡ Some a) = item_at args n below in
     let P : List TupleTerm → Type 0 = λ ts. In ts t in
-    cut_one n number args t r.0 (is_free r.0.opt) refl (free_step args n r.0 r.2) free (cuts_have n number args t (omega arith)) (subst P (cuts_step number args n r.0 below r.1) h)
+    cut_one n number args t r.0 (is_free r.0.opt (is_last args n)) refl (free_step args n r.0 below r.1) free (cuts_have n number args t (omega arith)) (subst P (cuts_step number args n r.0 below r.1) h)
 
-have_cuts : (n number : ℕ) (args : List Arg) (t : TupleTerm) (m : ℕ) → n ≤ length args → m < n → free_from args m ≡ true → cut_to m (declared_tuple number args) ≡ t → In (cuts (cut_to n (declared_tuple number args)) n) t
+have_cuts : (n number : ℕ) (args : List Arg) (t : TupleTerm) (m : ℕ) → n ≤ length args → m < n → free_from args m ≡ true → cut_to m (declared_tuple number args) ≡ t → In (cuts (length args) (cut_to n (declared_tuple number args)) n) t
 have_cuts zero number args t m le below free e = absurd (omega arith)
 have_cuts (suc n) number args t m le below free e =
     let inside : n < length args = omega arith in
-    let r : (a : Arg) × (slice_get args n ≡ Some a) × (drop n args ≡ a ∷ drop (suc n) args) = item_at args n inside in
-    let here : is_free r.0.opt ≡ true = left (is_free r.0.opt) (free_from args (suc n)) (sym (free_step args n r.0 r.2) ∙ free_later args m n (omega arith) free) in
+    let r : (a : Arg) × (slice_get args n ≡ Some a) = item_at args n inside in
+    let here : is_free r.0.opt (is_last args n) ≡ true = left (is_free r.0.opt (is_last args n)) (free_from args (suc n)) (sym (free_step args n r.0 inside r.1) ∙ free_later args m n (omega arith) free) in
     let P : List TupleTerm → Type 0 = λ ts. In ts t in
-    let g : (cut_to n (declared_tuple number args) ≡ t) ⊎ In (cuts (cut_to n (declared_tuple number args)) n) t =
+    let g : (cut_to n (declared_tuple number args) ≡ t) ⊎ In (cuts (length args) (cut_to n (declared_tuple number args)) n) t =
     elim (compared m n) [
       | inl l ↦ inr (have_cuts n number args t m (omega arith) l free e)
       | inr q ↦ elim q [ inl same ↦ inl (ap (λ k. cut_to k (declared_tuple number args)) (sym same) ∙ e) | inr g ↦ absurd (omega arith) ]
     ] in
-    subst P (sym (cuts_step number args n r.0 inside r.1 ∙ ap (λ b. cond b (cut_to n (declared_tuple number args) ∷ cuts (cut_to n (declared_tuple number args)) n) []) here)) g
+    subst P (sym (cuts_step number args n r.0 inside r.1 ∙ ap (λ b. cond b (cut_to n (declared_tuple number args) ∷ cuts (length args) (cut_to n (declared_tuple number args)) n) []) here)) g
 
 -- the tuple of a length up to the declared one
 shorter_is : (number : ℕ) (args : List Arg) (m : ℕ) → free_from args m ≡ true → shorter number args m ≡ Some (cut_to m (declared_tuple number args))
-unfolding free_from
 shorter_is number args m free = ap (λ b. cond b (Some (cut_to m (declared_tuple number args))) None) free
 
 shorter_some : (number : ℕ) (args : List Arg) (m : ℕ) (t : TupleTerm) (free : Bool) → free_from args m ≡ free → shorter number args m ≡ Some t → (free_from args m ≡ true) × (cut_to m (declared_tuple number args) ≡ t)
-unfolding free_from
 shorter_some number args m t true is e = (is, some_is (cut_to m (declared_tuple number args)) t (sym (shorter_is number args m is) ∙ e))
 shorter_some number args m t false is e = let none : None ≡ Some t = sym (ap (λ b. cond b (Some (cut_to m (declared_tuple number args))) None) is) ∙ e in absurd (cc)
 
@@ -294,10 +282,10 @@ unfolding HasOne CutAt
 one_has number args most t le (inl e) =
     (length args, le, short_is number args (length args) (omega arith) ∙ shorter_is number args (length args) (free_at_end args) ∙ ap Some (cut_whole number args ∙ e))
 one_has number args most t le (inr h) =
-    elim (in_either (grown_if_variadic (variadic_last args) (declared_tuple number args) (most - length args)) (cuts (declared_tuple number args) (length args)) t h) [
+    elim (in_either (grown_if_variadic (variadic_last args) (declared_tuple number args) (most - length args)) (cuts (length args) (declared_tuple number args) (length args)) t h) [
       | inl g ↦ grown_one number args most t (variadic_last args) refl le g
       | inr k ↦ (
-          let P : TupleTerm → Type 0 = λ d. In (cuts d (length args)) t in
+          let P : TupleTerm → Type 0 = λ d. In (cuts (length args) d (length args)) t in
           let r : CutAt number args (length args) t = cuts_have (length args) number args t (omega arith) (free_at_end args) (subst P (sym (cut_whole number args)) k) in
           let short : r.0 < length args = r.1 in
           (r.0, omega arith, short_is number args r.0 (omega arith) ∙ shorter_is number args r.0 r.2 ∙ ap Some r.3))
@@ -317,9 +305,9 @@ unfolding HasOne
 has_one number args most t o =
     let m = o.0 in
     let le : m ≤ most = o.1 in
-    let whole : In (declared_tuple number args ∷ (grown_if_variadic (variadic_last args) (declared_tuple number args) (most - length args) ++ cuts (declared_tuple number args) (length args))) t =
+    let whole : In (declared_tuple number args ∷ (grown_if_variadic (variadic_last args) (declared_tuple number args) (most - length args) ++ cuts (length args) (declared_tuple number args) (length args))) t =
     elim (compared (length args) m) [
-      | inl beyond ↦ inr (in_left (grown_if_variadic (variadic_last args) (declared_tuple number args) (most - length args)) (cuts (declared_tuple number args) (length args)) t
+      | inl beyond ↦ inr (in_left (grown_if_variadic (variadic_last args) (declared_tuple number args) (most - length args)) (cuts (length args) (declared_tuple number args) (length args)) t
           (long_one number args most t m (variadic_last args) refl beyond le (sym (long_is number args m beyond) ∙ o.2)))
       | inr q ↦ elim q [
         | inl same ↦ (
@@ -327,8 +315,8 @@ has_one number args most t o =
             inl (sym (cut_whole number args) ∙ ap (λ k. cut_to k (declared_tuple number args)) same ∙ r.1))
         | inr short ↦ (
             let r : (free_from args m ≡ true) × (cut_to m (declared_tuple number args) ≡ t) = shorter_some number args m t (free_from args m) refl (sym (short_is number args m (omega arith)) ∙ o.2) in
-            let P : TupleTerm → Type 0 = λ d. In (cuts d (length args)) t in
-            inr (in_right (grown_if_variadic (variadic_last args) (declared_tuple number args) (most - length args)) (cuts (declared_tuple number args) (length args)) t
+            let P : TupleTerm → Type 0 = λ d. In (cuts (length args) d (length args)) t in
+            inr (in_right (grown_if_variadic (variadic_last args) (declared_tuple number args) (most - length args)) (cuts (length args) (declared_tuple number args) (length args)) t
             (subst P (cut_whole number args) (have_cuts (length args) number args t m (omega arith) short r.0 r.1))))
       ]
     ] in

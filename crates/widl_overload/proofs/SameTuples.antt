@@ -1,7 +1,6 @@
 -- The effective overload set depends on the terms of the signatures alone.
-use Rattle.std.proofs.Common.{◌≡◌, ℕ, zero, suc, ◌+◌, ◌-◌, ◌++◌, ◌&&◌, Bool, true, false, cond, max, List, [], ◌∷◌, length, take, drop, map, replicate, nat_lt, refl, sym, ap, ◌∙◌}
+use Rattle.std.proofs.Common.{◌≡◌, ℕ, zero, suc, ◌+◌, ◌-◌, ◌++◌, Bool, true, false, cond, max, List, [], ◌∷◌, length, take, drop, map, replicate, nat_lt, refl, sym, ap, ◌∙◌}
 use Rattle.std.specs.Prelude.{Option, None, Some, option_map, slice_get}
-use Rattle.std.specs.List.{list_all}
 use Rattle.std.proofs.lemmas.List.{length-map, drop-map}
 use Rattle.std.proofs.lemmas.Option.{slice_get-map}
 use Rattle.widl_idl.specs.declared.argument.Arg.{Arg}
@@ -11,7 +10,7 @@ use Rattle.widl_idl.specs.declared.signature.Sig.{Sig}
 use Rattle.widl_idl.specs.DefinitionTerms.{ArgTerm, SigTerm, arg_term, sig_term}
 use Rattle.widl_idl.specs.Terms.{TypeTerm}
 use Rattle.widl_overload.specs.OverloadRules.{overload_place}
-use Rattle.widl_overload.specs.Sets.{TupleTerm, declared_opts, declared_types, effective_tuples, if_variadic, is_free, is_variadic, longer, longest, of_length, of_lengths, shorter, tuple_of, variadic_last, with_tuple}
+use Rattle.widl_overload.specs.Sets.{TupleTerm, declared_opts, declared_types, effective_tuples, if_variadic, are_free, is_variadic, longer, longest, of_length, of_lengths, shorter, tuple_of, variadic_last, with_tuple}
 
 -- the set, of the terms of signatures
 abbrev term_types : List ArgTerm → List TypeTerm
@@ -32,7 +31,7 @@ term_longer number args count None = None
 term_longer number args count (Some last) = Some (record { overload = number; types = term_types args ++ replicate count last.ty; opts = term_opts args ++ replicate count Variadic })
 
 abbrev term_shorter : ℕ → List ArgTerm → ℕ → Option TupleTerm
-term_shorter number args m = cond (list_all (λ (a : ArgTerm). is_free a.opt) (drop m args)) (Some (record { overload = number; types = take m (term_types args); opts = take m (term_opts args) })) None
+term_shorter number args m = cond (are_free (term_opts (drop m args))) (Some (record { overload = number; types = take m (term_types args); opts = take m (term_opts args) })) None
 
 abbrev term_tuple : ℕ → List ArgTerm → ℕ → Option TupleTerm
 term_tuple number args m = cond (nat_lt (length args) m) (term_longer number args (m - length args) (term_last args)) (term_shorter number args m)
@@ -56,13 +55,9 @@ types_are : (args : List Arg) → declared_types args ≡ term_types (map arg_te
 types_are [] = refl
 types_are (a ∷ args) = ap (λ ts. (arg_term a).ty ∷ ts) (types_are args)
 
-opts_are : (args : List Arg) → declared_opts args ≡ term_opts (map arg_term args)
+pub opts_are : (args : List Arg) → declared_opts args ≡ term_opts (map arg_term args)
 opts_are [] = refl
 opts_are (a ∷ args) = ap (λ os. a.opt ∷ os) (opts_are args)
-
-free_are : (args : List Arg) → list_all (λ (a : Arg). is_free a.opt) args ≡ list_all (λ (a : ArgTerm). is_free a.opt) (map arg_term args)
-free_are [] = refl
-free_are (a ∷ args) = ap (λ b. is_free a.opt && b) (free_are args)
 
 size_is : (args : List Arg) → length args ≡ length (map arg_term args)
 size_is args = sym (length-map args arg_term)
@@ -86,7 +81,7 @@ longer_is number args count (Some last) = λ i. Some (record { overload = number
 
 shorter_is : (number : ℕ) (args : List Arg) (m : ℕ) → shorter number args m ≡ term_shorter number (map arg_term args) m
 shorter_is number args m =
-    let free : list_all (λ (a : Arg). is_free a.opt) (drop m args) ≡ list_all (λ (a : ArgTerm). is_free a.opt) (drop m (map arg_term args)) = free_are (drop m args) ∙ ap (list_all (λ (a : ArgTerm). is_free a.opt)) (sym (drop-map arg_term m args)) in
+    let free : are_free (declared_opts (drop m args)) ≡ are_free (term_opts (drop m (map arg_term args))) = ap are_free (opts_are (drop m args) ∙ ap term_opts (sym (drop-map arg_term m args))) in
     λ i. cond (free i) (Some (record { overload = number; types = take m (types_are args i); opts = take m (opts_are args i) })) None
 
 tuple_is : (number : ℕ) (args : List Arg) (m : ℕ) → tuple_of number args m ≡ term_tuple number (map arg_term args) m

@@ -1,5 +1,5 @@
 -- The standard's own construction of the effective overload set: of each overload the declared lists, grown at their end and cut at their end (Web IDL, "compute the effective overload set").
-use Rattle.std.specs.Prelude.{ℕ, ◌+◌, ◌-◌, ◌++◌, Bool, false, List, [], ◌∷◌, length, take, slice_get, zero, suc, max, Option, None, Some, if◌then◌else◌}
+use Rattle.std.specs.Prelude.{ℕ, ◌+◌, ◌-◌, ◌++◌, Bool, false, List, [], ◌∷◌, length, take, slice_get, nat_eq, zero, suc, max, Option, None, Some, if◌then◌else◌}
 use Rattle.widl_idl.specs.declared.argument.Arg.{Arg}
 use Rattle.widl_idl.specs.declared.argument.Optionality.{Optionality}
 use Rattle.widl_idl.specs.declared.argument.Optionality.TheVariants.{Variadic}
@@ -26,17 +26,17 @@ grown_if_variadic (Some last) t count = grown (type_term last.ty) t count
 abbrev pub cut_to : ℕ → TupleTerm → TupleTerm
 cut_to m t = record { overload = t.overload; types = take m t.types; opts = take m t.opts }
 
-abbrev pub is_free_one : Option Optionality → Bool
-is_free_one None = false
-is_free_one (Some o) = is_free o
+abbrev pub is_free_one : Option Optionality → Bool → Bool
+is_free_one None is_last = false
+is_free_one (Some opt) is_last = is_free opt is_last
 
--- a tuple of a length without its last argument, then without the one before, for as long as the argument cut off may be left out
-abbrev pub cuts : TupleTerm → ℕ → List TupleTerm
-cuts t zero = []
-cuts t (suc m) = if is_free_one (slice_get t.opts m) then cut_to m t ∷ cuts (cut_to m t) m else []
+-- of an overload with so many declared arguments a tuple of a length without its last argument, then without the one before, for as long as the argument cut off is optional, or is variadic and the last declared one
+abbrev pub cuts : ℕ → TupleTerm → ℕ → List TupleTerm
+cuts declared t zero = []
+cuts declared t (suc m) = if is_free_one (slice_get t.opts m) (nat_eq (m + 1) declared) then cut_to m t ∷ cuts declared (cut_to m t) m else []
 
 abbrev pub of_overload : ℕ → List Arg → ℕ → List TupleTerm
-of_overload number args most = declared_tuple number args ∷ (grown_if_variadic (variadic_last args) (declared_tuple number args) (most - length args) ++ cuts (declared_tuple number args) (length args))
+of_overload number args most = declared_tuple number args ∷ (grown_if_variadic (variadic_last args) (declared_tuple number args) (most - length args) ++ cuts (length args) (declared_tuple number args) (length args))
 
 abbrev pub of_overloads : ℕ → List Sig → ℕ → List TupleTerm
 of_overloads number [] most = []

@@ -1,6 +1,5 @@
 -- The effective overload set of a callee, each tuple in closed form (Web IDL, "effective overload set").
-use Rattle.std.specs.Prelude.{ℕ, ◌+◌, ◌-◌, ◌<◌, ◌++◌, Bool, true, false, List, [], ◌∷◌, length, take, drop, slice_get, replicate, zero, suc, max, map, nat_lt, Option, None, Some, option_map, option_and_then, is_some, if◌then◌else◌}
-use Rattle.std.specs.List.{list_all}
+use Rattle.std.specs.Prelude.{ℕ, ◌+◌, ◌-◌, ◌<◌, ◌++◌, ◌&&◌, Bool, true, false, List, [], ◌∷◌, length, take, drop, slice_get, replicate, zero, suc, max, map, nat_lt, Option, None, Some, option_map, option_and_then, is_some, if◌then◌else◌}
 use Rattle.widl_idl.specs.declared.argument.Arg.{Arg}
 use Rattle.widl_idl.specs.declared.argument.Optionality.{Optionality}
 use Rattle.widl_idl.specs.declared.argument.Optionality.TheVariants.{Required, Optional, Variadic}
@@ -53,11 +52,20 @@ tuple_term t = record { overload = t.overload; types = type_terms t.types; opts 
 abbrev pub tuples_in : OverloadSet → List TupleTerm
 tuples_in set = map tuple_term set.tuples.items
 
--- an argument that a call may leave out
-abbrev pub is_free : Optionality → Bool
-is_free Required = false
-is_free Optional = true
-is_free Variadic = true
+-- whether a call may leave out an argument with this optionality value: an optional one, or a variadic one that is the last
+abbrev pub is_free : Optionality → Bool → Bool
+is_free Required is_last = false
+is_free Optional is_last = true
+is_free Variadic is_last = is_last
+
+abbrev pub is_end : {X : Type 0} → List X → Bool
+is_end [] = true
+is_end (x ∷ xs) = false
+
+-- whether a call may leave out each of the arguments from one on, which have these optionality values
+abbrev pub are_free : List Optionality → Bool
+are_free [] = true
+are_free (opt ∷ opts) = is_free opt (is_end opts) && are_free opts
 
 abbrev pub is_variadic : Optionality → Bool
 is_variadic Required = false
@@ -85,7 +93,7 @@ longer number args count (Some last) = Some (record { overload = number; types =
 
 -- the declared lists as far as a length, where each argument from there on may be left out
 abbrev pub shorter : ℕ → List Arg → ℕ → Option TupleTerm
-shorter number args m = if list_all (λ a. is_free a.opt) (drop m args) then Some (record { overload = number; types = take m (declared_types args); opts = take m (declared_opts args) }) else None
+shorter number args m = if are_free (declared_opts (drop m args)) then Some (record { overload = number; types = take m (declared_types args); opts = take m (declared_opts args) }) else None
 
 -- the tuple of a length of the overload with this number and these arguments, if there is one
 abbrev pub tuple_of : ℕ → List Arg → ℕ → Option TupleTerm

@@ -33,7 +33,7 @@ pub use inheritance::inherits;
 pub use overload_rules::first_overload_violations;
 pub use overload_violations::OverloadViolations;
 pub use served::is_served;
-pub use sets::{effective_set, effective_set_is_as_constructed};
+pub use sets::{all_free, effective_set, effective_set_is_as_constructed, is_free};
 pub use tuple::{OverloadSet, Tuple};
 pub use type_role::TypeRole;
 pub use validity_rule::ValidityRule;

@@ -1,12 +1,12 @@
 //! Effective overload sets.
 
 ghost use Rattle.std.specs.Prelude.{◌≡◌, ◌+◌, ◌-◌, ◌<◌, ◌≤◌, ◌++◌, [], ◌↔◌, ℕ, List, Contains, Some, None, IfOk, IsSome, OnOk, Option, drop, length, map, replicate, slice_get, take};
-ghost use Rattle.std.specs.List.{list_all, list_any};
+ghost use Rattle.std.specs.List.{list_any};
 ghost use Rattle.std.specs.Option.{ForSome, option_copied, option_map};
 ghost use Rattle.widl_idl.specs.Terms.{type_term, type_terms};
 ghost use Rattle.widl_idl.specs.declared.signature.Sig as signatures;
 ghost use Rattle.widl_overload.specs.Construction.{constructed};
-ghost use Rattle.widl_overload.specs.Sets.{AreNumbered, TupleTerm, declared_opts, declared_types, effective_set_of, effective_tuples, has_variadic, is_free, is_variadic, longer as longer_of, longest, of_length, of_lengths, overloads_of, shorter as shorter_of, tuple_of, tuple_term, tuples_in, variadic_last, with_tuple};
+ghost use Rattle.widl_overload.specs.Sets.{AreNumbered, TupleTerm, declared_opts, declared_types, are_free, effective_set_of, effective_tuples, has_variadic, is_free as is_free_in, is_variadic, longer as longer_of, longest, of_length, of_lengths, overloads_of, shorter as shorter_of, tuple_of, tuple_term, tuples_in, variadic_last, with_tuple};
 
 use crate::callees::overloads;
 use crate::tuple::{OverloadSet, Tuple};
@@ -229,9 +229,26 @@ fn opts_of(alloc: Global, args: &[Arg]) -> Result<Optionalities, AllocError>
     Ok(opts)
 }
 
-/// Whether a call may leave out each of the arguments.
-fn all_free(args: &[Arg]) -> bool
-    ensures { result ≡ list_all (λ a. is_free a.opt) args.now }
+/// Whether a call may leave out each of these arguments, which are the last ones of an overload.
+pub fn all_free(args: &[Arg]) -> bool
+    ensures { result ≡ are_free (declared_opts args.now) }
 {
-    args.iter().all(|arg| arg.opt != Optionality::Required)
+    for (place, arg) in args.iter().enumerate() {
+        if !is_free(arg.opt, place + 1 == args.len()) {
+            return false;
+        }
+    }
+    true
+}
+
+/// Whether a call may leave out an argument: an optional one, or a variadic one that is the last (Web
+/// IDL, "effective overload set").
+pub fn is_free(opt: Optionality, is_last: bool) -> bool
+    ensures { result ≡ is_free_in opt is_last }
+{
+    match opt {
+        Optionality::Required => false,
+        Optionality::Optional => true,
+        Optionality::Variadic => is_last,
+    }
 }

@@ -593,3 +593,25 @@ fn overloads_that_differ_too_early(rt: HostRuntime) -> Result<(), Fail> {
     );
     Ok(())
 }
+
+/// `undefined f(); undefined f(long... a, optional long b);`, where no call may leave out `a`, since
+/// it isn't the last argument.
+#[test]
+fn an_ellipsis_further_in_stays(rt: HostRuntime) -> Result<(), Fail> {
+    let alloc = rt.alloc();
+    let mut args = Args::new(alloc);
+    add(alloc, &mut args, long(), Optionality::Variadic)?;
+    add(alloc, &mut args, long(), Optionality::Optional)?;
+    let mut sigs = Sigs::new(alloc);
+    sigs.push(overload_at(10, Args::new(alloc)))?;
+    sigs.push(overload_at(20, args))?;
+    let violations = violations_of(alloc, &rt, &sigs)?;
+    assert_eq!(rt;
+        violations,
+        OverloadViolations {
+            indistinguishable: None,
+            early: None
+        }
+    );
+    Ok(())
+}

@@ -1,9 +1,7 @@
 -- An effective overload set depends on the terms of the overloads alone.
 use Rattle.std.proofs.Common.{◌≡◌, ℕ, ◌+◌, ◌-◌, ◌++◌, true, false, cond, zero, suc, max, List, [], ◌∷◌, length, take, drop, map, replicate, nat_lt, refl, sym, ap, ◌∙◌}
 use Rattle.std.specs.Prelude.{Option, None, Some, slice_get, option_map}
-use Rattle.std.specs.List.{list_all}
 use Rattle.std.proofs.lemmas.List.{drop-map, length-map}
-use Rattle.std.proofs.lemmas.List.Folds.{list_all-map}
 use Rattle.std.proofs.lemmas.Option.{slice_get-map}
 use Rattle.widl_idl.specs.declared.argument.Arg.{Arg}
 use Rattle.widl_idl.specs.declared.argument.Optionality.{Optionality}
@@ -11,7 +9,7 @@ use Rattle.widl_idl.specs.declared.argument.Optionality.TheVariants.{Variadic}
 use Rattle.widl_idl.specs.declared.signature.Sig.{Sig}
 use Rattle.widl_idl.specs.DefinitionTerms.{ArgTerm, SigTerm, arg_term, sig_term}
 use Rattle.widl_idl.specs.Terms.{TypeTerm, type_term}
-use Rattle.widl_overload.specs.Sets.{TupleTerm, declared_opts, declared_types, effective_tuples, if_variadic, is_free, is_variadic, longer, longest, of_length, of_lengths, shorter, tuple_of, variadic_last, with_tuple}
+use Rattle.widl_overload.specs.Sets.{TupleTerm, declared_opts, declared_types, effective_tuples, if_variadic, are_free, is_variadic, longer, longest, of_length, of_lengths, shorter, tuple_of, variadic_last, with_tuple}
 
 types_in : List ArgTerm → List TypeTerm
 types_in args = map (λ a. a.ty) args
@@ -55,11 +53,11 @@ longer_is number args count None = refl
 longer_is number args count (Some a) = refl
 
 shorter_by : ℕ → List TypeTerm → List Optionality → ℕ → Option TupleTerm
-shorter_by number types opts m = cond (list_all is_free (drop m opts)) (Some (record { overload = number; types = take m types; opts = take m opts })) None
+shorter_by number types opts m = cond (are_free (drop m opts)) (Some (record { overload = number; types = take m types; opts = take m opts })) None
 
 shorter_is : (number : ℕ) (args : List Arg) (m : ℕ) → shorter number args m ≡ shorter_by number (declared_types args) (declared_opts args) m
 unfolding shorter_by
-shorter_is number args m = ap (λ b. cond b (Some (record { overload = number; types = take m (declared_types args); opts = take m (declared_opts args) })) None) (sym (ap (list_all is_free) (drop-map (λ (a : Arg). a.opt) m args) ∙ list_all-map is_free (λ (a : Arg). a.opt) (drop m args)))
+shorter_is number args m = ap (λ b. cond b (Some (record { overload = number; types = take m (declared_types args); opts = take m (declared_opts args) })) None) (sym (ap are_free (drop-map (λ (a : Arg). a.opt) m args)))
 
 tuple_by : ℕ → List ArgTerm → ℕ → Option TupleTerm
 tuple_by number args m = cond (nat_lt (length args) m) (longer_by number (types_in args) (opts_in args) (m - length args) (last_type args)) (shorter_by number (types_in args) (opts_in args) m)

@@ -1,7 +1,6 @@
 -- The tuples of an effective overload set, whose types have their optionality values.
 use Rattle.std.proofs.Common.{◌≡◌, ℕ, ◌+◌, ◌-◌, ◌<◌, ◌≤◌, ◌⊎◌, inl, inr, true, false, cond, zero, suc, max, List, [], ◌∷◌, length, drop, replicate, nat_lt, arith, refl, sym, ap, subst, ◌∙◌}
 use Rattle.std.specs.Prelude.{All, Option, None, Some}
-use Rattle.std.specs.List.{list_all}
 use Rattle.std.specs.Option.{ForSome}
 use Rattle.std.proofs.lemmas.Bool.{cases_Bool, ltb-false, ltb-true}
 use Rattle.std.proofs.lemmas.List.{length-append, length-map, length-replicate, length-take-le}
@@ -14,7 +13,7 @@ use Rattle.widl_idl.specs.declared.defs.Defs.{Defs}
 use Rattle.widl_idl.specs.declared.signature.Sig.{Sig}
 use Rattle.widl_idl.specs.Counts.{IsNumberedList}
 use Rattle.widl_idl.specs.Terms.{type_term}
-use Rattle.widl_overload.specs.Sets.{AreNumbered, HasFewArgs, TupleTerm, declared_opts, declared_types, effective_or_none, effective_set_of, effective_tuples, is_free, longer, longest, of_length, of_lengths, overloads_of, shorter, tuple_of, variadic_last, with_tuple}
+use Rattle.widl_overload.specs.Sets.{AreNumbered, HasFewArgs, TupleTerm, declared_opts, declared_types, effective_or_none, effective_set_of, effective_tuples, are_free, longer, longest, of_length, of_lengths, overloads_of, shorter, tuple_of, variadic_last, with_tuple}
 use Rattle.widl_overload.proofs.Numbered.{overloads_numbered}
 use Rattle.widl_sets.specs.Lines.{IsTuple}
 
@@ -31,7 +30,7 @@ longer_has number args m (Some last) t below is = subst (HasLength m) (same_Some
 })
 
 shorter_has : (number : ℕ) (args : List Arg) (m : ℕ) (t : TupleTerm) → m ≤ length args → shorter number args m ≡ Some t → HasLength m t
-shorter_has number args m t below is = subst (HasLength m) (some_of_cond (list_all (λ (a : Arg). is_free a.opt) (drop m args)) _ t is).1 (record {
+shorter_has number args m t below is = subst (HasLength m) (some_of_cond (are_free (declared_opts (drop m args))) _ t is).1 (record {
   types = length-take-le m (declared_types args) (let a = length-map args (λ (x : Arg). type_term x.ty) in omega (arith, a, below));
   opts = length-take-le m (declared_opts args) (let a = length-map args (λ (x : Arg). x.opt) in omega (arith, a, below));
 })

@@ -7,7 +7,7 @@ use Rattle.widl_idl.specs.declared.argument.Arg.{Arg}
 use Rattle.widl_idl.specs.declared.namespace.Space.{Space}
 use Rattle.widl_idl.specs.declared.operation.OpName.{OpName}
 use Rattle.widl_idl.specs.DefinitionTerms.{SpaceTerm, OpNameTerm, arg_term, op_name_term, space_term}
-use Rattle.widl_overload.specs.Sets.{is_free}
+use Rattle.widl_overload.specs.Sets.{is_end, is_free}
 use Rattle.widl_store.specs.declared.inner.Builtin.{Builtin}
 use Rattle.widl_store.specs.declared.property.Prop.{Prop}
 use Rattle.widl_store.specs.declared.property.Prop.TheVariants.{Plain}
@@ -62,12 +62,19 @@ counted true (suc n) other = go (nat_eq (suc n) 0) refl
     go true t = absurd (let bad : suc n ≡ 0 = eqb-true (suc n) 0 t in omega arith)
     go false t = refl
 
-pub needed_more : (args : List Arg) (arg : Arg) (i j n : ℕ) → i ≡ suc j → j < length args → arg ≡ get_or args j arg → n ≡ needed (map arg_term (drop i args)) → (0 < n) ⊎ (is_free arg.opt ≡ false) → n + 1 ≡ needed (map arg_term (drop j args))
+pub needed_more : (args : List Arg) (arg : Arg) (i j n : ℕ) → i ≡ suc j → j < length args → arg ≡ get_or args j arg → n ≡ needed (map arg_term (drop i args)) → (0 < n) ⊎ (is_free arg.opt (is_end (map arg_term (drop (suc j) args))) ≡ false) → n + 1 ≡ needed (map arg_term (drop j args))
 needed_more args arg i j n next small is so_far other =
-    counted (is_free arg.opt) n other
-    ∙ ap (needed_with (is_free arg.opt)) (so_far ∙ ap (λ k. needed (map arg_term (drop k args))) next)
+    counted (is_free arg.opt (is_end (map arg_term (drop (suc j) args)))) n other
+    ∙ ap (needed_with (is_free arg.opt (is_end (map arg_term (drop (suc j) args))))) (so_far ∙ ap (λ k. needed (map arg_term (drop k args))) next)
     ∙ ap (λ a. needed (map arg_term (a ∷ drop (suc j) args))) is
     ∙ ap (λ l. needed (map arg_term l)) (sym (drop-cons args j arg small))
+
+-- no argument is left past the last one
+pub past_end : (args : List Arg) (j : ℕ) → j < length args → nat_eq (j + 1) (length args) ≡ is_end (map arg_term (drop (suc j) args))
+past_end [] j small = absurd (omega arith)
+past_end (a ∷ []) zero small = refl
+past_end (a ∷ b ∷ args) zero small = grind arith
+past_end (a ∷ args) (suc j) small = (let e : nat_eq (suc j + 1) (suc (length args)) ≡ nat_eq (j + 1) (length args) = grind arith in e) ∙ past_end args j (omega arith)
 
 -- the same, where some were counted
 pub counted_more : (args : List Arg) (i j n : ℕ) → i ≡ suc j → j < length args → n ≡ needed (map arg_term (drop i args)) → 0 < n → n + 1 ≡ needed (map arg_term (drop j args))

@@ -6,12 +6,11 @@ use Rattle.std.proofs.lemmas.List.Elements.{Contains-append_cases, Contains-appe
 use Rattle.widl_idl.specs.declared.argument.Optionality.TheVariants.{Variadic}
 use Rattle.widl_idl.specs.Terms.{type_term}
 use Rattle.std.specs.Prelude.{◌&&◌, Contains, fold, min, nat_lt}
-use Rattle.std.specs.List.{list_all}
 use Rattle.std.proofs.lemmas.List.{length-map, length-replicate}
 use Rattle.widl_idl.specs.declared.argument.Arg.{Arg}
 use Rattle.widl_idl.specs.declared.signature.Sig.{Sig}
 use Rattle.widl_idl.specs.DefinitionTerms.{arg_term, sig_term}
-use Rattle.widl_overload.specs.Sets.{TupleTerm, is_free, tuple_of, longer, shorter, variadic_last, with_tuple, of_length, of_lengths, effective_tuples, longest, declared_types, declared_opts}
+use Rattle.widl_overload.specs.Sets.{TupleTerm, are_free, is_end, is_free, tuple_of, longer, shorter, variadic_last, with_tuple, of_length, of_lengths, effective_tuples, longest, declared_types, declared_opts}
 use Rattle.widl_store.specs.Realm.{needed, needed_with, shortest}
 
 abbrev needs : List Arg → ℕ
@@ -25,19 +24,27 @@ needed_with_le true n = go (nat_eq n 0)
     go true = omega arith
     go false = omega arith
 
-all_free : (args : List Arg) → list_all (λ a. is_free a.opt) args ≡ true → needs args ≡ 0
+-- whether an argument before these may be left out
+abbrev free_before : Arg → List Arg → Bool
+free_before a args = is_free a.opt (is_end (map arg_term args))
+
+same_end : (args : List Arg) → is_end (declared_opts args) ≡ is_end (map arg_term args)
+same_end [] = refl
+same_end (a ∷ args) = refl
+
+all_free : (args : List Arg) → are_free (declared_opts args) ≡ true → needs args ≡ 0
 all_free [] h = refl
-all_free (a ∷ args) h = go (is_free a.opt) refl (all_free args)
+all_free (a ∷ args) h = go (free_before a args) refl (all_free args) (ap (λ end. is_free a.opt end && are_free (declared_opts args)) (sym (same_end args)) ∙ h)
   where
-    go : (b : Bool) → is_free a.opt ≡ b → (list_all (λ a. is_free a.opt) args ≡ true → needs args ≡ 0) → needed_with (is_free a.opt) (needs args) ≡ 0
-    go true t rest = ap (λ b. needed_with b (needs args)) t ∙ ap (needed_with true) (rest (ap (λ b. b && list_all (λ a. is_free a.opt) args) (sym t) ∙ h))
-    go false t rest = absurd (true≢false (sym h ∙ ap (λ b. b && list_all (λ a. is_free a.opt) args) t))
+    go : (b : Bool) → free_before a args ≡ b → (are_free (declared_opts args) ≡ true → needs args ≡ 0) → (free_before a args && are_free (declared_opts args)) ≡ true → needed_with (free_before a args) (needs args) ≡ 0
+    go true t rest all = ap (λ b. needed_with b (needs args)) t ∙ ap (needed_with true) (rest (ap (λ b. b && are_free (declared_opts args)) (sym t) ∙ all))
+    go false t rest all = absurd (true≢false (sym all ∙ ap (λ b. b && are_free (declared_opts args)) t))
 
 -- from a length on that all may be left out, no more are needed
-needs_le : (args : List Arg) (m : ℕ) → list_all (λ a. is_free a.opt) (drop m args) ≡ true → needs args ≤ m
+needs_le : (args : List Arg) (m : ℕ) → are_free (declared_opts (drop m args)) ≡ true → needs args ≤ m
 needs_le [] m h = omega arith
 needs_le (a ∷ args) zero h = omega (arith, all_free (a ∷ args) h)
-needs_le (a ∷ args) (suc m) h = omega (arith, needed_with_le (is_free a.opt) (needs args), needs_le args m h)
+needs_le (a ∷ args) (suc m) h = omega (arith, needed_with_le (free_before a args) (needs args), needs_le args m h)
 
 from_min : (first x : ℕ) → (min first x ≡ first) ⊎ (min first x ≡ x)
 from_min first x = elim (cases_lt first x) as (λ _. (min first x ≡ first) ⊎ (min first x ≡ x)) [ inl lt ↦ inl (omega arith) | inr ge ↦ inr (omega arith) ]
@@ -69,9 +76,9 @@ longer_length number args m (Some last) t more e =
     ap length (sym types) ∙ length-append (declared_types args) (replicate (m - length args) (type_term last.ty)) ∙ (let a : length (declared_types args) ≡ length args = length-map args (λ a. type_term a.ty) in let b : length (replicate (m - length args) (type_term last.ty)) ≡ m - length args = length-replicate (m - length args) (type_term last.ty) in omega arith)
 
 shorter_length : (number : ℕ) (args : List Arg) (m : ℕ) (t : TupleTerm) → m ≤ length args → shorter number args m ≡ Some t → (length t.types ≡ m) × (needs args ≤ m)
-shorter_length number args m t few e = go (list_all (λ a. is_free a.opt) (drop m args)) refl
+shorter_length number args m t few e = go (are_free (declared_opts (drop m args))) refl
   where
-    go : (b : Bool) → list_all (λ a. is_free a.opt) (drop m args) ≡ b → (length t.types ≡ m) × (needs args ≤ m)
+    go : (b : Bool) → are_free (declared_opts (drop m args)) ≡ b → (length t.types ≡ m) × (needs args ≤ m)
     go true h =
         let f : Some (record { overload = number; types = take m (declared_types args); opts = take m (declared_opts args) }) ≡ Some t = ap (λ b. if b then Some (record { overload = number; types = take m (declared_types args); opts = take m (declared_opts args) }) else None) (sym h) ∙ e in
         let g : record { overload = number; types = take m (declared_types args); opts = take m (declared_opts args) } ≡ t = cc in
@@ -80,7 +87,7 @@ shorter_length number args m t few e = go (list_all (λ a. is_free a.opt) (drop 
 
 needs_few : (args : List Arg) → needs args ≤ length args
 needs_few [] = omega arith
-needs_few (a ∷ args) = omega (arith, needed_with_le (is_free a.opt) (needs args), needs_few args)
+needs_few (a ∷ args) = omega (arith, needed_with_le (free_before a args) (needs args), needs_few args)
 
 tuple_length : (number : ℕ) (args : List Arg) (m : ℕ) (t : TupleTerm) → tuple_of number args m ≡ Some t → (length t.types ≡ m) × (needs args ≤ m)
 tuple_length number args m t e = go (nat_lt (length args) m) refl
@@ -138,26 +145,31 @@ shortest_found x sigs = go (least_found (needs x.args) sigs)
     go (inl e) = (x, (0, omega arith, refl), e)
     go (inr r) = (r.0, (suc r.1.0, omega (arith, r.1.1), r.1.2), r.2)
 
+-- whether of an argument and those after it a call may leave out all from a place on
+abbrev all_from : Arg → List Arg → ℕ → Bool
+all_from a args k = are_free (declared_opts (drop k (a ∷ args)))
+
 -- and it has a tuple of that length
-free_from : (args : List Arg) → list_all (λ a. is_free a.opt) (drop (needs args) args) ≡ true
+free_from : (args : List Arg) → are_free (declared_opts (drop (needs args) args)) ≡ true
 free_from [] = refl
-free_from (a ∷ args) = go (is_free a.opt) refl (nat_eq (needs args) 0) refl (free_from args)
+free_from (a ∷ args) = go (free_before a args) refl (nat_eq (needs args) 0) refl (free_from args)
   where
-    go : (b : Bool) → is_free a.opt ≡ b → (z : Bool) → nat_eq (needs args) 0 ≡ z → list_all (λ a. is_free a.opt) (drop (needs args) args) ≡ true → list_all (λ a. is_free a.opt) (drop (needed_with (is_free a.opt) (needs args)) (a ∷ args)) ≡ true
+    go : (b : Bool) → free_before a args ≡ b → (z : Bool) → nat_eq (needs args) 0 ≡ z → are_free (declared_opts (drop (needs args) args)) ≡ true → all_from a args (needed_with (free_before a args) (needs args)) ≡ true
     go true t true z rest =
-        ap (λ k. list_all (λ a. is_free a.opt) (drop k (a ∷ args))) (ap (λ b. needed_with b (needs args)) t ∙ ap (λ c. if true && c then 0 else needs args + 1) z)
-        ∙ ap (λ b. b && list_all (λ a. is_free a.opt) args) t
-        ∙ ap (λ k. list_all (λ a. is_free a.opt) (drop k args)) (sym (eqb-true (needs args) 0 z)) ∙ rest
+        ap (all_from a args) (ap (λ b. needed_with b (needs args)) t ∙ ap (λ c. if true && c then 0 else needs args + 1) z)
+        ∙ ap (λ end. is_free a.opt end && are_free (declared_opts args)) (same_end args)
+        ∙ ap (λ b. b && are_free (declared_opts args)) t
+        ∙ ap (λ k. are_free (declared_opts (drop k args))) (sym (eqb-true (needs args) 0 z)) ∙ rest
     go true t false z rest =
-        ap (λ k. list_all (λ a. is_free a.opt) (drop k (a ∷ args))) (ap (λ b. needed_with b (needs args)) t ∙ ap (λ c. if true && c then 0 else needs args + 1) z ∙ (let e : needs args + 1 ≡ suc (needs args) = omega arith in e)) ∙ rest
+        ap (all_from a args) (ap (λ b. needed_with b (needs args)) t ∙ ap (λ c. if true && c then 0 else needs args + 1) z ∙ (let e : needs args + 1 ≡ suc (needs args) = omega arith in e)) ∙ rest
     go false t c z rest =
-        ap (λ k. list_all (λ a. is_free a.opt) (drop k (a ∷ args))) (ap (λ b. needed_with b (needs args)) t ∙ (let e : needs args + 1 ≡ suc (needs args) = omega arith in e)) ∙ rest
+        ap (all_from a args) (ap (λ b. needed_with b (needs args)) t ∙ (let e : needs args + 1 ≡ suc (needs args) = omega arith in e)) ∙ rest
 
 in_more : (o : Option TupleTerm) (ts : List TupleTerm) (t : TupleTerm) → Contains ts t → Contains (with_tuple o ts) t
 in_more None ts t h = h
 in_more (Some u) ts t (k, lt, is) = (suc k, omega arith, is)
 
-tuple_made : (number : ℕ) (args : List Arg) (m : ℕ) → m ≤ length args → list_all (λ a. is_free a.opt) (drop m args) ≡ true → (t : TupleTerm) × (tuple_of number args m ≡ Some t) × (length t.types ≡ m)
+tuple_made : (number : ℕ) (args : List Arg) (m : ℕ) → m ≤ length args → are_free (declared_opts (drop m args)) ≡ true → (t : TupleTerm) × (tuple_of number args m ≡ Some t) × (length t.types ≡ m)
 tuple_made number args m few free =
     let it : TupleTerm = record { overload = number; types = take m (declared_types args); opts = take m (declared_opts args) } in (
       it,
@@ -169,7 +181,7 @@ tuple_made number args m few free =
     not_lt true h = absurd (let more : length args < m = ltb-true (length args) m h in omega arith)
     not_lt false h = refl
 
-in_length : (m number : ℕ) (sigs : List Sig) (s : Sig) → Contains sigs s → m ≤ length s.args → list_all (λ a. is_free a.opt) (drop m s.args) ≡ true → (t : TupleTerm) × Contains (of_length m number sigs) t × (length t.types ≡ m)
+in_length : (m number : ℕ) (sigs : List Sig) (s : Sig) → Contains sigs s → m ≤ length s.args → are_free (declared_opts (drop m s.args)) ≡ true → (t : TupleTerm) × Contains (of_length m number sigs) t × (length t.types ≡ m)
 in_length m number [] s (k, lt, is) few free = absurd (omega arith)
 in_length m number (x ∷ sigs) s (zero, lt, is) few free =
     let r = tuple_made number s.args m few free in

@@ -6,7 +6,7 @@ use Rattle.widl_idl.specs.declared.callee.Owner.TheVariants.{Space}
 use Rattle.widl_idl.specs.declared.callee.Part.TheVariants.{Op}
 use Rattle.widl_idl.specs.DefinitionTerms.{DefsTerm, SpaceTerm, OpNameTerm, SigTerm, ArgTerm}
 use Rattle.widl_overload.specs.Served.{has_operations_alone, is_none}
-use Rattle.widl_overload.specs.Sets.{is_free}
+use Rattle.widl_overload.specs.Sets.{is_end, is_free}
 use Rattle.widl_store.specs.declared.inner.Builtin.TheVariants.{Callee}
 use Rattle.widl_store.specs.Inners.{SpacePart}
 use Rattle.widl_store.specs.Intrinsics.{intrinsics}
@@ -28,7 +28,7 @@ needed_with free rest = if free && nat_eq rest 0 then 0 else rest + 1
 
 abbrev pub needed : List ArgTerm → ℕ
 needed [] = 0
-needed (arg ∷ args) = needed_with (is_free arg.opt) (needed args)
+needed (arg ∷ args) = needed_with (is_free arg.opt (is_end args)) (needed args)
 
 -- the least of these over the overloads of an operation, which is the length of the shortest tuple of its
 -- effective overload set

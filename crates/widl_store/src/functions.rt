@@ -2,7 +2,6 @@
 
 ghost use Rattle.std.specs.Prelude.{◌≡◌, IfOk, codes, fold, length, map, min};
 ghost use Rattle.widl_idl.specs.DefinitionTerms.{arg_term, sig_term};
-ghost use Rattle.widl_overload.specs.Sets.{is_free};
 ghost use Rattle.widl_store.specs.Objects.{length_key};
 ghost use Rattle.widl_store.specs.Plans.{function, object_of};
 ghost use Rattle.widl_store.specs.Realm.{needed, shortest};
@@ -11,7 +10,8 @@ use crate::inner::{Builtin, Inner};
 use crate::object::Object;
 use crate::plans::{count, text};
 use std::alloc::{AllocError, Global};
-use widl_idl::{Arg, Optionality, Sig};
+use widl_idl::{Arg, Sig};
+use widl_overload::is_free;
 use widl_text::{Key, Units};
 use widl_value::{ObjRef, Shape};
 
@@ -82,18 +82,9 @@ fn needed(args: &[Arg]) -> usize
     let mut count = 0;
     while place > 0 {
         place -= 1;
-        if count > 0 || !is_free(args[place].opt) {
+        if count > 0 || !is_free(args[place].opt, place + 1 == args.len()) {
             count += 1;
         }
     }
     count
-}
-
-fn is_free(opt: Optionality) -> bool
-    ensures { result ≡ is_free opt }
-{
-    match opt {
-        Optionality::Required => false,
-        Optionality::Optional | Optionality::Variadic => true,
-    }
 }

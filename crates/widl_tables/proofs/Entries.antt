@@ -1,17 +1,22 @@
 -- Entries by the numbers of their overloads.
-use Rattle.std.proofs.Common.{◌≡◌, ℕ, zero, suc, ◌+◌, ◌-◌, ◌<◌, ◌≤◌, ◌++◌, Bool, true, false, cond, nat_lt, List, [], ◌∷◌, length, take, drop, map, replicate, min, slice_get, Option, None, Some, arith, refl, sym, ap, subst, ◌∙◌}
-use Rattle.std.specs.List.{list_all, list_any}
+use Rattle.std.proofs.Common.{◌≡◌, ℕ, suc, ◌+◌, ◌-◌, ◌<◌, ◌≤◌, ◌++◌, Bool, true, false, cond, nat_lt, List, [], ◌∷◌, length, drop, map, replicate, slice_get, Option, None, Some, arith, refl, sym, ap, subst, ◌∙◌}
+use Rattle.std.specs.List.{list_any}
 use Rattle.std.specs.Option.{option_map_or}
-use Rattle.std.proofs.lemmas.List.{length-append, length-map, length-replicate, length-take}
+use Rattle.std.proofs.lemmas.List.{drop-map, length-append, length-map, length-replicate, length-take}
+use Rattle.widl_idl.specs.declared.argument.Arg.{Arg}
 use Rattle.widl_idl.specs.declared.interface.Iface.{Iface}
-use Rattle.widl_idl.specs.DefinitionTerms.{ArgTerm, DefsTerm, SigTerm}
-use Rattle.widl_idl.specs.Terms.{TypeTerm}
+use Rattle.widl_idl.specs.DefinitionTerms.{ArgTerm, DefsTerm, SigTerm, arg_term}
 use Rattle.widl_overload.specs.Index.{apart_at, each_two}
-use Rattle.widl_overload.specs.Sets.{TupleTerm, is_free, is_variadic, with_tuple}
-use Rattle.widl_tables.specs.Kept.{choosing_place, counted_args, cut, entries_of, entry_for, entry_of, is_variadic_list, numbers_of, parents_of, repeated, telling_from, types_of}
+use Rattle.widl_overload.specs.Sets.{TupleTerm, are_free, declared_opts, is_variadic, with_tuple}
+use Rattle.widl_overload.proofs.SameTuples.{opts_are}
+use Rattle.widl_tables.specs.Kept.{choosing_place, counted_args, cut, entries_of, entry_for, entry_of, is_variadic_list, numbers_of, optionalities_of, parents_of, repeated, telling_from, types_of}
 use Rattle.widl_tables.specs.Standing.{args_in, entries_in, has_entry, telling_among}
 
 -- 1. The entry of one overload
+
+-- the last arguments may be left out, as their terms tell
+pub free_again : (args : List Arg) (m : ℕ) → are_free (declared_opts (drop m args)) ≡ are_free (optionalities_of (drop m (map arg_term args)))
+free_again args m = ap are_free (opts_are (drop m args) ∙ ap optionalities_of (sym (drop-map arg_term m args)))
 
 split_by : (b v a : Bool) (x y : TupleTerm) → cond b (cond v (Some x) None) (cond a (Some y) None) ≡ cond (cond b v a) (Some (cond b x y)) None
 split_by true true a x y = refl
@@ -21,7 +26,7 @@ split_by false v false x y = refl
 
 -- it has one or none
 entry_is : (n : ℕ) (args : List ArgTerm) (m : ℕ) → entry_of n args m ≡ cond (has_entry args m) (Some (entry_for n args m)) None
-entry_is n args m = split_by (nat_lt (length args) m) (is_variadic_list args) (list_all (λ (a : ArgTerm). is_free a.opt) (drop m args)) (repeated n args (m - length args)) (cut n args m)
+entry_is n args m = split_by (nat_lt (length args) m) (is_variadic_list args) (are_free (optionalities_of (drop m args))) (repeated n args (m - length args)) (cut n args m)
 
 number_by : (b : Bool) (n : ℕ) (args : List ArgTerm) (m : ℕ) → (cond b (repeated n args (m - length args)) (cut n args m)).overload ≡ n
 number_by true n args m = refl
@@ -81,7 +86,7 @@ either_by true v a h = h
 either_by false v a h = refl
 
 entry_long : (n : ℕ) (args : List ArgTerm) (m : ℕ) → has_entry args m ≡ true → length (entry_for n args m).types ≡ m
-entry_long n args m h = long_by (nat_lt (length args) m) n args m refl (either_by (nat_lt (length args) m) (is_variadic_list args) (list_all (λ (a : ArgTerm). is_free a.opt) (drop m args)) h)
+entry_long n args m h = long_by (nat_lt (length args) m) n args m refl (either_by (nat_lt (length args) m) (is_variadic_list args) (are_free (optionalities_of (drop m args))) h)
 
 abbrev EachLong : ℕ → List TupleTerm → Type 0
 EachLong m [] = Unit {0}

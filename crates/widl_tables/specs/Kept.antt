@@ -1,7 +1,7 @@
 -- The entries of a callee's effective overload set that a number of arguments keeps, and the argument that tells them apart.
 -- Source: Web IDL, "compute the effective overload set"; "distinguishing argument index"; "overload resolution algorithm", steps 1 to 8.
 use Rattle.std.specs.Prelude.{ℕ, ◌+◌, ◌-◌, ◌++◌, Bool, min, max, zero, suc, List, [], ◌∷◌, length, take, drop, replicate, filter, map, slice_get, nat_lt, nat_eq, if◌then◌else◌, Option, None, Some}
-use Rattle.std.specs.List.{list_all, list_any}
+use Rattle.std.specs.List.{list_any}
 use Rattle.std.specs.Option.{option_map_or}
 use Rattle.widl_idl.specs.declared.argument.Optionality.{Optionality}
 use Rattle.widl_idl.specs.declared.argument.Optionality.TheVariants.{Required, Variadic}
@@ -16,7 +16,7 @@ use Rattle.widl_idl.specs.DefinitionTerms.{DefsTerm, ArgTerm, SigTerm, OpNameTer
 use Rattle.widl_idl.specs.Terms.{TypeTerm, AnyType}
 use Rattle.widl_overload.specs.Index.{apart_at, each_two}
 use Rattle.widl_overload.specs.Inheritance.{inherits}
-use Rattle.widl_overload.specs.Sets.{TupleTerm, is_free, is_variadic, with_tuple}
+use Rattle.widl_overload.specs.Sets.{TupleTerm, are_free, is_variadic, with_tuple}
 
 -- 1. The overloads of a callee: of an operation name or of constructors. Anything else has none.
 
@@ -86,7 +86,7 @@ abbrev pub entry_of : ℕ → List ArgTerm → ℕ → Option TupleTerm
 entry_of number args m =
     if nat_lt (length args) m
     then (if is_variadic_list args then Some (repeated number args (m - length args)) else None)
-    else if list_all (λ (a : ArgTerm). is_free a.opt) (drop m args) then Some (cut number args m) else None
+    else if are_free (optionalities_of (drop m args)) then Some (cut number args m) else None
 
 -- the entry of an overload for a length for which it has one
 abbrev pub entry_for : ℕ → List ArgTerm → ℕ → TupleTerm

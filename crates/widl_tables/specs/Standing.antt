@@ -1,15 +1,14 @@
 -- For proofs alone. What stands at a place of an overload's entries, without the entries.
 use Rattle.std.specs.Prelude.{ℕ, ◌-◌, Bool, if◌then◌else◌, nat_lt, List, [], ◌∷◌, length, drop, map, slice_get, Option, None, Some, option_map}
-use Rattle.std.specs.List.{list_all}
 use Rattle.std.specs.Option.{option_map_or}
 use Rattle.widl_idl.specs.declared.argument.Optionality.{Optionality}
 use Rattle.widl_idl.specs.declared.argument.Optionality.TheVariants.{Variadic}
 use Rattle.widl_idl.specs.declared.interface.Iface.{Iface}
 use Rattle.widl_idl.specs.DefinitionTerms.{ArgTerm, SigTerm}
 use Rattle.widl_idl.specs.Terms.{TypeTerm, type_term}
-use Rattle.widl_overload.specs.Sets.{TupleTerm, is_free}
+use Rattle.widl_overload.specs.Sets.{TupleTerm, are_free}
 use Rattle.widl_tables.specs.declared.entry_types.Standing.{Standing}
-use Rattle.widl_tables.specs.Kept.{entry_for, is_variadic_list, telling_from}
+use Rattle.widl_tables.specs.Kept.{entry_for, is_variadic_list, optionalities_of, telling_from}
 
 pub record StandingTerm : Type 0 where
   pub ty : TypeTerm
@@ -49,4 +48,4 @@ telling_among ifaces m (t ∷ u ∷ more) = Some (telling_from ifaces (t ∷ u �
 
 -- whether an overload with these arguments has an entry of a length
 abbrev pub has_entry : List ArgTerm → ℕ → Bool
-has_entry args m = if nat_lt (length args) m then is_variadic_list args else list_all (λ (a : ArgTerm). is_free a.opt) (drop m args)
+has_entry args m = if nat_lt (length args) m then is_variadic_list args else are_free (optionalities_of (drop m args))

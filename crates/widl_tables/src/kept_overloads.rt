@@ -1,10 +1,10 @@
 //! The overloads that a number of arguments keeps.
 
-ghost use Rattle.std.specs.Prelude.{◌≡◌, ◌<◌, ◌≤◌, ◌^◌, ◌++◌, length, map, min, IfOk, IfSome, OnOk};
-ghost use Rattle.std.specs.List.{list_all, list_any};
+ghost use Rattle.std.specs.Prelude.{◌≡◌, ◌<◌, ◌≤◌, ◌^◌, ◌++◌, drop, length, map, min, IfOk, IfSome, OnOk};
+ghost use Rattle.std.specs.List.{list_any};
 ghost use Rattle.widl_idl.specs.DefinitionTerms.{arg_term, defs_term, sig_term};
-ghost use Rattle.widl_overload.specs.Sets.{is_free};
-ghost use Rattle.widl_tables.specs.Kept.{argcount_of, choosing_place as choosing_place_of, counted_args, entries_for, entries_of, entry_of, is_variadic_list, kept_tuples, longest as longest_of, numbers_of, overloads_of};
+ghost use Rattle.widl_overload.specs.Sets.{are_free};
+ghost use Rattle.widl_tables.specs.Kept.{argcount_of, choosing_place as choosing_place_of, counted_args, entries_for, entries_of, entry_of, is_variadic_list, kept_tuples, longest as longest_of, numbers_of, optionalities_of, overloads_of};
 ghost use Rattle.widl_tables.specs.Standing.{has_entry as has_entry_of};
 
 use crate::entry_types::overload_list;
@@ -12,6 +12,7 @@ use crate::kept_type::Kept;
 use crate::telling::choosing_place;
 use std::alloc::{AllocError, Global};
 use widl_idl::{Arg, Callee, Defs, Optionality, Sig};
+use widl_overload::all_free;
 use widl_text::Items;
 
 /// The overloads of a callee that `args` arguments keep, with the place that tells them apart: the entries
@@ -120,19 +121,15 @@ fn has_entry(args: &[Arg], m: usize) -> bool
     if args.len() < m {
         is_variadic(args)
     } else {
-        let (_, others) = args.split_at(m);
-        all_free(others)
+        is_free_from(args, m)
     }
 }
 
-/// Whether a call may leave out each of the arguments.
-fn all_free(args: &[Arg]) -> bool
-    ensures { result ≡ list_all (λ a. is_free a.opt) (map arg_term args.now) }
+/// Whether a call may leave out each argument from a place on.
+fn is_free_from(args: &[Arg], m: usize) -> bool
+    requires { m ≤ length args.now }
+    ensures { result ≡ are_free (optionalities_of (drop m (map arg_term args.now))) }
 {
-    for arg in args {
-        if arg.opt == Optionality::Required {
-            return false;
-        }
-    }
-    true
+    let (_, others) = args.split_at(m);
+    all_free(others)
 }
