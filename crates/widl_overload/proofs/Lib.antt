@@ -1,5 +1,6 @@
 pub mod Walks
 pub mod Parents
+pub mod Ruled
 pub mod Closed
 pub mod Lengths
 pub mod Shorter

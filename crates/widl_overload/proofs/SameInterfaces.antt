@@ -1,5 +1,5 @@
 -- Which types are distinguishable depends on which interfaces inherit from which alone.
-use Rattle.std.proofs.Common.{◌≡◌, ℕ, zero, suc, Bool, true, cond, not, ◌&&◌, ◌||◌, nat_eq, List, [], ◌∷◌, length, map, Option, None, Some, option_map, slice_get, refl, sym, ap, ◌∙◌}
+use Rattle.std.proofs.Common.{◌≡◌, ℕ, zero, suc, true, cond, not, ◌&&◌, ◌||◌, nat_eq, List, [], ◌∷◌, length, map, Option, None, Some, option_map, slice_get, refl, sym, ap, ◌∙◌}
 use Rattle.std.specs.List.{list_all}
 use Rattle.std.specs.Prelude.{option_and_then}
 use Rattle.std.proofs.lemmas.List.{length-map}
@@ -9,15 +9,11 @@ use Rattle.widl_idl.specs.DefinitionTerms.{IfaceTerm, iface_term}
 use Rattle.widl_idl.specs.Terms.{TypeTerm}
 use Rattle.widl_overload.specs.declared.category.Category.{Category}
 use Rattle.widl_overload.specs.declared.category.Category.TheVariants.{Interface}
-use Rattle.widl_overload.specs.Distinct.{are_unrelated, categories_apart, category, distinguishable, innermost, is_never, is_same, nullable_clash, overlaps, parts_apart, union_members}
+use Rattle.widl_overload.specs.Distinct.{are_unrelated, categories_apart, distinguishable, is_never, is_same, overlaps}
 use Rattle.widl_overload.specs.Index.{apart_at, each_two, of_one_length, distinguishes, types_apart}
 use Rattle.widl_overload.specs.Inheritance.{inherits, is_among, parent_of}
 use Rattle.widl_overload.specs.Sets.{TupleTerm}
-
--- two tests that agree at each item
-pub all_same : {X : Type 0} (f g : X → Bool) → ((x : X) → f x ≡ g x) → (xs : List X) → list_all f xs ≡ list_all g xs
-all_same f g same [] = refl
-all_same f g same (x ∷ xs) = ap (λ b. b && list_all f xs) (same x) ∙ ap (λ b. g x && b) (all_same f g same xs)
+use Rattle.widl_overload.proofs.Ruled.{all_same, distinguishable_same}
 
 -- two lists of interfaces with the same terms
 module _ (xs ys : List Iface) (same : map iface_term xs ≡ map iface_term ys) where
@@ -51,15 +47,9 @@ module _ (xs ys : List Iface) (same : map iface_term xs ≡ map iface_term ys) w
   categories_same : (c d : Category) → categories_apart xs c d ≡ categories_apart ys c d
   categories_same c d = ap (λ b. not (is_never c || is_never d) && (b || not (is_same c d || (overlaps c d || overlaps d c)))) (unrelated_same c d)
 
-  parts_same : (ts us : Option (List TypeTerm)) (t u : TypeTerm) → parts_apart xs ts us t u ≡ parts_apart ys ts us t u
-  parts_same (Some ts) (Some us) t u = all_same _ _ (λ m. all_same _ _ (λ n. categories_same (category m) (category n)) us) ts
-  parts_same (Some ts) None t u = all_same _ _ (λ m. categories_same (category m) (category u)) ts
-  parts_same None (Some us) t u = all_same _ _ (λ n. categories_same (category t) (category n)) us
-  parts_same None None t u = categories_same (category t) (category u)
-
   -- the same types are distinguishable
   pub apart_same : (t u : TypeTerm) → distinguishable xs t u ≡ distinguishable ys t u
-  apart_same t u = ap (λ b. not (nullable_clash t u) && b) (parts_same (union_members t) (union_members u) (innermost t) (innermost u))
+  apart_same t u = distinguishable_same xs ys categories_same t u
 
   types_same : (t u : Option TypeTerm) → types_apart xs t u ≡ types_apart ys t u
   types_same (Some t) (Some u) = apart_same t u

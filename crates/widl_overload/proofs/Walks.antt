@@ -46,3 +46,14 @@ found_at p (x ∷ types) zero t below is h =
 found_at p (x ∷ types) (suc i) t below is h =
     list_any-append p (flattened_member (type_term x)) (flattened_members (packed (map type_term types)))
     ∙ ap (λ b. list_any p (flattened_member (type_term x)) || b) (found_at p types i t (omega arith) is h) ∙ or_true (list_any p (flattened_member (type_term x)))
+
+-- one of the types doesn't pass
+pub term_fails : (p : TypeTerm → Bool) (types : List IdlType) (i : ℕ) (t : IdlType) → i < length types → t ≡ get_or types i t → p (type_term t) ≡ false → list_all p (map type_term types) ≡ false
+term_fails p [] i t below is h = absurd (omega arith)
+term_fails p (x ∷ types) zero t below is h = ap (λ b. b && list_all p (map type_term types)) (ap (λ u. p (type_term u)) (sym is) ∙ h)
+term_fails p (x ∷ types) (suc i) t below is h = ap (λ b. p (type_term x) && b) (term_fails p types i t (omega arith) is h) ∙ and_false (p (type_term x))
+
+-- one type more passes
+pub term_more : (p : TypeTerm → Bool) (types : List IdlType) (i : ℕ) (t : IdlType) → i < length types → t ≡ get_or types i t → p (type_term t) ≡ true → list_all p (map type_term (take i types)) ≡ true → list_all p (map type_term (take (i + 1) types)) ≡ true
+term_more p types i t below is here before =
+    ap (list_all p) (terms_more types i t below is) ∙ list_all-append p (map type_term (take i types)) (type_term t ∷ []) ∙ (λ j. before j && (here j && true))

@@ -1,23 +1,36 @@
 //! Which types are distinguishable.
 
-ghost use Rattle.std.specs.Prelude.{◌≡◌, ◌&&◌, ◌||◌, not, false, List};
+ghost use Rattle.std.specs.Prelude.{◌≡◌, ◌&&◌, ◌||◌, not, false, is_some, List, map};
 ghost use Rattle.std.specs.List.{list_all, list_any};
+ghost use Rattle.std.specs.Option.{option_copied, option_map};
 ghost use Rattle.widl_idl.specs.declared.interface.Iface as interfaces;
 ghost use Rattle.widl_idl.specs.Flattened.{flattened_member, flattened_members, unannotated};
 ghost use Rattle.widl_idl.specs.Terms.{TypeTerm, packed, type_term, type_terms};
-ghost use Rattle.widl_overload.specs.Distinct.{HaveMembers, are_unrelated, categories_apart, category, distinguishable as distinguishable_in, has_dictionary, is_dictionary, is_never, is_same, nullable_clash, overlaps};
-ghost use Rattle.widl_overload.specs.Pairs.{each_apart, is_apart};
+ghost use Rattle.widl_overload.specs.Distinct.{HaveMembers, any_nullable_clash, are_unrelated, by_rules, categories_apart, category, distinguishable as distinguishable_in, has_dictionary, has_nullable, is_dictionary, is_never, is_same, listed, nullable_clash, overlaps, union_members};
+ghost use Rattle.widl_overload.specs.Pairs.{apart_from, each_apart, flattened_apart as flattened_apart_in, is_apart, listed_terms, members_in, second_members as second_members_of};
 
 use crate::category::Category;
 use crate::inheritance::inherits;
-use widl_idl::{Defs, IdlType, IdlTypes, Iface, includes_nullable};
+use widl_idl::{Defs, IdlType, IdlTypes, Iface, includes_nullable, nullable_count};
 
-/// Whether values of the two types are distinguishable (Web IDL, "distinguishable").
+/// Whether values of the two types are distinguishable (Web IDL, "distinguishable"). Of two unions each
+/// two members are compared by the same rules; where one type is no union, all that the rules come to is
+/// told by the flattened members.
 pub fn distinguishable(defs: &Defs, a: &IdlType, b: &IdlType) -> bool
     ensures { result ≡ distinguishable_in defs.now.ifaces (type_term a.now) (type_term b.now) }
 {
-    !do_clash(a, b) && members_apart(defs.ifaces.as_slice(), a, b)
+    let ifaces = defs.ifaces.as_slice();
+    match second_members(a, b) {
+        Some(others) => !do_clash(a, b) && members_apart_from(ifaces, a, others),
+        None => flattened_apart(ifaces, a, b),
+    }
 }
+
+/// It is what the standard's four rules say in order, where the members of unions are compared by the
+/// same rules.
+pub fn distinguishable_by_rules()
+    ensures { (ifaces : List interfaces.Iface) (t u : TypeTerm) → distinguishable_in ifaces t u ≡ by_rules ifaces (distinguishable_in ifaces) t u }
+{}
 
 /// Distinguishability is symmetric.
 pub fn distinguishable_is_symmetric()
@@ -28,6 +41,97 @@ pub fn distinguishable_is_symmetric()
 pub fn distinguishable_from_itself()
     ensures { (ifaces : List interfaces.Iface) (t : TypeTerm) → HaveMembers t → distinguishable_in ifaces t t ≡ false }
 {}
+
+/// Whether each member of a union is distinguishable from each of the others.
+#[cycle(rules)]
+fn members_apart_from(ifaces: &[Iface], t: &IdlType, others: &[IdlType]) -> bool
+    ensures { result ≡ list_all (apart_from ifaces.now (map type_term others.now)) (members_in (type_term t.now)) }
+{
+    match t {
+        IdlType::Nullable(inner) => members_apart_from(ifaces, inner, others),
+        IdlType::Union(members) => each_apart_from(ifaces, members, others),
+        _ => true,
+    }
+}
+
+/// Whether each of these members is distinguishable from each of the others.
+#[cycle(rules)]
+fn each_apart_from(ifaces: &[Iface], members: &IdlTypes, others: &[IdlType]) -> bool
+    ensures { result ≡ list_all (apart_from ifaces.now (map type_term others.now)) (listed (packed (type_terms members.now))) }
+{
+    for member in members.as_slice() {
+        for other in others {
+            let are_apart = match second_members(member, other) {
+                Some(inner) => {
+                    !do_clash(member, other) && members_apart_from(ifaces, member, inner)
+                }
+                None => flattened_apart(ifaces, member, other),
+            };
+            if !are_apart {
+                return false;
+            }
+        }
+    }
+    true
+}
+
+/// The members of the second of two unions, with or without a `?`, as they stand; none where one type is
+/// no union.
+fn second_members<'a>(a: &IdlType, b: &'a IdlType) -> Option<&'a [IdlType]>
+    ensures { option_map listed_terms (option_copied result) ≡ second_members_of (type_term a.now) (type_term b.now) }
+{
+    if is_union(a) { members_of(b) } else { None }
+}
+
+/// Whether the type is a union, with or without a `?`.
+fn is_union(t: &IdlType) -> bool
+    ensures { result ≡ is_some (union_members (type_term t.now)) }
+{
+    match t {
+        IdlType::Nullable(inner) => is_union(inner),
+        IdlType::Union(_) => true,
+        _ => false,
+    }
+}
+
+/// The members of a union, with or without a `?`, as they stand.
+fn members_of(t: &IdlType) -> Option<&[IdlType]>
+    ensures { option_map listed_terms (option_copied result) ≡ union_members (type_term t.now) }
+{
+    match t {
+        IdlType::Nullable(inner) => members_of(inner),
+        IdlType::Union(members) => Some(members.as_slice()),
+        _ => None,
+    }
+}
+
+/// Whether two types, one of which is no union, are distinguishable: none clashes by a `?` in it, and
+/// each two types that they are flattened to are apart.
+#[tactic(auto, unfolding(crate::specs::Pairs::flattened_apart))]
+fn flattened_apart(ifaces: &[Iface], a: &IdlType, b: &IdlType) -> bool
+    ensures { result ≡ flattened_apart_in ifaces.now (type_term a.now) (type_term b.now) }
+{
+    !any_clash(a, b) && members_apart(ifaces, a, b)
+}
+
+/// Whether one of the types has a nullable type in it, where the other has one too or has a dictionary.
+fn any_clash(a: &IdlType, b: &IdlType) -> bool
+    ensures { result ≡ any_nullable_clash (type_term a.now) (type_term b.now) }
+{
+    (holds_nullable(a) && (holds_nullable(b) || holds_dictionary(b)))
+        || (holds_nullable(b) && holds_dictionary(a))
+}
+
+/// Whether the type is nullable, or a union with one nullable member or more.
+fn holds_nullable(t: &IdlType) -> bool
+    ensures { result ≡ has_nullable (type_term t.now) }
+{
+    match t {
+        IdlType::Nullable(_) => true,
+        IdlType::Union(_) => nullable_count(t) > 0,
+        _ => false,
+    }
+}
 
 /// Whether one of the types includes a nullable type, where the other does too or has a dictionary.
 fn do_clash(a: &IdlType, b: &IdlType) -> bool

@@ -27,7 +27,10 @@ mod validity_rule;
 pub use accepted::Accepted;
 pub use callees::overloads;
 pub use category::Category;
-pub use distinct::{distinguishable, distinguishable_from_itself, distinguishable_is_symmetric};
+pub use distinct::{
+    distinguishable, distinguishable_by_rules, distinguishable_from_itself,
+    distinguishable_is_symmetric,
+};
 pub use index::distinguishing_index;
 pub use inheritance::inherits;
 pub use overload_rules::first_overload_violations;

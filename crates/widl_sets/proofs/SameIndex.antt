@@ -1,17 +1,17 @@
 -- Which types are distinguishable, and so the index, depends on the parents of the interfaces alone.
 use Rattle.std.proofs.Common.{◌≡◌, ℕ, ◌&&◌, ◌||◌, true, not, cond, zero, suc, List, length, nat_eq, nat_le, refl, sym, ap, ◌∙◌}
 use Rattle.std.specs.Prelude.{Option, None, Some, slice_get, option_and_then, option_map}
-use Rattle.std.specs.List.{list_all}
 use Rattle.std.proofs.lemmas.List.{length-map}
 use Rattle.std.proofs.lemmas.Option.{slice_get-map}
 use Rattle.widl_idl.specs.declared.interface.Iface.{Iface}
 use Rattle.widl_idl.specs.Terms.{TypeTerm}
 use Rattle.widl_overload.specs.declared.category.Category.{Category}
 use Rattle.widl_overload.specs.declared.category.Category.TheVariants.{Interface}
-use Rattle.widl_overload.specs.Distinct.{are_apart, are_unrelated, category, distinguishable, innermost, is_never, is_same, nullable_clash, overlaps, parts_apart, union_members}
+use Rattle.widl_overload.specs.Distinct.{are_unrelated, categories_apart, distinguishable, is_never, is_same, overlaps}
 use Rattle.widl_overload.specs.Index.{apart_at, each_two, of_one_length, types_apart}
 use Rattle.widl_overload.specs.Inheritance.{inherits, is_among, parent_of}
 use Rattle.widl_overload.specs.Sets.{TupleTerm}
+use Rattle.widl_overload.proofs.Ruled.{distinguishable_same}
 use Rattle.widl_spell.specs.Ids.{first_from, parent_at, parents_of}
 use Rattle.widl_sets.specs.Lines.{index_of}
 
@@ -43,17 +43,11 @@ module _ (xs ys : List Iface) (same : parents_of xs ≡ parents_of ys) where
   same_unrelated (Interface m) (Interface n) = λ i. not (nat_eq m n) && (not (same_inherits m n i) && not (same_inherits n m i))
   same_unrelated c d = refl
 
-  same_apart : (t u : TypeTerm) → are_apart xs t u ≡ are_apart ys t u
-  same_apart t u = λ i. not (is_never (category t) || is_never (category u)) && (same_unrelated (category t) (category u) i || not (is_same (category t) (category u) || (overlaps (category t) (category u) || overlaps (category u) (category t))))
-
-  same_parts : (o p : Option (List TypeTerm)) (t u : TypeTerm) → parts_apart xs o p t u ≡ parts_apart ys o p t u
-  same_parts (Some ts) (Some us) t u = λ i. list_all (λ m. list_all (λ n. same_apart m n i) us) ts
-  same_parts (Some ts) None t u = λ i. list_all (λ m. same_apart m u i) ts
-  same_parts None (Some us) t u = λ i. list_all (λ n. same_apart t n i) us
-  same_parts None None t u = same_apart t u
+  same_categories : (c d : Category) → categories_apart xs c d ≡ categories_apart ys c d
+  same_categories c d = λ i. not (is_never c || is_never d) && (same_unrelated c d i || not (is_same c d || (overlaps c d || overlaps d c)))
 
   same_distinguishable : (t u : TypeTerm) → distinguishable xs t u ≡ distinguishable ys t u
-  same_distinguishable t u = λ i. not (nullable_clash t u) && same_parts (union_members t) (union_members u) (innermost t) (innermost u) i
+  same_distinguishable t u = distinguishable_same xs ys same_categories t u
 
   same_types_apart : (o p : Option TypeTerm) → types_apart xs o p ≡ types_apart ys o p
   same_types_apart (Some t) (Some u) = same_distinguishable t u

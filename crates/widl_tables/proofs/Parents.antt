@@ -1,5 +1,5 @@
 -- Interfaces as inheritance and distinguishable types read them: by their parents alone.
-use Rattle.std.proofs.Common.{◌≡◌, ℕ, zero, suc, Bool, true, cond, not, ◌&&◌, ◌||◌, nat_eq, List, length, map, Option, None, Some, option_map, slice_get, refl, sym, ap, ◌∙◌}
+use Rattle.std.proofs.Common.{◌≡◌, ℕ, zero, suc, true, cond, not, ◌&&◌, ◌||◌, nat_eq, List, length, map, Option, None, Some, option_map, slice_get, refl, ap, ◌∙◌}
 use Rattle.std.specs.Prelude.{option_and_then}
 use Rattle.std.proofs.lemmas.List.{length-map}
 use Rattle.std.proofs.lemmas.Option.{slice_get-map}
@@ -8,9 +8,9 @@ use Rattle.widl_idl.specs.DefinitionTerms.{iface_term}
 use Rattle.widl_idl.specs.Terms.{TypeTerm}
 use Rattle.widl_overload.specs.declared.category.Category.{Category}
 use Rattle.widl_overload.specs.declared.category.Category.TheVariants.{Interface}
-use Rattle.widl_overload.specs.Distinct.{are_unrelated, categories_apart, category, distinguishable, innermost, is_never, is_same, nullable_clash, overlaps, parts_apart, union_members}
+use Rattle.widl_overload.specs.Distinct.{are_unrelated, categories_apart, distinguishable, is_never, is_same, overlaps}
 use Rattle.widl_overload.specs.Inheritance.{inherits, is_among, parent_of}
-use Rattle.widl_overload.proofs.SameInterfaces.{all_same}
+use Rattle.widl_overload.proofs.Ruled.{distinguishable_same}
 use Rattle.widl_tables.specs.Kept.{with_parent_alone}
 
 module _ (ifaces : List Iface) where
@@ -44,12 +44,6 @@ module _ (ifaces : List Iface) where
   categories_same : (c d : Category) → categories_apart alone c d ≡ categories_apart ifaces c d
   categories_same c d = ap (λ b. not (is_never c || is_never d) && (b || not (is_same c d || (overlaps c d || overlaps d c)))) (unrelated_same c d)
 
-  parts_same : (ts us : Option (List TypeTerm)) (t u : TypeTerm) → parts_apart alone ts us t u ≡ parts_apart ifaces ts us t u
-  parts_same (Some ts) (Some us) t u = all_same _ _ (λ m. all_same _ _ (λ n. categories_same (category m) (category n)) us) ts
-  parts_same (Some ts) None t u = all_same _ _ (λ m. categories_same (category m) (category u)) ts
-  parts_same None (Some us) t u = all_same _ _ (λ n. categories_same (category t) (category n)) us
-  parts_same None None t u = categories_same (category t) (category u)
-
   -- the same types are distinguishable
   pub apart_same : (t u : TypeTerm) → distinguishable (map with_parent_alone (map iface_term ifaces)) t u ≡ distinguishable ifaces t u
-  apart_same t u = ap (λ b. not (nullable_clash t u) && b) (parts_same (union_members t) (union_members u) (innermost t) (innermost u))
+  apart_same t u = distinguishable_same alone ifaces categories_same t u

@@ -7,8 +7,9 @@ use Rattle.widl_idl.specs.Terms.{TypeTerm, NullableType, UnionType}
 use Rattle.widl_idl.specs.Flattened.{includes_nullable_type}
 use Rattle.widl_overload.specs.declared.category.Category.{Category}
 use Rattle.widl_overload.specs.declared.category.Category.TheVariants.{Interface}
-use Rattle.widl_overload.specs.Distinct.{categories_apart, category, distinguishable, has_dictionary, innermost, is_never, is_same, overlaps, parts_apart, union_members}
+use Rattle.widl_overload.specs.Distinct.{categories_apart, category, distinguishable, has_dictionary, innermost, is_never, is_same, overlaps, union_members}
 use Rattle.widl_overload.specs.Inheritance.{inherits}
+use Rattle.widl_overload.proofs.Ruled.{ruled_by}
 use Rattle.widl_overload.specs.TypeRules.{HaveIndistinguishablePair}
 use Rattle.widl_valid.specs.IndistinguishablePairs.{IsFlat, any_pair, are_related, clash, interface_number}
 use Rattle.widl_valid.proofs.AnyPair.{any_pair_either, any_pair_found, any_pair_here}
@@ -59,8 +60,8 @@ module _ (ifaces : List Iface) where
   kinds_decide : (t u : TypeTerm) → IsFlat t → IsFlat u → indistinguishable t u ≡ indistinguishable_kind (category t) (category u)
   kinds_decide t u f g =
       let apart : distinguishable ifaces t u ≡ categories_apart ifaces (category t) (category u)
-      = (λ j. not ((flat_nullable t f j && (flat_nullable u g j || has_dictionary u)) || (flat_nullable u g j && has_dictionary t)) && parts_apart ifaces (flat_union t f j) (flat_union u g j) (innermost t) (innermost u))
-      ∙ (λ j. categories_apart ifaces (flat_category t f j) (flat_category u g j)) in
+      = ruled_by ifaces t u None None (flat_union t f) (flat_union u g)
+      ∙ (λ j. not ((flat_nullable t f j && (flat_nullable u g j || has_dictionary u)) || (flat_nullable u g j && has_dictionary t)) && categories_apart ifaces (flat_category t f j) (flat_category u g j)) in
       ap not apart ∙ indistinguishable_kinds ifaces (category t) (category u)
 
   one_decides : (t : TypeTerm) (types : List TypeTerm) → IsFlat t → All IsFlat types → list_any (indistinguishable t) types ≡ list_any (indistinguishable_kind (category t)) (map category types)
