@@ -85,6 +85,18 @@ annotated notes (IntegerType kind mode) = IntegerType kind (mode_or_wrap (first_
 annotated notes (StringType kind null_empty) = StringType kind (takes_null_to_empty kind && has_null_to_empty notes)
 annotated notes t = t
 
+abbrev pub is_nullable : TypeTerm → Bool
+is_nullable (NullableType t) = true
+is_nullable t = false
+
+abbrev pub is_nullable_twice : TypeTerm → Bool
+is_nullable_twice (NullableType t) = is_nullable t
+is_nullable_twice t = false
+
+-- a type with a `?`: after two of them, of which a rule forbids the second, a third one adds nothing
+abbrev pub nullable_of : TypeTerm → TypeTerm
+nullable_of t = if is_nullable_twice t then t else NullableType t
+
 module _ (typedef : ℕ → List Note → TypeTerm) where
   abbrev mutual
     -- the meaning of a written type with these annotations, where `typedef` tells that of a typedef's name; a nullable type hands them to its inner type
@@ -94,7 +106,7 @@ module _ (typedef : ℕ → List Note → TypeTerm) where
     resolved notes (SequenceOf own t) = SequenceType (resolved own t)
     resolved notes (RecordOf key own t) = RecordType key (resolved own t)
     resolved notes (PromiseOf t) = PromiseType (resolved [] t)
-    resolved notes (NullableOf t) = NullableType (resolved notes t)
+    resolved notes (NullableOf t) = nullable_of (resolved notes t)
     resolved notes (UnionOf members) = UnionType (resolved_members members)
 
     pub resolved_members : WrittenMembers → TypeTerms

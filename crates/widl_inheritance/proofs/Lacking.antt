@@ -9,8 +9,8 @@ use Rattle.widl_idl.specs.PlainTrees.{PlainArgument, PlainArgumentKind, Required
 use Rattle.widl_text.specs.declared.place.Place.{Place}
 use Rattle.widl_idl.specs.declared.tree.types.Container.TheVariants as container
 use Rattle.widl_idl.specs.PlainTypes.{PlainAttribute, PlainForm, PlainType, PlainAnnotated, PlainNamed, PlainContainer, PlainRecord, PlainUnion, plain_type, plain_annotated}
-use Rattle.widl_idl.specs.Resolution.{Note}
-use Rattle.widl_idl.specs.Terms.{TypeTerm}
+use Rattle.widl_idl.specs.Resolution.{Note, nullable_of}
+use Rattle.widl_idl.specs.Terms.{TypeTerm, NullableType}
 use Rattle.widl_idl.specs.WrittenTypes.{meaning_of_type, meaning_with}
 use Rattle.widl_idl.proofs.Order.{first_either, one_place}
 use Rattle.widl_overload.specs.ArgumentRules.{is_required}
@@ -122,9 +122,17 @@ module _ (list : DefsTerm) (definitions : List PlainDefinition) where
   form_takes_none tables notes at (PlainRecord key (plain_annotated place attributes inner)) e = refl
   form_takes_none tables notes at form e = refl
 
+  nullable_takes_none : (tables : Tables) (t : TypeTerm) → takes_no_member tables (nullable_of t) ≡ false
+  nullable_takes_none tables (NullableType t) = by_inner t
+    where
+      by_inner : (t : TypeTerm) → takes_no_member tables (nullable_of (NullableType t)) ≡ false
+      by_inner (NullableType t) = refl
+      by_inner t = refl
+  nullable_takes_none tables t = refl
+
   type_takes_none : (tables : Tables) (notes : List Note) (t : PlainType) → may_take_dictionary t ≡ false → takes_no_member tables (meaning_of_type definitions notes t) ≡ false
   type_takes_none tables notes (plain_type at form None) e = form_takes_none tables notes at form e
-  type_takes_none tables notes (plain_type at form (Some question)) e = refl
+  type_takes_none tables notes (plain_type at form (Some question)) e = nullable_takes_none tables (meaning_of_type definitions notes (plain_type at form None))
 
   written_takes_none : (tables : Tables) (attributes : List PlainAttribute) (t : PlainAnnotated) (place : Place) (own : List PlainAttribute) (inner : PlainType) → t ≡ plain_annotated place own inner → may_take_dictionary inner ≡ false → takes_no_member tables (meaning_with definitions attributes t) ≡ false
   written_takes_none tables attributes t place own inner is e = ap (λ x. takes_no_member tables (meaning_with definitions attributes x)) is ∙ type_takes_none tables _ inner e

@@ -12,22 +12,43 @@ use Rattle.widl_idl.specs.MergingRules.{is_kind}
 use Rattle.widl_idl.specs.PlainTrees.{PlainDefinition, PlainKind, PlainTypedef, TypedefDefinition}
 use Rattle.widl_idl.specs.PlainTypes.{PlainForm, PlainName, PlainType, PlainAnnotated, PlainMembers, PlainNamed, PlainContainer, PlainRecord, plain_type, plain_annotated, more_plain, annotated_of, form_term, union_of}
 use Rattle.widl_idl.specs.declared.text_kind.TextKind.{TextKind}
-use Rattle.widl_idl.specs.Resolution.{Note, WrittenType, resolved, resolved_members, resolved_typedef, typedef_in}
+use Rattle.widl_idl.specs.Resolution.{Note, WrittenType, nullable_of, resolved, resolved_members, resolved_typedef, typedef_in}
 use Rattle.widl_idl.specs.Terms.{TypeTerm, NullableType, RecordType, more_types, packed}
 use Rattle.widl_idl.specs.WrittenTypes.{named_type, nullable_if, type_of_meaning, typedef_in_tree, typedefs, written_form, written_members, written_type}
 use Rattle.widl_names.specs.declared.annotations.Annotations.{Annotations}
 use Rattle.widl_names.specs.declared.resolver.Use.{Use}
 use Rattle.widl_names.specs.SaidNotes.{Says}
-use Rattle.widl_names.specs.TypeUses.{Leads, MeansWritten, container_meaning, form_meaning, is_followed, meaning_at, meaning_of_form, meaning_of_use, notes_in, own_meaning, question_count, questioned, type_in, typedef_of_form, typedef_type, without_parts}
+use Rattle.widl_names.specs.TypeUses.{Leads, MeansWritten, capped, container_meaning, form_meaning, is_followed, meaning_at, meaning_of_form, meaning_of_use, notes_in, own_meaning, question_count, questioned, type_in, typedef_of_form, typedef_type, without_parts}
 use Rattle.widl_names.proofs.KindNumbers.{typedef_numbered}
 
+-- a third `?` adds nothing
+three_as_two : (t : TypeTerm) → questioned 3 t ≡ questioned 2 t
+three_as_two (NullableType t) = by_inner t
+  where
+    by_inner : (t : TypeTerm) → questioned 3 (NullableType t) ≡ questioned 2 (NullableType t)
+    by_inner (NullableType t) = refl
+    by_inner t = refl
+three_as_two t = refl
+
+more_as_two : (n : ℕ) (t : TypeTerm) → questioned (suc (suc n)) t ≡ questioned 2 t
+more_as_two zero t = refl
+more_as_two (suc n) t = ap nullable_of (more_as_two n t) ∙ three_as_two t
+
+pub questioned_capped : (n : ℕ) (t : TypeTerm) → questioned (capped n) t ≡ questioned n t
+questioned_capped zero t = refl
+questioned_capped (suc zero) t = refl
+questioned_capped (suc (suc n)) t = let e : capped (suc (suc n)) ≡ 2 = omega arith in ap (λ k. questioned k t) e ∙ sym (more_as_two n t)
+
 -- one `?` more
-pub questioned_more : (n : ℕ) (t : TypeTerm) → NullableType (questioned n t) ≡ questioned (n + 1) t
+pub questioned_more : (n : ℕ) (t : TypeTerm) → nullable_of (questioned n t) ≡ questioned (n + 1) t
 questioned_more n t = let e : suc n ≡ n + 1 = omega arith in ap (λ k. questioned k t) e
 
-pub questioned_sum : (m n : ℕ) (t : TypeTerm) → questioned m (questioned n t) ≡ questioned (m + n) t
-questioned_sum zero n t = let e : n ≡ zero + n = omega arith in ap (λ k. questioned k t) e
-questioned_sum (suc m) n t = let e : suc (m + n) ≡ suc m + n = omega arith in ap NullableType (questioned_sum m n t) ∙ ap (λ k. questioned k t) e
+questioned_added : (m n : ℕ) (t : TypeTerm) → questioned m (questioned n t) ≡ questioned (m + n) t
+questioned_added zero n t = let e : n ≡ zero + n = omega arith in ap (λ k. questioned k t) e
+questioned_added (suc m) n t = let e : suc (m + n) ≡ suc m + n = omega arith in ap nullable_of (questioned_added m n t) ∙ ap (λ k. questioned k t) e
+
+pub questioned_sum : (m n : ℕ) (t : TypeTerm) → questioned m (questioned n t) ≡ questioned (capped (m + n)) t
+questioned_sum m n t = questioned_added m n t ∙ sym (questioned_capped (m + n) t)
 
 pub nullable_written : (f : ℕ → List Note → TypeTerm) (notes : List Note) (question : Option Place) (w : WrittenType) → resolved f notes (nullable_if question w) ≡ questioned (question_count question) (resolved f notes w)
 nullable_written f notes None w = refl

@@ -13,7 +13,7 @@ use Rattle.widl_names.specs.declared.resolver.Use.{Use}
 use Rattle.widl_names.specs.declared.typedef_ends.ChainEnd.{ChainEnd}
 use Rattle.widl_names.specs.SaidNotes.{Says}
 use Rattle.widl_names.specs.TypedefEnds.{AreEnds, EndsAt, GoesTo, IsEndOf}
-use Rattle.widl_names.specs.TypeUses.{Leads, form_meaning, meaning_at, meaning_of_use, notes_in, question_count, questioned, type_in, typedef_at, typedef_of_form, typedef_type}
+use Rattle.widl_names.specs.TypeUses.{Leads, capped, form_meaning, meaning_at, meaning_of_use, notes_in, question_count, questioned, type_in, typedef_at, typedef_of_form, typedef_type}
 use Rattle.widl_names.proofs.TypeUses.{nullable_written, questioned_sum, typedef_means, typedef_of}
 
 none_kept : (n number : ℕ) (end : ChainEnd) → slice_get (replicate n None) number ≡ Some (Some end) → ⊥
@@ -73,7 +73,7 @@ module _ (definitions : List PlainDefinition) where
   means_at_end form end e = absurd e
 
   -- the chain of a type that names a typedef, whose own chain has this end
-  pub ends_after : (t : PlainAnnotated) (form : PlainForm) (next end : ChainEnd) (attributes : List PlainAttribute) (at inner_at : Place) (question : Option Place) → t ≡ plain_annotated at attributes (plain_type inner_at form question) → IsEndOf definitions (typedef_of_form definitions form) next → end.form ≡ next.form → end.passed ≡ next.passed + 1 → end.questions ≡ question_count question + next.questions
+  pub ends_after : (t : PlainAnnotated) (form : PlainForm) (next end : ChainEnd) (attributes : List PlainAttribute) (at inner_at : Place) (question : Option Place) → t ≡ plain_annotated at attributes (plain_type inner_at form question) → IsEndOf definitions (typedef_of_form definitions form) next → end.form ≡ next.form → end.passed ≡ next.passed + 1 → end.questions ≡ capped (question_count question + next.questions)
       → ((more : List Note) → Says next.annotations more → Says end.annotations (notes_of attributes ++ more)) → EndsAt definitions t end
   ends_after t form next end attributes at inner_at question is after form_is passed count both =
       let m = means_at_end form next after in

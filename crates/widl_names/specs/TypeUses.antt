@@ -1,5 +1,5 @@
 -- Uses of types: what is left of a type where its typedefs are followed.
-use Rattle.std.specs.Prelude.{◌≡◌, ℕ, ◌<◌, zero, suc, Bool, false, List, Option, None, Some, option_map, option_and_then, slice_get}
+use Rattle.std.specs.Prelude.{◌≡◌, ℕ, ◌<◌, zero, suc, Bool, false, List, Option, None, Some, option_map, option_and_then, slice_get, min}
 use Rattle.widl_text.specs.declared.place.Place.{Place}
 use Rattle.widl_idl.specs.declared.kind.Kind.{Kind}
 use Rattle.widl_idl.specs.declared.kind.Kind.TheVariants as kinds
@@ -9,8 +9,8 @@ use Rattle.widl_idl.specs.Meanings.{kind_of, meaning, meant, meant_kind}
 use Rattle.widl_idl.specs.MergingRules.{is_kind}
 use Rattle.widl_idl.specs.PlainTrees.{PlainDefinition, PlainKind, TypedefDefinition}
 use Rattle.widl_idl.specs.PlainTypes.{PlainForm, PlainType, PlainAnnotated, PlainNamed, plain_annotated, form_term}
-use Rattle.widl_idl.specs.Resolution.{Note, WrittenType, WithoutParts, resolved, typedef_in}
-use Rattle.widl_idl.specs.Terms.{TypeTerm, AnyType, NullableType, SequenceType}
+use Rattle.widl_idl.specs.Resolution.{Note, WrittenType, WithoutParts, nullable_of, resolved, typedef_in}
+use Rattle.widl_idl.specs.Terms.{TypeTerm, AnyType, SequenceType}
 use Rattle.widl_idl.specs.WrittenTypes.{notes_of, typedefs, written_form, written_type}
 use Rattle.widl_names.specs.declared.resolver.KnownUse.{KnownUse}
 use Rattle.widl_names.specs.declared.resolver.Use.{Use}
@@ -23,7 +23,11 @@ question_count (Some question) = 1
 -- a type with so many `?`s after it
 abbrev pub questioned : ℕ → TypeTerm → TypeTerm
 questioned zero t = t
-questioned (suc count) t = NullableType (questioned count t)
+questioned (suc count) t = nullable_of (questioned count t)
+
+-- a number of `?`s, of which more than two mean the same as two
+abbrev pub capped : ℕ → ℕ
+capped n = min n 2
 
 -- what a written type without parts stands for
 abbrev pub without_parts : WrittenType → TypeTerm

@@ -6,7 +6,7 @@ use Rattle.widl_idl.specs.Resolution.{Note}
 use Rattle.widl_names.specs.declared.resolver.Use.{Use}
 use Rattle.widl_names.specs.declared.typedef_ends.ChainEnd.{ChainEnd}
 use Rattle.widl_names.specs.SaidNotes.{Says}
-use Rattle.widl_names.specs.TypeUses.{form_meaning, meaning_at, notes_in, questioned, type_in, typedef_at}
+use Rattle.widl_names.specs.TypeUses.{capped, form_meaning, meaning_at, notes_in, questioned, type_in, typedef_at}
 
 -- a type means what the end of its chain does, with the annotations and the `?`s of the chain, where typedefs lead fewer levels down by those that are passed
 pub record EndsAt (definitions : List PlainDefinition) (t : PlainAnnotated) (end : ChainEnd) : Type 0 where
@@ -28,13 +28,13 @@ abbrev pub IsNext : List PlainDefinition → ℕ → Option PlainAnnotated → O
 IsNext definitions typedefs t None = t ≡ None
 IsNext definitions typedefs t (Some end) = IsEndOf definitions t end × (end.passed < typedefs)
 
--- the counts of the chain can grow by one
+-- the count of the chain can grow by one
 abbrev pub CanGrow : ChainEnd → Type 0
-CanGrow end = (end.passed < 2 ^ 32 - 1) × (end.questions < 16)
+CanGrow end = end.passed < 2 ^ 32 - 1
 
 -- the next use is the end of a chain, after the annotations and the `?`s of the first use
 pub record GoesTo (u : Use) (end : ChainEnd) (next : Use) : Type 0 where
   pub fewer : u.typedefs ≡ next.typedefs + end.passed + 1
   pub said : (notes more : List Note) → Says u.annotations notes → Says end.annotations more → Says next.annotations (notes ++ more)
-  pub questions : next.questions ≡ u.questions + end.questions
+  pub questions : next.questions ≡ capped (u.questions + end.questions)
   pub form : next.form ≡ end.form

@@ -13,7 +13,6 @@ ghost use Rattle.widl_names.specs.PartTables.{Puts, has_members, mixes_in, mixes
 use crate::meanings::{Meanings, kind_at};
 use crate::meant::number_meant;
 use crate::names::{kind_of, partial_name};
-use crate::part_limit::check_mixed;
 use std::alloc::{AllocError, Global};
 use std::marker::Model;
 use widl_idl::Kind;
@@ -52,15 +51,13 @@ impl<'d, 'a> Parts<'d, 'a> {
     ///
     /// # Errors
     ///
-    /// `AllocError` where there is no memory, also where far more members are mixed into interfaces
-    /// than the rule on their number allows.
+    /// `AllocError` where there is no memory.
     pub fn of(alloc: Global, meanings: &Meanings<'d, 'a>) -> Result<Parts<'d, 'a>, AllocError>
         ensures { IfOk result (λ parts. parts ≡ meanings.now) }
     {
         let definitions = meanings.all();
         let partials = group_partials(alloc, meanings, definitions)?;
         let mixins = group_mixins(alloc, meanings, definitions)?;
-        check_mixed(alloc, definitions, &partials, &mixins)?;
         Ok(Parts {
             definitions,
             partials,

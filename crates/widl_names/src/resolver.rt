@@ -12,7 +12,7 @@ ghost use Rattle.widl_idl.specs.declared.kind.Kind.{Kind as KindType};
 ghost use Rattle.widl_idl.specs.MergedList.{number_of_meaning};
 ghost use Rattle.widl_idl.specs.PlainTrees.{plain_definitions};
 ghost use Rattle.widl_idl.specs.PlainTypes.{annotated_of, attribute_of, form_term, type_of, union_of};
-ghost use Rattle.widl_idl.specs.Resolution.{Note, resolved_members, typedef_in};
+ghost use Rattle.widl_idl.specs.Resolution.{Note, is_nullable, is_nullable_twice, nullable_of, resolved_members, typedef_in};
 ghost use Rattle.widl_idl.specs.Terms.{packed, type_term, type_terms};
 ghost use Rattle.widl_idl.specs.WrittenTypes.{meaning_alone, meaning_of_type, meaning_with, type_of_kind, type_of_meaning, typedefs, written_members};
 ghost use Rattle.widl_names.specs.SaidNotes.{Says};
@@ -23,16 +23,13 @@ use crate::annotations::Annotations;
 use crate::kind_numbers::{KindNumbers, number_kinds};
 use crate::meanings::{Meanings, kind_at};
 use crate::names::kind_of;
-use crate::typedef_ends::{ChainEnd, QUESTIONS, count_question, kept_end, typedef_ends};
+use crate::typedef_ends::{ChainEnd, count_question, kept_end, more_questions, typedef_ends};
 use crate::typedef_links::{meaning_of_form, typedef_at};
 use std::alloc::{AllocError, Global};
 use std::marker::Model;
 use widl_idl::tree::{AnnotatedType, Container, ExtendedAttribute, TypeForm, WrittenType};
 use widl_idl::{IdlType, IdlTypes, Kind};
 use widl_text::limits::MOST_TYPE_LEVELS;
-
-/// How many bytes of a name are looked up in one step.
-const NAME_BYTES: usize = 64;
 
 /// The definitions of a set of files with their numbers, by which types are resolved.
 #[derive(Drop)]
@@ -70,7 +67,7 @@ pub struct Use<'t> {
     pub annotations: Annotations,
     /// How many typedefs it may still lead to.
     pub typedefs: u32,
-    /// How many `?`s stand after it.
+    /// How many `?`s stand after it, or two where they are more.
     pub questions: usize,
 }
 
@@ -90,16 +87,16 @@ impl<'t> Use<'t> {
     }
 
     /// The end of the chain of the typedef that is named where this one stands.
-    fn through(&self, end: &ChainEnd<'t>) -> Result<Use<'t>, AllocError>
+    fn through(&self, end: &ChainEnd<'t>) -> Use<'t>
         requires { end.now.passed < self.now.typedefs }
-        ensures { IfOk result (λ next. GoesTo self.now end.now next) }
+        ensures { GoesTo self.now end.now result }
     {
-        Ok(Use {
+        Use {
             form: end.form,
             annotations: self.annotations.followed_by(end.annotations),
             typedefs: self.typedefs - 1 - end.passed,
-            questions: more_questions(self.questions, end.questions)?,
-        })
+            questions: more_questions(self.questions, end.questions),
+        }
     }
 }
 
@@ -109,17 +106,6 @@ pub struct KnownUse<'t> {
     pub usage: Use<'t>,
     /// The number of the definition that the type names, if it is a name with a meaning.
     pub meaning: Option<usize>,
-}
-
-/// So many `?`s, and so many more.
-fn more_questions(questions: usize, more: usize) -> Result<usize, AllocError>
-    ensures { IfOk result (λ all. all ≡ questions + more) }
-{
-    if questions <= QUESTIONS && more <= QUESTIONS - questions {
-        Ok(questions + more)
-    } else {
-        Err(AllocError)
-    }
 }
 
 impl<'m, 'd, 'a> Resolver<'m, 'd, 'a> {
@@ -146,25 +132,24 @@ impl<'m, 'd, 'a> Resolver<'m, 'd, 'a> {
 
     /// What a type means after these annotations (Web IDL, "Typedefs" and "Annotated types").
     ///
-    /// Typedefs of typedefs may make types and take time that grow far faster than their source. So
-    /// `steps` bounds both: it counts down with each type that is made or followed, each 64 bytes of a
-    /// name that is looked up and each extended attribute that is read.
+    /// Typedefs of typedefs may make types that grow far faster than their source. So `room` counts down
+    /// with each type that stands in the type of a typedef.
     ///
     /// # Errors
     ///
-    /// `AllocError` where there is no memory, also where there are no more steps, or where the type
-    /// nests deeper than any that the rules allow.
+    /// `AllocError` where there is no memory, also where typedefs make more types than `room` has, or where
+    /// the type nests deeper than any that the rules allow.
     pub fn resolve(
         &self,
         alloc: Global,
-        steps: &mut usize,
+        room: &mut usize,
         annotations: Annotations,
         ty: &'a WrittenType,
     ) -> Result<IdlType, AllocError>
         ensures { IfOk result (λ t. (notes : List Note) → Says annotations notes → type_term t ≡ meaning_of_type (plain_definitions self.now) notes (type_of ty.now)) }
     {
         let start = Use::of(ty, annotations, self.kinds.counts.count(Kind::Typedef));
-        self.use_type(alloc, steps, MOST_TYPE_LEVELS, &start)
+        self.use_type(alloc, room, MOST_TYPE_LEVELS, &start)
     }
 
     /// What a type without annotations means, as that of a result or a constant.
@@ -175,12 +160,12 @@ impl<'m, 'd, 'a> Resolver<'m, 'd, 'a> {
     pub fn resolve_alone(
         &self,
         alloc: Global,
-        steps: &mut usize,
+        room: &mut usize,
         ty: &'a WrittenType,
     ) -> Result<IdlType, AllocError>
         ensures { IfOk result (λ t. type_term t ≡ meaning_alone (plain_definitions self.now) (type_of ty.now)) }
     {
-        self.resolve(alloc, steps, Annotations::none(), ty)
+        self.resolve(alloc, room, Annotations::none(), ty)
     }
 
     /// What the type of an argument, an attribute or a dictionary member means, whose own extended
@@ -192,17 +177,15 @@ impl<'m, 'd, 'a> Resolver<'m, 'd, 'a> {
     pub fn resolve_with(
         &self,
         alloc: Global,
-        steps: &mut usize,
+        room: &mut usize,
         attributes: &[ExtendedAttribute],
         ty: &'a AnnotatedType,
     ) -> Result<IdlType, AllocError>
         ensures { IfOk result (λ t. type_term t ≡ meaning_with (plain_definitions self.now) (map attribute_of attributes.now) (annotated_of ty.now)) }
     {
-        spend(steps, attributes.len())?;
-        spend(steps, ty.attributes.len())?;
         let before = Annotations::of(attributes);
         let own = Annotations::of(ty.attributes.as_slice());
-        self.resolve(alloc, steps, before.followed_by(own), &ty.ty)
+        self.resolve(alloc, room, before.followed_by(own), &ty.ty)
     }
 
     /// The number of the definition that a name means among the main ones of its kind, which is this
@@ -238,81 +221,68 @@ impl<'m, 'd, 'a> Resolver<'m, 'd, 'a> {
     }
 
     /// Where a use of a type leads, if that type is a typedef's name.
-    fn after(&self, steps: &mut usize, from: &KnownUse<'a>) -> Result<Option<Use<'a>>, AllocError>
+    fn after(&self, from: &KnownUse<'a>) -> Option<Use<'a>>
         requires { IsKnown (plain_definitions self.now) from.now }
-        ensures { IfOk result (λ next. After (plain_definitions self.now) from.now.usage next) }
+        ensures { After (plain_definitions self.now) from.now.usage result }
     {
         if from.usage.typedefs == 0 {
-            return Ok(None);
+            return None;
         }
         match from.meaning {
-            None => Ok(None),
-            Some(number) => match self.next_end(steps, from.usage.typedefs, number)? {
-                None => Ok(None),
-                Some(end) => Ok(Some(from.usage.through(&end)?)),
+            None => None,
+            Some(number) => match self.next_end(from.usage.typedefs, number) {
+                None => None,
+                Some(end) => Some(from.usage.through(&end)),
             },
         }
     }
 
     /// The end of the chain of the definition with this number, if it is a typedef: the kept one, or its
     /// type alone where so few typedefs may be followed that the kept one is too far away.
-    fn next_end(
-        &self,
-        steps: &mut usize,
-        typedefs: u32,
-        number: usize,
-    ) -> Result<Option<ChainEnd<'a>>, AllocError>
+    fn next_end(&self, typedefs: u32, number: usize) -> Option<ChainEnd<'a>>
         requires { 0 < typedefs }
-        ensures { IfOk result (λ next. IsNext (plain_definitions self.now) typedefs (typedef_at (plain_definitions self.now) number) next) }
+        ensures { IsNext (plain_definitions self.now) typedefs (typedef_at (plain_definitions self.now) number) result }
     {
         match kept_end(&self.ends, number) {
-            None => self.first_end(steps, number),
+            None => self.first_end(number),
             Some(end) => if end.passed < typedefs {
-                Ok(Some(end))
+                Some(end)
             } else {
-                self.first_end(steps, number)
+                self.first_end(number)
             },
         }
     }
 
     /// The type of the definition with this number as the end of a chain, if it is a typedef.
-    fn first_end(
-        &self,
-        steps: &mut usize,
-        number: usize,
-    ) -> Result<Option<ChainEnd<'a>>, AllocError>
-        ensures { IfOk result (λ next. IsNext (plain_definitions self.now) 1 (typedef_at (plain_definitions self.now) number) next) }
+    fn first_end(&self, number: usize) -> Option<ChainEnd<'a>>
+        ensures { IsNext (plain_definitions self.now) 1 (typedef_at (plain_definitions self.now) number) result }
     {
         match typedef_at(self.meanings, number) {
-            None => Ok(None),
-            Some(ty) => {
-                spend(steps, ty.attributes.len())?;
-                Ok(Some(ChainEnd::of(ty)))
-            }
+            None => None,
+            Some(ty) => Some(ChainEnd::of(ty)),
         }
     }
 
     /// The last type of a chain of typedefs.
-    fn follow(&self, steps: &mut usize, start: &Use<'a>) -> Result<KnownUse<'a>, AllocError>
-        ensures leads { IfOk result (λ last. Leads (plain_definitions self.now) start.now last.usage) }
-        ensures last { IfOk result (λ last. IsLast (plain_definitions self.now) last.usage) }
-        ensures known { IfOk result (λ last. IsKnown (plain_definitions self.now) last) }
+    fn follow(&self, start: &Use<'a>) -> KnownUse<'a>
+        ensures leads { Leads (plain_definitions self.now) start.now result.usage }
+        ensures last { IsLast (plain_definitions self.now) result.usage }
+        ensures known { IsKnown (plain_definitions self.now) result }
     {
-        let mut reached = self.look_up(steps, *start)?;
-        while let Some(next) = self.after(steps, &reached)? {
-            reached = self.look_up(steps, next)?;
+        let mut reached = self.look_up(*start);
+        while let Some(next) = self.after(&reached) {
+            reached = self.look_up(next);
         }
-        Ok(reached)
+        reached
     }
 
     /// A use of a type with what its name means.
-    fn look_up(&self, steps: &mut usize, usage: Use<'a>) -> Result<KnownUse<'a>, AllocError>
-        ensures same { IfOk result (λ known. known.usage ≡ usage.entry) }
-        ensures known { IfOk result (λ known. IsKnown (plain_definitions self.now) known) }
+    fn look_up(&self, usage: Use<'a>) -> KnownUse<'a>
+        ensures same { result.usage ≡ usage.entry }
+        ensures known { IsKnown (plain_definitions self.now) result }
     {
-        spend(steps, form_size(usage.form))?;
         let meaning = meaning_of_form(self.meanings, usage.form);
-        Ok(KnownUse { usage, meaning })
+        KnownUse { usage, meaning }
     }
 
     /// What a use of a type means. `levels` is how deep its parts may nest; below, `left` is how many
@@ -321,7 +291,7 @@ impl<'m, 'd, 'a> Resolver<'m, 'd, 'a> {
     fn use_type(
         &self,
         alloc: Global,
-        steps: &mut usize,
+        room: &mut usize,
         levels: usize,
         start: &Use<'a>,
     ) -> Result<IdlType, AllocError>
@@ -330,9 +300,23 @@ impl<'m, 'd, 'a> Resolver<'m, 'd, 'a> {
         if levels == 0 {
             return Err(AllocError);
         }
-        let last = self.follow(steps, start)?;
-        let inner = self.form_type(alloc, steps, levels - 1, &last)?;
+        let last = self.follow(start);
+        self.count(room, &last.usage)?;
+        let inner = self.form_type(alloc, room, levels - 1, &last)?;
         with_questions(alloc, inner, last.usage.questions)
+    }
+
+    /// Counts down by the types that a use is with its `?`s, if typedefs led to it.
+    fn count(&self, room: &mut usize, usage: &Use<'_>) -> Result<(), AllocError> {
+        if usage.typedefs == self.kinds.counts.count(Kind::Typedef) {
+            return Ok(());
+        }
+        let count = usage.questions.saturating_add(1);
+        if *room < count {
+            return Err(AllocError);
+        }
+        *room -= count;
+        Ok(())
     }
 
     /// The same of a use of a type that is no typedef's name, without its `?`s.
@@ -340,7 +324,7 @@ impl<'m, 'd, 'a> Resolver<'m, 'd, 'a> {
     fn form_type(
         &self,
         alloc: Global,
-        steps: &mut usize,
+        room: &mut usize,
         levels: usize,
         last: &KnownUse<'a>,
     ) -> Result<IdlType, AllocError>
@@ -357,18 +341,18 @@ impl<'m, 'd, 'a> Resolver<'m, 'd, 'a> {
             TypeForm::Text(kind) => Ok(last.usage.annotations.text(*kind)),
             TypeForm::Named(_) => Ok(self.meant_type(last.meaning)),
             TypeForm::Container(container, inner) => {
-                self.container_type(alloc, steps, levels, left, *container, inner)
+                self.container_type(alloc, room, levels, left, *container, inner)
             }
             TypeForm::Record(key, inner) => {
-                let value = self.boxed_type(alloc, steps, levels, left, inner)?;
+                let value = self.boxed_type(alloc, room, levels, left, inner)?;
                 Ok(IdlType::Rec(*key, value))
             }
             TypeForm::Promise(inner) => {
-                let value = self.promised_type(alloc, steps, levels, left, inner)?;
+                let value = self.promised_type(alloc, room, levels, left, inner)?;
                 Ok(IdlType::Promise(value))
             }
             TypeForm::Union(members) => {
-                let types = self.member_types(alloc, steps, levels, left, members.as_slice())?;
+                let types = self.member_types(alloc, room, levels, left, members.as_slice())?;
                 Ok(IdlType::Union(types))
             }
             _ => Ok(IdlType::Any),
@@ -380,7 +364,7 @@ impl<'m, 'd, 'a> Resolver<'m, 'd, 'a> {
     fn container_type(
         &self,
         alloc: Global,
-        steps: &mut usize,
+        room: &mut usize,
         levels: usize,
         left: u32,
         container: Container,
@@ -390,7 +374,7 @@ impl<'m, 'd, 'a> Resolver<'m, 'd, 'a> {
     {
         match container {
             Container::Sequence => {
-                let element = self.boxed_type(alloc, steps, levels, left, inner)?;
+                let element = self.boxed_type(alloc, room, levels, left, inner)?;
                 Ok(IdlType::Seq(element))
             }
             Container::AsyncSequence | Container::FrozenArray | Container::ObservableArray => {
@@ -404,7 +388,7 @@ impl<'m, 'd, 'a> Resolver<'m, 'd, 'a> {
     fn promised_type(
         &self,
         alloc: Global,
-        steps: &mut usize,
+        room: &mut usize,
         levels: usize,
         left: u32,
         ty: &'a WrittenType,
@@ -412,7 +396,7 @@ impl<'m, 'd, 'a> Resolver<'m, 'd, 'a> {
         ensures { IfOk result (λ t. type_term t.value ≡ meaning_at (plain_definitions self.now) left [] (type_of ty.now)) }
     {
         let start = Use::of(ty, Annotations::none(), left);
-        let value = self.use_type(alloc, steps, levels, &start)?;
+        let value = self.use_type(alloc, room, levels, &start)?;
         Ok(Box::new(alloc, value)?)
     }
 
@@ -421,16 +405,15 @@ impl<'m, 'd, 'a> Resolver<'m, 'd, 'a> {
     fn annotated_type(
         &self,
         alloc: Global,
-        steps: &mut usize,
+        room: &mut usize,
         levels: usize,
         left: u32,
         ty: &'a AnnotatedType,
     ) -> Result<IdlType, AllocError>
         ensures { IfOk result (λ t. type_term t ≡ own_meaning (plain_definitions self.now) left (annotated_of ty.now)) }
     {
-        spend(steps, ty.attributes.len())?;
         let start = Use::of(&ty.ty, Annotations::of(ty.attributes.as_slice()), left);
-        self.use_type(alloc, steps, levels, &start)
+        self.use_type(alloc, room, levels, &start)
     }
 
     /// The same in memory of its own.
@@ -438,14 +421,14 @@ impl<'m, 'd, 'a> Resolver<'m, 'd, 'a> {
     fn boxed_type(
         &self,
         alloc: Global,
-        steps: &mut usize,
+        room: &mut usize,
         levels: usize,
         left: u32,
         ty: &'a AnnotatedType,
     ) -> Result<Box<IdlType>, AllocError>
         ensures { IfOk result (λ t. type_term t.value ≡ own_meaning (plain_definitions self.now) left (annotated_of ty.now)) }
     {
-        let value = self.annotated_type(alloc, steps, levels, left, ty)?;
+        let value = self.annotated_type(alloc, room, levels, left, ty)?;
         Ok(Box::new(alloc, value)?)
     }
 
@@ -454,7 +437,7 @@ impl<'m, 'd, 'a> Resolver<'m, 'd, 'a> {
     fn member_types(
         &self,
         alloc: Global,
-        steps: &mut usize,
+        room: &mut usize,
         levels: usize,
         left: u32,
         members: &'a [AnnotatedType],
@@ -463,7 +446,7 @@ impl<'m, 'd, 'a> Resolver<'m, 'd, 'a> {
     {
         let mut types = IdlTypes::new(alloc);
         for member in members {
-            let ty = self.annotated_type(alloc, steps, levels, left, member)?;
+            let ty = self.annotated_type(alloc, room, levels, left, member)?;
             types.push(ty)?;
         }
         Ok(types)
@@ -484,32 +467,39 @@ fn type_of_kind(kind: Kind, number: u32) -> IdlType
     }
 }
 
-/// Counts down by what a step costs.
-fn spend(steps: &mut usize, cost: usize) -> Result<(), AllocError>
-    ensures { OnOk result (steps.new + cost ≡ steps.old) }
-{
-    if *steps < cost {
-        return Err(AllocError);
-    }
-    *steps -= cost;
-    Ok(())
-}
-
-/// What it costs to look at a form: 1, and the length of its name.
-fn form_size(form: &TypeForm) -> usize {
-    match form {
-        TypeForm::Named(name) => 1 + name.text.len() / NAME_BYTES,
-        _ => 1,
-    }
-}
-
 /// A type with so many `?`s after it.
 fn with_questions(alloc: Global, inner: IdlType, questions: usize) -> Result<IdlType, AllocError>
     ensures { IfOk result (λ t. type_term t ≡ questioned questions (type_term inner)) }
 {
     let mut ty = inner;
     for _question in 0..questions {
-        ty = IdlType::Nullable(Box::new(alloc, ty)?);
+        ty = with_question(alloc, ty)?;
     }
     Ok(ty)
+}
+
+/// A type with one `?` after it, which adds nothing after two.
+fn with_question(alloc: Global, inner: IdlType) -> Result<IdlType, AllocError>
+    ensures { IfOk result (λ t. type_term t ≡ nullable_of (type_term inner)) }
+{
+    if is_nullable_twice(&inner) {
+        Ok(inner)
+    } else {
+        Ok(IdlType::Nullable(Box::new(alloc, inner)?))
+    }
+}
+
+fn is_nullable_twice(t: &IdlType) -> bool
+    ensures { result ≡ is_nullable_twice (type_term t.now) }
+{
+    match t {
+        IdlType::Nullable(inner) => is_nullable(inner),
+        _ => false,
+    }
+}
+
+fn is_nullable(t: &IdlType) -> bool
+    ensures { result ≡ is_nullable (type_term t.now) }
+{
+    matches!(t, IdlType::Nullable(_))
 }

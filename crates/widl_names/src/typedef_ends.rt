@@ -5,11 +5,11 @@
 //! before it. The work grows with the definitions alone. A typedef that comes back to itself has an end
 //! too, which is the name of a typedef again.
 
-ghost use Rattle.std.specs.Prelude.{◌≡◌, ◌↔◌, List, IfOk, IfSome, IsTrue};
+ghost use Rattle.std.specs.Prelude.{◌≡◌, ◌+◌, ◌↔◌, List, IfOk, IfSome, IsTrue};
 ghost use Rattle.widl_idl.specs.PlainTrees.{PlainDefinition, plain_definitions};
 ghost use Rattle.widl_idl.specs.PlainTypes.{annotated_of, form_term};
 ghost use Rattle.widl_names.specs.TypedefEnds.{AreEnds, CanGrow, EndsAt, IsEndOf};
-ghost use Rattle.widl_names.specs.TypeUses.{question_count, typedef_at, typedef_of_form};
+ghost use Rattle.widl_names.specs.TypeUses.{capped, question_count, typedef_at, typedef_of_form};
 
 use crate::annotations::Annotations;
 use crate::meanings::Meanings;
@@ -18,8 +18,9 @@ use std::alloc::{AllocError, Global};
 use widl_idl::tree::{AnnotatedType, TypeForm};
 use widl_text::Place;
 
-/// How many `?`s may stand after one type and the typedefs that it leads to. A rule allows one.
-pub const QUESTIONS: usize = 16;
+/// How many `?`s after a type and the typedefs that it leads to are counted. A rule allows one, and more
+/// than two mean the same as two.
+const MOST_QUESTIONS: usize = 2;
 
 /// Where a chain of typedefs ends that begins with a type.
 #[derive(Clone, Copy)]
@@ -30,7 +31,7 @@ pub struct ChainEnd<'a> {
     pub annotations: Annotations,
     /// How many typedefs are passed after the first type.
     pub passed: u32,
-    /// How many `?`s stand after the chain's types.
+    /// How many `?`s stand after the chain's types, or two where they are more.
     pub questions: usize,
 }
 
@@ -58,7 +59,7 @@ impl<'a> ChainEnd<'a> {
             form: self.form,
             annotations: own.followed_by(self.annotations),
             passed: self.passed + 1,
-            questions: count_question(ty.ty.question) + self.questions,
+            questions: more_questions(count_question(ty.ty.question), self.questions),
         }
     }
 
@@ -66,7 +67,7 @@ impl<'a> ChainEnd<'a> {
     fn can_grow(&self) -> bool
         ensures { IsTrue result ↔ CanGrow self.now }
     {
-        self.passed < u32::MAX && self.questions < QUESTIONS
+        self.passed < u32::MAX
     }
 }
 
@@ -165,5 +166,16 @@ pub fn count_question(question: Option<Place>) -> usize
     match question {
         None => 0,
         Some(_) => 1,
+    }
+}
+
+/// So many `?`s and so many more, or two where they are more.
+pub fn more_questions(questions: usize, more: usize) -> usize
+    ensures { result ≡ capped (questions + more) }
+{
+    if questions < MOST_QUESTIONS && more < MOST_QUESTIONS - questions {
+        questions + more
+    } else {
+        MOST_QUESTIONS
     }
 }

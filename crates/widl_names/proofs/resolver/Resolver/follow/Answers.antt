@@ -7,18 +7,18 @@ use Rattle.widl_names.proofs.resolver.Resolver.follow.Goals as goal
 pub loop-next-init : goal.loop-next-init
 loop-next-init c =
     let definitions = plain_definitions c.args.self.now in
-    (subst (Leads definitions c.args.start.now) (sym c.in_ok-reached.ensures.same) (leads_here definitions c.args.start.now), c.in_ok-reached.ensures.known)
+    (subst (Leads definitions c.args.start.now) (sym c.look_up-reached.ensures.same) (leads_here definitions c.args.start.now), c.look_up-reached.ensures.known)
 
 pub loop-next-preserved : goal.loop-next-preserved
 loop-next-preserved c =
     let definitions = plain_definitions c.args.self.now in
     let last = c.loop-next.reached.usage in
-    let found = subst (After definitions last) c.in-Some.is c.in_ok-next.ensures in
-    (subst (Leads definitions c.args.start.now) (sym c.in_ok-reached-2.ensures.same) (leads_on definitions c.args.start.now last c.in-Some.next c.loop-next.invariant.0 found.0), c.in_ok-reached-2.ensures.known)
+    let found = subst (After definitions last) c.in-Some.is c.after.ensures in
+    (subst (Leads definitions c.args.start.now) (sym c.look_up-reached-in-Some.ensures.same) (leads_on definitions c.args.start.now last c.in-Some.next c.loop-next.invariant.0 found.0), c.look_up-reached-in-Some.ensures.known)
 
 pub loop-next-smaller : goal.loop-next-smaller
 loop-next-smaller c =
-    let found = subst (After (plain_definitions c.args.self.now) c.loop-next.reached.usage) c.in-Some.is c.in_ok-next.ensures in
+    let found = subst (After (plain_definitions c.args.self.now) c.loop-next.reached.usage) c.in-Some.is c.after.ensures in
     let fewer = found.1 in
-    let same = ap (λ u. u.typedefs) c.in_ok-reached-2.ensures.same in
+    let same = ap (λ u. u.typedefs) c.look_up-reached-in-Some.ensures.same in
     omega (arith, fewer, same)
