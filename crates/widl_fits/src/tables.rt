@@ -4,9 +4,8 @@ ghost use Rattle.std.specs.Prelude.{IfOk};
 ghost use Rattle.widl_idl.specs.DefinitionTerms.{defs_term};
 ghost use Rattle.widl_fits.specs.Fitting.{Knows, KnowsRequired};
 
-use crate::choice_values::list_values;
+use crate::choice_values::{ChoiceValues, list_values};
 use crate::required_members::required_members;
-use indexmap::IndexSet;
 use std::alloc::{AllocError, Global};
 use widl_idl::Defs;
 
@@ -15,8 +14,8 @@ use widl_idl::Defs;
 pub struct Tables<'d> {
     /// Whether a dictionary has a required member, inherited ones included.
     pub required: Vec<bool>,
-    /// The values of an enumeration.
-    pub values: Vec<IndexSet<&'d [u16]>>,
+    /// The values of each enumeration.
+    pub values: Vec<ChoiceValues<'d>>,
 }
 
 impl<'d> Tables<'d> {

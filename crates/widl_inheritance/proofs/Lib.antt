@@ -19,3 +19,4 @@ pub mod ParentGraphs
 pub mod FlagSteps
 pub mod IterationSteps
 pub mod BrokenInterfaces
+pub mod ReachedParents

@@ -9,3 +9,4 @@ pub mod MemberEnds
 pub mod InterfaceMembers
 pub mod ReachedFlags
 pub mod Iterations
+pub mod InterfaceParents

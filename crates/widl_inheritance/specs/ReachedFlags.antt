@@ -10,6 +10,10 @@ pub record IsWalk (graph : List (List ℕ)) (walk : Walk) : Type 0 where
   pub order : IsOrder (length graph) walk.order.items
   pub before : (x y : ℕ) → (ReachesItself graph x → ⊥) → Step graph x y → StandsBefore walk.order.items y x
 
+-- no node reaches itself
+abbrev pub IsAcyclic : List (List ℕ) → Type 0
+IsAcyclic graph = (x : ℕ) → ReachesItself graph x → ⊥
+
 -- one step or more lead from the node to one whose flag is set
 pub record ReachesFlag (graph : List (List ℕ)) (flags : List Bool) (x : ℕ) : Type 0 where
   pub node : ℕ

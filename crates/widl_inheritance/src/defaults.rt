@@ -16,20 +16,19 @@ use std::alloc::{AllocError, Global};
 use widl_fits::Tables;
 use widl_idl::tree::Definition;
 use widl_idl::{Defs, Violation, earlier_violation};
-use widl_names::Resolver;
+use widl_names::{MOST_TYPES, Resolver};
 
 /// The first place of a default value that doesn't fit its type.
 ///
 /// # Errors
 ///
 /// `AllocError` where there is no memory, also where a dictionary inherits from itself or from none of
-/// the list, which no merged list has, and where resolving types and looking for long texts among the
-/// values of unions takes more than `steps` ([`Resolver::resolve`]).
+/// the list, which no merged list has, and where typedefs make more types of one that is written than
+/// [`MOST_TYPES`].
 pub fn first_other_default<'a>(
     alloc: Global,
     defs: &Defs,
     resolver: &Resolver<'_, '_, 'a>,
-    steps: &mut usize,
     definitions: &[&'a Definition],
 ) -> Result<Option<Violation>, AllocError>
     requires { listed_definitions definitions.now ≡ plain_definitions resolver.now }
@@ -37,7 +36,7 @@ pub fn first_other_default<'a>(
 {
     let defaults = list_defaults(alloc, definitions)?;
     let tables = Tables::of(alloc, defs)?;
-    first_other(alloc, &tables, resolver, steps, defaults.as_slice())
+    first_other(alloc, &tables, resolver, defaults.as_slice())
 }
 
 /// The first place of one of these default values that doesn't fit its type.
@@ -45,14 +44,13 @@ fn first_other<'a>(
     alloc: Global,
     tables: &Tables<'_>,
     resolver: &Resolver<'_, '_, 'a>,
-    steps: &mut usize,
     defaults: &[Defaulted<'a>],
 ) -> Result<Option<Violation>, AllocError>
     ensures { IfOk result (λ found. (list : DefsTerm) → Knows list tables.now → FirstWhere (Somewhere (IsOtherDefault list (plain_definitions resolver.now)) (listed_defaults defaults.now)) found) }
 {
     let mut best = None;
     for defaulted in defaults {
-        let found = other_default(alloc, tables, resolver, steps, defaulted)?;
+        let found = other_default(alloc, tables, resolver, defaulted)?;
         best = earlier_violation(best, found);
     }
     Ok(best)
@@ -64,7 +62,6 @@ fn other_default<'a>(
     alloc: Global,
     tables: &Tables<'_>,
     resolver: &Resolver<'_, '_, 'a>,
-    steps: &mut usize,
     defaulted: &Defaulted<'a>,
 ) -> Result<Option<Violation>, AllocError>
     ensures { IfOk result (λ found. (list : DefsTerm) → Knows list tables.now → FirstWhere (IsOtherDefault list (plain_definitions resolver.now) (defaulted_of defaulted.now)) found) }
@@ -73,8 +70,9 @@ fn other_default<'a>(
         return Ok(None);
     }
     let attributes = defaulted.attributes.as_slice();
-    let ty = resolver.resolve_with(alloc, steps, attributes, defaulted.ty)?;
-    if fits(alloc, tables, steps, &ty, &defaulted.value.value)? {
+    let mut room = MOST_TYPES;
+    let ty = resolver.resolve_with(alloc, &mut room, attributes, defaulted.ty)?;
+    if fits(alloc, tables, &ty, &defaulted.value.value)? {
         Ok(None)
     } else {
         Ok(Some(Violation::at(defaulted.value.at)))

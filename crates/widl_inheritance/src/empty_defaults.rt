@@ -19,7 +19,7 @@ use std::alloc::{AllocError, Global};
 use widl_fits::{Tables, any_takes};
 use widl_idl::tree::{Argument, ArgumentKind, Definition, TypeForm, WrittenType};
 use widl_idl::{Defs, IdlType, Literal, Violation, earlier_violation};
-use widl_names::Resolver;
+use widl_names::{MOST_TYPES, Resolver};
 
 /// The first place of the name of an argument that takes a dictionary without required members and has
 /// no default value where it needs one: it is optional, or it is required though a call may leave out all
@@ -28,13 +28,12 @@ use widl_names::Resolver;
 /// # Errors
 ///
 /// `AllocError` where there is no memory, also where a dictionary inherits from itself or from none of
-/// the list, which no merged list has, and where resolving a type takes more than `steps`
-/// ([`Resolver::resolve`]).
+/// the list, which no merged list has, and where typedefs make more types of one that is written than
+/// [`MOST_TYPES`].
 pub fn first_without_empty_default<'a>(
     alloc: Global,
     defs: &Defs,
     resolver: &Resolver<'_, '_, 'a>,
-    steps: &mut usize,
     definitions: &[&'a Definition],
 ) -> Result<Option<Violation>, AllocError>
     requires { listed_definitions definitions.now ≡ plain_definitions resolver.now }
@@ -42,7 +41,7 @@ pub fn first_without_empty_default<'a>(
 {
     let lists = list_calls(alloc, definitions)?;
     let tables = Tables::of_dictionaries(alloc, defs)?;
-    first_lacking(alloc, &tables, resolver, steps, lists.as_slice())
+    first_lacking(alloc, &tables, resolver, lists.as_slice())
 }
 
 /// The first place of such a name in these lists of arguments.
@@ -50,14 +49,13 @@ fn first_lacking<'a>(
     alloc: Global,
     tables: &Tables<'_>,
     resolver: &Resolver<'_, '_, 'a>,
-    steps: &mut usize,
     lists: &[&'a [Argument]],
 ) -> Result<Option<Violation>, AllocError>
     ensures { IfOk result (λ found. (list : DefsTerm) → KnowsRequired list tables.now → FirstWhere (Somewhere (LacksEmptyDefault list (plain_definitions resolver.now)) (listed_arguments lists.now)) found) }
 {
     let mut best = None;
     for list in lists {
-        let found = lacking_in(alloc, tables, resolver, steps, list)?;
+        let found = lacking_in(alloc, tables, resolver, list)?;
         best = earlier_violation(best, found);
     }
     Ok(best)
@@ -68,7 +66,6 @@ fn lacking_in<'a>(
     alloc: Global,
     tables: &Tables<'_>,
     resolver: &Resolver<'_, '_, 'a>,
-    steps: &mut usize,
     arguments: &'a [Argument],
 ) -> Result<Option<Violation>, AllocError>
     ensures { IfOk result (λ found. (list : DefsTerm) → KnowsRequired list tables.now → FirstWhere (LacksEmptyDefault list (plain_definitions resolver.now) (arguments_of arguments.now)) found) }
@@ -78,7 +75,7 @@ fn lacking_in<'a>(
     let mut absent = true;
     for index in (0..arguments.len()).rev() {
         let argument = &arguments[index];
-        let found = lacking(alloc, tables, resolver, steps, absent, argument)?;
+        let found = lacking(alloc, tables, resolver, absent, argument)?;
         best = earlier_violation(best, found);
         absent &= !is_required(&argument.kind);
     }
@@ -91,7 +88,6 @@ fn lacking<'a>(
     alloc: Global,
     tables: &Tables<'_>,
     resolver: &Resolver<'_, '_, 'a>,
-    steps: &mut usize,
     absent: bool,
     argument: &'a Argument,
 ) -> Result<Option<Violation>, AllocError>
@@ -103,7 +99,13 @@ fn lacking<'a>(
     if !may_take_dictionary(&argument.ty.ty) {
         return Ok(None);
     }
-    let ty = resolver.resolve_with(alloc, steps, argument.attributes.as_slice(), &argument.ty)?;
+    let mut room = MOST_TYPES;
+    let ty = resolver.resolve_with(
+        alloc,
+        &mut room,
+        argument.attributes.as_slice(),
+        &argument.ty,
+    )?;
     if takes_no_member(tables, &ty) {
         Ok(Some(Violation::at(argument.name.at)))
     } else {

@@ -15,6 +15,7 @@ mod interface_lines;
 mod interface_members;
 mod iterables;
 mod iterations;
+pub mod laws;
 mod long_chains;
 mod member_names;
 mod parent_graph;

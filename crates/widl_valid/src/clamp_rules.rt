@@ -3,9 +3,9 @@
 //!
 //! A chain of typedefs whose types are names of typedefs is as long as a file allows. What stands on it is
 //! kept for each typedef, so following it is one look-up. Only where fewer typedefs may still be followed
-//! than the chain has is it followed by one at a time; so `steps` counts down here too.
+//! than the chain has is it followed by one at a time.
 
-ghost use Rattle.std.specs.Prelude.{◌≡◌, ◌<◌, ◌+◌, IfOk, OnOk, length, map};
+ghost use Rattle.std.specs.Prelude.{◌≡◌, ◌<◌, IfOk, length, map};
 ghost use Rattle.widl_idl.specs.declared.kind.Kind.TheVariants as kinds;
 ghost use Rattle.widl_idl.specs.First.{FirstWhere, Somewhere};
 ghost use Rattle.widl_idl.specs.Meanings.{kind_of, same_kind};
@@ -53,45 +53,36 @@ impl<'a> TypedefChains<'a> {
 
 /// The first place at which a type has `[Clamp]` and `[EnforceRange]`, which is the name that stands
 /// later.
-///
-/// `steps` counts down with each end of a chain of typedefs that is looked up, each byte of a name that
-/// stands there and each extended attribute that is read again.
-///
-/// # Errors
-///
-/// `AllocError` where there are no more steps.
 pub fn first_clamp_and_enforce<'a>(
     meanings: &Meanings<'_, 'a>,
     chains: &TypedefChains<'a>,
-    steps: &mut usize,
     uses: &[ResolvedUse<'a>],
-) -> Result<Option<Violation>, AllocError>
+) -> Option<Violation>
     requires { AreChains (plain_definitions meanings.now) chains.now.ends.items chains.now.levels }
-    ensures { IfOk result (λ found. FirstWhere (Somewhere (λ (r : UseTerm). HasClampAndEnforceRange (plain_definitions meanings.now) r.written) (map resolved_use uses.now)) found) }
+    ensures { FirstWhere (Somewhere (λ (r : UseTerm). HasClampAndEnforceRange (plain_definitions meanings.now) r.written) (map resolved_use uses.now)) result }
 {
     let mut best = None;
     for ty in uses {
-        let found = clamp_and_enforce(meanings, chains, steps, ty)?;
+        let found = clamp_and_enforce(meanings, chains, ty);
         best = earlier_violation(best, found);
     }
-    Ok(best)
+    best
 }
 
 /// The first place at which this type has both.
 fn clamp_and_enforce<'a>(
     meanings: &Meanings<'_, 'a>,
     chains: &TypedefChains<'a>,
-    steps: &mut usize,
     ty: &ResolvedUse<'a>,
-) -> Result<Option<Violation>, AllocError>
+) -> Option<Violation>
     requires { AreChains (plain_definitions meanings.now) chains.now.ends.items chains.now.levels }
-    ensures { IfOk result (λ found. FirstWhere (HasClampAndEnforceRange (plain_definitions meanings.now) (resolved_use ty.now).written) found) }
+    ensures { FirstWhere (HasClampAndEnforceRange (plain_definitions meanings.now) (resolved_use ty.now).written) result }
 {
     let outer = RangeAnnotations::of(ty.written.outer);
     let own = RangeAnnotations::of(ty.written.own);
     let ends = chains.ends.as_slice();
-    let after = annotations_after(meanings, ends, steps, chains.levels, ty.written.ty)?;
-    Ok(outer.followed_by(own).followed_by(after).later())
+    let after = annotations_after(meanings, ends, chains.levels, ty.written.ty);
+    outer.followed_by(own).followed_by(after).later()
 }
 
 /// How many typedefs there are.
@@ -118,42 +109,39 @@ fn is_typedef(definition: &DefinitionKind) -> bool
 fn annotations_after<'a>(
     meanings: &Meanings<'_, 'a>,
     ends: &[Option<RangeEnd<'a>>],
-    steps: &mut usize,
     levels: usize,
     ty: &'a WrittenType,
-) -> Result<RangeAnnotations, AllocError>
+) -> RangeAnnotations
     requires { AreEnds (plain_definitions meanings.now) ends.now }
-    ensures { IfOk result (λ said. AreEarliest said (notes_from (plain_definitions meanings.now) levels (form_term ty.now.form))) }
+    ensures { AreEarliest result (notes_from (plain_definitions meanings.now) levels (form_term ty.now.form)) }
 {
     let mut said = RangeAnnotations::none();
     let mut form = &ty.form;
     let mut left = levels;
-    while let Some(next) = next_end(meanings, ends, steps, left, form)? {
-        spend(steps, form_size(next.form))?;
+    while let Some(next) = next_end(meanings, ends, left, form) {
         said = said.followed_by(next.said);
         form = next.form;
         left -= next.passed + 1;
     }
-    Ok(said)
+    said
 }
 
 /// The end of the chain of the typedef that a form names, where so many may still be followed.
 fn next_end<'a>(
     meanings: &Meanings<'_, 'a>,
     ends: &[Option<RangeEnd<'a>>],
-    steps: &mut usize,
     left: usize,
     form: &TypeForm,
-) -> Result<Option<RangeEnd<'a>>, AllocError>
+) -> Option<RangeEnd<'a>>
     requires { AreEnds (plain_definitions meanings.now) ends.now }
-    ensures { IfOk result (λ found. Leads (plain_definitions meanings.now) left (form_term form.now) found) }
+    ensures { Leads (plain_definitions meanings.now) left (form_term form.now) result }
 {
     if left == 0 {
-        return Ok(None);
+        return None;
     }
     match number_named(meanings, form) {
-        None => Ok(None),
-        Some(number) => end_within(meanings, ends, steps, left, number),
+        None => None,
+        Some(number) => end_within(meanings, ends, left, number),
     }
 }
 
@@ -162,56 +150,29 @@ fn next_end<'a>(
 fn end_within<'a>(
     meanings: &Meanings<'_, 'a>,
     ends: &[Option<RangeEnd<'a>>],
-    steps: &mut usize,
     left: usize,
     number: usize,
-) -> Result<Option<RangeEnd<'a>>, AllocError>
+) -> Option<RangeEnd<'a>>
     requires ends { AreEnds (plain_definitions meanings.now) ends.now }
     requires some { 0 < left }
-    ensures { IfOk result (λ found. IsNext (plain_definitions meanings.now) left (typedef_at (plain_definitions meanings.now) number) found) }
+    ensures { IsNext (plain_definitions meanings.now) left (typedef_at (plain_definitions meanings.now) number) result }
 {
     match kept_end(ends, number) {
-        None => first_end(meanings, steps, number),
+        None => first_end(meanings, number),
         Some(end) => if end.passed < left {
-            Ok(Some(end))
+            Some(end)
         } else {
-            first_end(meanings, steps, number)
+            first_end(meanings, number)
         },
     }
 }
 
 /// The type of the definition with this number as the end of a chain, if it is a typedef.
-fn first_end<'a>(
-    meanings: &Meanings<'_, 'a>,
-    steps: &mut usize,
-    number: usize,
-) -> Result<Option<RangeEnd<'a>>, AllocError>
-    ensures { IfOk result (λ found. IsNext (plain_definitions meanings.now) 1 (typedef_at (plain_definitions meanings.now) number) found) }
+fn first_end<'a>(meanings: &Meanings<'_, 'a>, number: usize) -> Option<RangeEnd<'a>>
+    ensures { IsNext (plain_definitions meanings.now) 1 (typedef_at (plain_definitions meanings.now) number) result }
 {
     match typedef_at(meanings, number) {
-        None => Ok(None),
-        Some(ty) => {
-            spend(steps, ty.attributes.len())?;
-            Ok(Some(RangeEnd::of(ty)))
-        }
-    }
-}
-
-/// Counts down by what a step costs.
-fn spend(steps: &mut usize, cost: usize) -> Result<(), AllocError>
-    ensures { OnOk result (steps.new + cost ≡ steps.old) }
-{
-    if *steps < cost {
-        return Err(AllocError);
-    }
-    *steps -= cost;
-    Ok(())
-}
-
-/// What it costs to look at a form: 1, and the length of its name.
-fn form_size(form: &TypeForm) -> usize {
-    match form {
-        TypeForm::Named(name) => name.text.len().saturating_add(1),
-        _ => 1,
+        None => None,
+        Some(ty) => Some(RangeEnd::of(ty)),
     }
 }

@@ -12,7 +12,7 @@ ghost use Rattle.widl_overload.specs.TypeRules.{HasOtherValue, takes_value};
 use std::alloc::{AllocError, Global};
 use widl_idl::tree::{Constant, LiteralValue};
 use widl_idl::{IdlType, IntKind, Violation};
-use widl_names::Resolver;
+use widl_names::{MOST_TYPES, Resolver};
 use widl_text::integer_of;
 
 /// The place of a constant's value that is not of its type, or not in its range.
@@ -21,12 +21,12 @@ use widl_text::integer_of;
 pub fn other_constant_value<'a>(
     alloc: Global,
     resolver: &Resolver<'_, '_, 'a>,
-    steps: &mut usize,
     constant: &'a Constant,
 ) -> Result<Option<Violation>, AllocError>
     ensures { IfOk result (λ found. FirstWhere (HasOtherValue (plain_definitions resolver.now) (MemberNode (ConstantMember (constant_of constant.now)))) found) }
 {
-    let ty = resolver.resolve_alone(alloc, steps, &constant.ty)?;
+    let mut room = MOST_TYPES;
+    let ty = resolver.resolve_alone(alloc, &mut room, &constant.ty)?;
     if takes_value(&ty, &constant.value.value) {
         Ok(None)
     } else {

@@ -13,14 +13,14 @@ use crate::owners::find_in_owners;
 use crate::type_violations::find_in_types;
 use std::alloc::{AllocError, Global};
 use widl_idl::{Defs, Merged, Refusal};
-use widl_names::{Meanings, Parts, Resolver, list_definitions, steps_of};
+use widl_names::{Meanings, Parts, Resolver, list_definitions};
 
 /// The first refusal of a set of files by the rules of validity, or none where all of them are kept.
 ///
 /// # Errors
 ///
-/// `AllocError` where there is no memory, also where resolving the types of the files takes more steps
-/// than [`steps_of`] allows.
+/// `AllocError` where there is no memory, also where typedefs make more types of one that is written than
+/// [`widl_names::MOST_TYPES`].
 pub fn find_invalid(alloc: Global, merged: &Merged) -> Result<Option<Refusal>, AllocError>
     ensures { IfOk result (λ refusal. IsInvalidity merged.now refusal) }
 {
@@ -30,14 +30,13 @@ pub fn find_invalid(alloc: Global, merged: &Merged) -> Result<Option<Refusal>, A
     let meanings = Meanings::of(alloc, all)?;
     let resolver = Resolver::of(alloc, &meanings)?;
     let parts = Parts::of(alloc, &meanings)?;
-    let mut steps = steps_of(fragments);
     let defs = merged.defs();
     let best = join_overloads(alloc, defs, None)?;
     let best = join_iterables(alloc, &meanings, &parts, best)?;
     let best = join_dictionaries(alloc, defs, best)?;
-    let best = join_defaults(alloc, defs, &meanings, &resolver, &mut steps, best)?;
-    let best = join_members(alloc, &meanings, &parts, &resolver, &mut steps, best)?;
-    let best = join_uses(alloc, defs, &meanings, &resolver, &mut steps, best)?;
+    let best = join_defaults(alloc, defs, &meanings, &resolver, best)?;
+    let best = join_members(alloc, &meanings, &parts, &resolver, best)?;
+    let best = join_uses(alloc, defs, &meanings, &resolver, best)?;
     let violations = find_in_definitions(alloc, all)?;
     let best = join_arguments(violations, best);
     Ok(join_definitions(violations, best))
@@ -49,16 +48,15 @@ fn join_members<'a>(
     meanings: &Meanings<'_, 'a>,
     parts: &Parts<'_, 'a>,
     resolver: &Resolver<'_, '_, 'a>,
-    steps: &mut usize,
     best: Option<Refusal>,
 ) -> Result<Option<Refusal>, AllocError>
     requires same { parts.now ≡ meanings.now }
     requires resolved { resolver.now ≡ meanings.now }
     ensures { IfOk result (λ earliest. Joins (rule.OtherConstantValue ∷ rule.WritablePromise ∷ rule.Stringifiers ∷ rule.PromisesAndOthers ∷ rule.RepeatedMember ∷ rule.KeptName ∷ rule.TooManyOverloads ∷ []) (plain_definitions meanings.now) best earliest) }
 {
-    let violations = find_in_owners(alloc, meanings, parts, resolver, steps)?;
+    let violations = find_in_owners(alloc, meanings, parts, resolver)?;
     let best = join_owners(violations, best);
-    let types = find_in_member_types(alloc, resolver, steps, meanings.all())?;
+    let types = find_in_member_types(alloc, resolver, meanings.all())?;
     Ok(join_nodes(types, violations.stringifier, best))
 }
 
@@ -68,12 +66,11 @@ fn join_uses<'a>(
     defs: &Defs,
     meanings: &Meanings<'_, 'a>,
     resolver: &Resolver<'_, '_, 'a>,
-    steps: &mut usize,
     best: Option<Refusal>,
 ) -> Result<Option<Refusal>, AllocError>
     requires { resolver.now ≡ meanings.now }
     ensures { IfOk result (λ earliest. JoinsOver (rule.OtherConstantType ∷ rule.CopiedAttribute ∷ rule.UndefinedInside ∷ rule.WronglyNullable ∷ rule.SeveralNullableMembers ∷ rule.NullableBesideDictionary ∷ rule.AnnotatedUnionMember ∷ rule.NullableDictionary ∷ rule.MisplacedAnnotation ∷ rule.ClampAndEnforceRange ∷ rule.IndistinguishableUnionMembers ∷ []) defs.now (plain_definitions meanings.now) best earliest) }
 {
-    let violations = find_in_types(alloc, defs, meanings, resolver, steps)?;
+    let violations = find_in_types(alloc, defs, meanings, resolver)?;
     Ok(join_types(violations, best))
 }

@@ -61,16 +61,15 @@ pub fn join_defaults<'a>(
     defs: &Defs,
     meanings: &Meanings<'_, 'a>,
     resolver: &Resolver<'_, '_, 'a>,
-    steps: &mut usize,
     best: Option<Refusal>,
 ) -> Result<Option<Refusal>, AllocError>
     requires { resolver.now ≡ meanings.now }
     ensures { IfOk result (λ earliest. JoinsOver (rule.OtherDefault ∷ rule.NoEmptyDefault ∷ []) defs.now (plain_definitions meanings.now) best earliest) }
 {
     let all = meanings.all();
-    let found = first_without_empty_default(alloc, defs, resolver, steps, all)?;
+    let found = first_without_empty_default(alloc, defs, resolver, all)?;
     let best = joined(ValidityRule::NoEmptyDefault.number(), found, best);
-    let found = first_other_default(alloc, defs, resolver, steps, all)?;
+    let found = first_other_default(alloc, defs, resolver, all)?;
     Ok(joined(ValidityRule::OtherDefault.number(), found, best))
 }
 

@@ -17,7 +17,7 @@ use crate::constant_values::other_constant_value;
 use std::alloc::{AllocError, Global};
 use widl_idl::tree::{Attribute, AttributeKind, Definition, DefinitionKind, Member, MemberKind};
 use widl_idl::{IdlType, Violation, earlier_violation};
-use widl_names::Resolver;
+use widl_names::{MOST_TYPES, Resolver};
 
 /// Where the rules are broken first that read a member with what its type means.
 #[derive(Clone, Copy)]
@@ -34,11 +34,10 @@ pub struct MemberTypeViolations {
 ///
 /// # Errors
 ///
-/// Those of [`Resolver::resolve`], which also says what `steps` bounds.
+/// Those of [`Resolver::resolve`] for at most [`MOST_TYPES`].
 pub fn find_in_member_types<'a>(
     alloc: Global,
     resolver: &Resolver<'_, '_, 'a>,
-    steps: &mut usize,
     definitions: &[&'a Definition],
 ) -> Result<MemberTypeViolations, AllocError>
     ensures { IfOk result (AreMemberTypeViolations (plain_definitions resolver.now) (nodes_of (listed_definitions definitions.now))) }
@@ -46,7 +45,7 @@ pub fn find_in_member_types<'a>(
     let mut best = MemberTypeViolations::none();
     for definition in definitions {
         let members = own_members(&definition.kind);
-        let found = find_in_members(alloc, resolver, steps, members)?;
+        let found = find_in_members(alloc, resolver, members)?;
         best = earlier_violations(best, found);
     }
     Ok(best)
@@ -68,14 +67,13 @@ fn own_members(kind: &DefinitionKind) -> &[Member]
 fn find_in_members<'a>(
     alloc: Global,
     resolver: &Resolver<'_, '_, 'a>,
-    steps: &mut usize,
     members: &'a [Member],
 ) -> Result<MemberTypeViolations, AllocError>
     ensures { IfOk result (AreMemberTypeViolations (plain_definitions resolver.now) (member_nodes (members_of members.now))) }
 {
     let mut best = MemberTypeViolations::none();
     for member in members {
-        let found = find_in_member(alloc, resolver, steps, &member.kind)?;
+        let found = find_in_member(alloc, resolver, &member.kind)?;
         best = earlier_violations(best, found);
     }
     Ok(best)
@@ -85,14 +83,13 @@ fn find_in_members<'a>(
 fn find_in_member<'a>(
     alloc: Global,
     resolver: &Resolver<'_, '_, 'a>,
-    steps: &mut usize,
     member: &'a MemberKind,
 ) -> Result<MemberTypeViolations, AllocError>
     ensures { IfOk result (AreMemberTypeViolations (plain_definitions resolver.now) (MemberNode (member_kind_of member.now) ∷ [])) }
 {
-    let other_value = other_value(alloc, resolver, steps, member)?;
-    let writable_promise = writable_promise(alloc, resolver, steps, member)?;
-    let other_stringifier = other_stringifier(alloc, resolver, steps, member)?;
+    let other_value = other_value(alloc, resolver, member)?;
+    let writable_promise = writable_promise(alloc, resolver, member)?;
+    let other_stringifier = other_stringifier(alloc, resolver, member)?;
     Ok(MemberTypeViolations {
         other_value,
         writable_promise,
@@ -104,13 +101,12 @@ fn find_in_member<'a>(
 fn other_value<'a>(
     alloc: Global,
     resolver: &Resolver<'_, '_, 'a>,
-    steps: &mut usize,
     member: &'a MemberKind,
 ) -> Result<Option<Violation>, AllocError>
     ensures { IfOk result (λ found. FirstWhere (HasOtherValue (plain_definitions resolver.now) (MemberNode (member_kind_of member.now))) found) }
 {
     match member {
-        MemberKind::Constant(constant) => other_constant_value(alloc, resolver, steps, constant),
+        MemberKind::Constant(constant) => other_constant_value(alloc, resolver, constant),
         MemberKind::Attribute(_)
         | MemberKind::Operation(_)
         | MemberKind::Constructor(_)
@@ -126,13 +122,12 @@ fn other_value<'a>(
 fn writable_promise<'a>(
     alloc: Global,
     resolver: &Resolver<'_, '_, 'a>,
-    steps: &mut usize,
     member: &'a MemberKind,
 ) -> Result<Option<Violation>, AllocError>
     ensures { IfOk result (λ found. FirstWhere (IsWritablePromise (plain_definitions resolver.now) (MemberNode (member_kind_of member.now))) found) }
 {
     match member {
-        MemberKind::Attribute(attribute) => promise_place(alloc, resolver, steps, attribute),
+        MemberKind::Attribute(attribute) => promise_place(alloc, resolver, attribute),
         MemberKind::Constant(_)
         | MemberKind::Operation(_)
         | MemberKind::Constructor(_)
@@ -148,7 +143,6 @@ fn writable_promise<'a>(
 fn promise_place<'a>(
     alloc: Global,
     resolver: &Resolver<'_, '_, 'a>,
-    steps: &mut usize,
     attribute: &'a Attribute,
 ) -> Result<Option<Violation>, AllocError>
     ensures { IfOk result (λ found. FirstWhere (IsWritablePromise (plain_definitions resolver.now) (MemberNode (AttributeMember (attribute_member_of attribute.now)))) found) }
@@ -156,7 +150,7 @@ fn promise_place<'a>(
     if attribute.readonly {
         return Ok(None);
     }
-    let ty = own_type(alloc, resolver, steps, attribute)?;
+    let ty = own_type(alloc, resolver, attribute)?;
     if is_promise(&ty) {
         Ok(Some(Violation::at(attribute.name.at)))
     } else {
@@ -174,13 +168,12 @@ fn is_promise(t: &IdlType) -> bool
 fn other_stringifier<'a>(
     alloc: Global,
     resolver: &Resolver<'_, '_, 'a>,
-    steps: &mut usize,
     member: &'a MemberKind,
 ) -> Result<Option<Violation>, AllocError>
     ensures { IfOk result (λ found. FirstWhere (IsOtherStringifier (plain_definitions resolver.now) (MemberNode (member_kind_of member.now))) found) }
 {
     match member {
-        MemberKind::Attribute(attribute) => stringifier_place(alloc, resolver, steps, attribute),
+        MemberKind::Attribute(attribute) => stringifier_place(alloc, resolver, attribute),
         MemberKind::Constant(_)
         | MemberKind::Operation(_)
         | MemberKind::Constructor(_)
@@ -196,7 +189,6 @@ fn other_stringifier<'a>(
 fn stringifier_place<'a>(
     alloc: Global,
     resolver: &Resolver<'_, '_, 'a>,
-    steps: &mut usize,
     attribute: &'a Attribute,
 ) -> Result<Option<Violation>, AllocError>
     ensures { IfOk result (λ found. FirstWhere (IsOtherStringifier (plain_definitions resolver.now) (MemberNode (AttributeMember (attribute_member_of attribute.now)))) found) }
@@ -204,7 +196,7 @@ fn stringifier_place<'a>(
     let AttributeKind::Stringifier(word) = attribute.kind else {
         return Ok(None);
     };
-    let ty = own_type(alloc, resolver, steps, attribute)?;
+    let ty = own_type(alloc, resolver, attribute)?;
     if is_unit_string(&ty) {
         Ok(None)
     } else {
@@ -216,12 +208,12 @@ fn stringifier_place<'a>(
 fn own_type<'a>(
     alloc: Global,
     resolver: &Resolver<'_, '_, 'a>,
-    steps: &mut usize,
     attribute: &'a Attribute,
 ) -> Result<IdlType, AllocError>
     ensures { IfOk result (λ t. type_term t ≡ meaning_of_annotated (plain_definitions resolver.now) [] (annotated_of attribute.now.ty)) }
 {
-    resolver.resolve_with(alloc, steps, &[], &attribute.ty)
+    let mut room = MOST_TYPES;
+    resolver.resolve_with(alloc, &mut room, &[], &attribute.ty)
 }
 
 /// Of each rule the earlier violation.

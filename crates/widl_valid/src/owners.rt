@@ -44,7 +44,6 @@ pub fn find_in_owners<'a>(
     meanings: &Meanings<'_, 'a>,
     parts: &Parts<'_, 'a>,
     resolver: &Resolver<'_, '_, 'a>,
-    steps: &mut usize,
 ) -> Result<MemberViolations, AllocError>
     requires same { parts.now ≡ meanings.now }
     requires resolved { resolver.now ≡ meanings.now }
@@ -54,7 +53,7 @@ pub fn find_in_owners<'a>(
     let definitions = meanings.all();
     for (number, definition) in definitions.iter().enumerate() {
         let kind = &definition.kind;
-        let found = find_in_owner(alloc, meanings, parts, resolver, steps, number, kind)?;
+        let found = find_in_owner(alloc, meanings, parts, resolver, number, kind)?;
         best = earlier_violations(best, found);
     }
     Ok(best)
@@ -67,7 +66,6 @@ fn find_in_owner<'a>(
     meanings: &Meanings<'_, 'a>,
     parts: &Parts<'_, 'a>,
     resolver: &Resolver<'_, '_, 'a>,
-    steps: &mut usize,
     number: usize,
     kind: &DefinitionKind,
 ) -> Result<MemberViolations, AllocError>
@@ -79,7 +77,7 @@ fn find_in_owner<'a>(
     if is_owner(meanings, number, kind) {
         let list = parts.list(alloc, number)?;
         let members = list_members(alloc, &list)?;
-        find_in_members(alloc, resolver, steps, kind_of(kind), &members)
+        find_in_members(alloc, resolver, kind_of(kind), &members)
     } else {
         Ok(MemberViolations::none())
     }
@@ -123,7 +121,6 @@ fn is_interface(kind: Kind) -> bool
 fn find_in_members<'a>(
     alloc: Global,
     resolver: &Resolver<'_, '_, 'a>,
-    steps: &mut usize,
     kind: Kind,
     members: &[&'a Member],
 ) -> Result<MemberViolations, AllocError>
@@ -132,7 +129,7 @@ fn find_in_members<'a>(
 {
     let repeated = first_repeated_member(alloc, members)?;
     let overload = first_overload_past_limit(alloc, members)?;
-    let promise = first_mixing_promises(alloc, resolver, steps, members)?;
+    let promise = first_mixing_promises(alloc, resolver, members)?;
     Ok(MemberViolations {
         repeated,
         kept_name: find_kept_name(kind, members),

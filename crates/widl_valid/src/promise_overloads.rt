@@ -13,7 +13,7 @@ use crate::owner_members::is_static;
 use std::alloc::{AllocError, Global};
 use widl_idl::tree::{Member, MemberKind, Operation};
 use widl_idl::{IdlType, Violation, earlier_violation};
-use widl_names::Resolver;
+use widl_names::{MOST_TYPES, Resolver};
 
 /// The names of operations, by what they return.
 #[derive(Drop)]
@@ -33,7 +33,6 @@ struct ReturnedKinds<'a> {
 pub fn first_mixing_promises<'a>(
     alloc: Global,
     resolver: &Resolver<'_, '_, 'a>,
-    steps: &mut usize,
     members: &[&'a Member],
 ) -> Result<Option<Violation>, AllocError>
     ensures { IfOk result (λ found. FirstWhere (AtOne (MixesPromises (plain_definitions resolver.now)) (listed_members members.now)) found) }
@@ -41,7 +40,7 @@ pub fn first_mixing_promises<'a>(
     let mut names = ReturnedKinds::new(alloc);
     let mut best = None;
     for member in members {
-        let promise = gives_promise(alloc, resolver, steps, &member.kind)?;
+        let promise = gives_promise(alloc, resolver, &member.kind)?;
         let found = names.differing(promise, &member.kind);
         best = earlier_violation(best, found);
         names.add(promise, &member.kind)?;
@@ -53,13 +52,12 @@ pub fn first_mixing_promises<'a>(
 fn gives_promise<'a>(
     alloc: Global,
     resolver: &Resolver<'_, '_, 'a>,
-    steps: &mut usize,
     kind: &'a MemberKind,
 ) -> Result<bool, AllocError>
     ensures { IfOk result (λ promise. promise ≡ gives_promise (plain_definitions resolver.now) (member_kind_of kind.now)) }
 {
     match kind {
-        MemberKind::Operation(operation) => returns_promise(alloc, resolver, steps, operation),
+        MemberKind::Operation(operation) => returns_promise(alloc, resolver, operation),
         _ => Ok(false),
     }
 }
@@ -67,12 +65,12 @@ fn gives_promise<'a>(
 fn returns_promise<'a>(
     alloc: Global,
     resolver: &Resolver<'_, '_, 'a>,
-    steps: &mut usize,
     operation: &'a Operation,
 ) -> Result<bool, AllocError>
     ensures { IfOk result (λ promise. promise ≡ returns_promise (plain_definitions resolver.now) (operation_of operation.now)) }
 {
-    let returned = resolver.resolve_alone(alloc, steps, &operation.result)?;
+    let mut room = MOST_TYPES;
+    let returned = resolver.resolve_alone(alloc, &mut room, &operation.result)?;
     Ok(is_promise(&returned))
 }
 

@@ -9,7 +9,7 @@ use crate::type_uses::{TypeUse, list_type_uses};
 use std::alloc::{AllocError, Global};
 use widl_idl::IdlType;
 use widl_idl::tree::DefinitionKind;
-use widl_names::{Annotations, Resolver};
+use widl_names::{Annotations, MOST_TYPES, Resolver};
 
 /// A type as it is written, with what it means there.
 #[derive(Drop)]
@@ -24,11 +24,10 @@ pub struct ResolvedUse<'a> {
 ///
 /// # Errors
 ///
-/// Those of [`Resolver::resolve`], which also says what `steps` bounds.
+/// Those of [`Resolver::resolve`] for at most [`MOST_TYPES`].
 pub fn resolve_uses<'a>(
     alloc: Global,
     resolver: &Resolver<'_, '_, 'a>,
-    steps: &mut usize,
     kind: &'a DefinitionKind,
 ) -> Result<Vec<ResolvedUse<'a>>, AllocError>
     ensures { IfOk result (λ list. map resolved_use list.items ≡ map (with_meaning (plain_definitions resolver.now)) (uses_in_definition (definition_kind_of kind.now))) }
@@ -36,7 +35,7 @@ pub fn resolve_uses<'a>(
     let uses = list_type_uses(alloc, kind)?;
     let mut resolved = Vec::new(alloc);
     for written in uses.iter() {
-        resolved.push(resolve_use(alloc, resolver, steps, written)?)?;
+        resolved.push(resolve_use(alloc, resolver, written)?)?;
     }
     Ok(resolved)
 }
@@ -45,14 +44,14 @@ pub fn resolve_uses<'a>(
 fn resolve_use<'a>(
     alloc: Global,
     resolver: &Resolver<'_, '_, 'a>,
-    steps: &mut usize,
     written: &TypeUse<'a>,
 ) -> Result<ResolvedUse<'a>, AllocError>
     ensures { IfOk result (λ resolved. resolved_use resolved ≡ with_meaning (plain_definitions resolver.now) (use_of written.now)) }
 {
     let outer = Annotations::of(written.outer);
     let own = Annotations::of(written.own);
-    let meaning = resolver.resolve(alloc, steps, outer.followed_by(own), written.ty)?;
+    let mut room = MOST_TYPES;
+    let meaning = resolver.resolve(alloc, &mut room, outer.followed_by(own), written.ty)?;
     Ok(ResolvedUse {
         written: *written,
         meaning,

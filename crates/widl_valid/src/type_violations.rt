@@ -54,14 +54,12 @@ pub struct TypeViolations {
 ///
 /// # Errors
 ///
-/// `AllocError` where there is no memory, and the errors of [`Resolver::resolve`] and
-/// [`first_clamp_and_enforce`].
+/// `AllocError` where there is no memory, and the errors of [`Resolver::resolve`].
 pub fn find_in_types<'a>(
     alloc: Global,
     defs: &Defs,
     meanings: &Meanings<'_, 'a>,
     resolver: &Resolver<'_, '_, 'a>,
-    steps: &mut usize,
 ) -> Result<TypeViolations, AllocError>
     requires { resolver.now ≡ meanings.now }
     ensures { IfOk result (AreTypeViolations defs.now.ifaces (plain_definitions meanings.now) (all_uses (plain_definitions meanings.now))) }
@@ -71,9 +69,9 @@ pub fn find_in_types<'a>(
     let mut best = TypeViolations::none();
     let definitions = meanings.all();
     for definition in definitions {
-        let resolved = resolve_uses(alloc, resolver, steps, &definition.kind)?;
+        let resolved = resolve_uses(alloc, resolver, &definition.kind)?;
         let uses = resolved.as_slice();
-        let found = find_in_uses(alloc, defs, &lineages, meanings, &chains, steps, uses)?;
+        let found = find_in_uses(alloc, defs, &lineages, meanings, &chains, uses)?;
         best = earlier_violations(best, found);
     }
     Ok(best)
@@ -86,7 +84,6 @@ fn find_in_uses<'a>(
     lineages: &Lineages,
     meanings: &Meanings<'_, 'a>,
     chains: &TypedefChains<'a>,
-    steps: &mut usize,
     uses: &[ResolvedUse<'a>],
 ) -> Result<TypeViolations, AllocError>
     requires lineages { TellRelated defs.now.ifaces lineages.now.spans.items }
@@ -94,7 +91,6 @@ fn find_in_uses<'a>(
     ensures { IfOk result (AreTypeViolations defs.now.ifaces (plain_definitions meanings.now) (map resolved_use uses.now)) }
 {
     let indistinguishable_union = first_indistinguishable_union(alloc, defs, lineages, uses)?;
-    let clamp_and_enforce = first_clamp_and_enforce(meanings, chains, steps, uses)?;
     Ok(TypeViolations {
         other_constant_type: first_other_constant_type(uses),
         copied_attribute: first_copied_attribute(uses),
@@ -105,7 +101,7 @@ fn find_in_uses<'a>(
         annotated_member: first_annotated_member(uses),
         nullable_dictionary: first_nullable_dictionary(uses),
         misplaced_annotation: first_misplaced_annotation(uses),
-        clamp_and_enforce,
+        clamp_and_enforce: first_clamp_and_enforce(meanings, chains, uses),
         indistinguishable_union,
     })
 }

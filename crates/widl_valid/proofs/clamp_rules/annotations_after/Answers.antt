@@ -9,11 +9,11 @@ use Rattle.widl_valid.proofs.clamp_rules.annotations_after.Goals as goal
 pub loop-next-preserved : goal.loop-next-preserved
 loop-next-preserved c =
     let definitions = plain_definitions c.args.meanings.now in
-    let found = subst (Leads definitions c.loop-next.left (form_term c.loop-next.form.now)) c.in-Some.is c.in_ok-next.ensures in
+    let found = subst (Leads definitions c.loop-next.left (form_term c.loop-next.form.now)) c.in-Some.is c.next_end.ensures in
     gathered_more _ (notes_from definitions c.loop-next.left (form_term c.loop-next.form.now)) _ found.notes c.loop-next.said c.in-Some.next.said _ c.loop-next.invariant found.same found.earliest c.followed_by-said.ensures
 
 pub returns : goal.returns
 returns c =
     let definitions = plain_definitions c.args.meanings.now in
-    let none = subst (Leads definitions c.loop-next.left (form_term c.loop-next.form.now)) c.in_default.is c.in_ok-next.ensures in
+    let none = subst (Leads definitions c.loop-next.left (form_term c.loop-next.form.now)) c.in_default.is c.next_end.ensures in
     gathered_all _ (notes_from definitions c.loop-next.left (form_term c.loop-next.form.now)) c.loop-next.said c.loop-next.invariant none

@@ -18,7 +18,7 @@ returns c =
     let after = notes_from definitions c.args.chains.now.levels (form_term written.ty.now.form) in
     let is : type_of written.ty.now ≡ plain_type written.ty.now.at (form_term written.ty.now.form) written.ty.now.question = search (rules, the_lemmas) in
     let before = c.followed_by.ensures (notes_of outer) (notes_of own) c.of-outer.ensures c.of-own.ensures in
-    let all = c.followed_by-2.ensures (notes_of outer ++ notes_of own) after before c.in_ok-after.ensures in
+    let all = c.followed_by-2.ensures (notes_of outer ++ notes_of own) after before c.annotations_after-after.ensures in
     subst (λ notes. FirstWhere (HasBoth notes) c.later.result)
     (whole_notes definitions c.args.chains.now.levels outer own (type_of written.ty.now) (form_term written.ty.now.form) written.ty.now.at written.ty.now.question is
     ∙ ap (λ n. notes_of (outer ++ own) ++ notes_in (notes_after (typedefs definitions) n) (written_type definitions (type_of written.ty.now))) c.requires.1)

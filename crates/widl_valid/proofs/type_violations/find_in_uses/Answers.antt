@@ -11,6 +11,6 @@ returns c = record {
   annotated_member = c.first_annotated_member.ensures;
   nullable_dictionary = c.first_nullable_dictionary.ensures;
   misplaced_annotation = c.first_misplaced_annotation.ensures;
-  clamp_and_enforce = c.in_ok-clamp_and_enforce.ensures;
+  clamp_and_enforce = c.first_clamp_and_enforce.ensures;
   indistinguishable_union = c.in_ok-indistinguishable_union.ensures;
 }

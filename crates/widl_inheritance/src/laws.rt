@@ -1,0 +1,14 @@
+//! A law on inheritance: a function that takes no step, whose contract is the law.
+
+ghost use Rattle.std.specs.Prelude.{◌≡◌, ◌↔◌, ℕ, List, true};
+ghost use Rattle.widl_graph.specs.Reaching.{Reaches};
+ghost use Rattle.widl_idl.specs.declared.interface.Iface.{Iface as IfaceType};
+ghost use Rattle.widl_inheritance.specs.InterfaceParents.{interface_parents};
+ghost use Rattle.widl_inheritance.specs.ReachedFlags.{IsAcyclic};
+ghost use Rattle.widl_overload.specs.Inheritance.{inherits};
+
+/// An interface inherits from another one exactly where it reaches it through parents, in each list in which
+/// none inherits from itself.
+pub fn inherits_through_parents()
+    ensures { (ifaces : List IfaceType) → IsAcyclic (interface_parents ifaces) → (m n : ℕ) → (inherits ifaces m n ≡ true) ↔ Reaches (interface_parents ifaces) m n }
+{}
