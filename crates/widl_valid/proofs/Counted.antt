@@ -95,5 +95,10 @@ counted_step overloads now_overloads constructors now_constructors members i m b
       earliest = members_step HasOverloadPastLimit members i m best found now below is e (past_first overloads constructors before r.operations r.made kind found f) r.earliest;
     }
 
+-- a count that is no more than the members before
+pub within_next : (b : Bool) (old now i : ℕ) → now ≡ cond b (old + 1) old → old ≤ i → now ≤ i + 1
+within_next true old now i e below = omega (arith, e, below)
+within_next false old now i e below = omega (arith, e, below)
+
 pub counted_end : (overloads : List ℕ → Bool → ℕ) (constructors : ℕ) (members : List (Bor Member)) (i : ℕ) (best : Option Violation) → length members ≤ i → Counted overloads constructors (listed_members (take i members)) best → FirstWhere (AtOne HasOverloadPastLimit (listed_members members)) best
 counted_end overloads constructors members i best past r = members_end HasOverloadPastLimit members i best past r.earliest

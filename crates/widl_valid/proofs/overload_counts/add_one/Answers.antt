@@ -4,4 +4,4 @@ use Rattle.widl_valid.proofs.Counted.{count_kept}
 use Rattle.widl_valid.proofs.overload_counts.add_one.Goals as goal
 
 pub returns : goal.returns
-returns c = λ other. count_kept c.args.counts.now c.insert.new.self c.args.text.now other c.in_ok-count.count (search rules) (hash_map_updates_str c.args.text.now c.args.counts.now c.insert.new.self _ c.in_ok-insert.ensures.updates other)
+returns c = λ other. count_kept c.args.counts.now c.insert.new.self c.args.text.now other _ (search rules) (hash_map_updates_str c.args.text.now c.args.counts.now c.insert.new.self _ c.in_ok-insert.ensures.updates other)

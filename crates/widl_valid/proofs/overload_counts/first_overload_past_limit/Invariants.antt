@@ -1,7 +1,10 @@
-use Rattle.std.proofs.Common.{take}
+use Rattle.std.proofs.Common.{ℕ, ◌≤◌, Bool, List, take}
 use Rattle.widl_valid.specs.MemberTables.{listed_members, overload_count}
 use Rattle.widl_valid.proofs.Counted.{Counted}
 use Rattle.widl_valid.proofs.overload_counts.first_overload_past_limit.Given as goal
 
 abbrev pub invariant-loop-member : goal.invariant-loop-member
-invariant-loop-member l = Counted (overload_count l.counts.operations.regular l.counts.operations.fixed) l.counts.constructors (listed_members (take l.member-index l.members)) l.best
+invariant-loop-member l =
+    Counted (overload_count l.counts.operations.regular l.counts.operations.fixed) l.counts.constructors (listed_members (take l.member-index l.members)) l.best
+    × ((text : List ℕ) (static : Bool) → overload_count l.counts.operations.regular l.counts.operations.fixed text static ≤ l.member-index)
+    × (l.counts.constructors ≤ l.member-index)
