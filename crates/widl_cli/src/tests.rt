@@ -22,6 +22,7 @@ mod profile;
 mod runs;
 mod scripts;
 mod served;
+mod sizes;
 mod validity;
 
 const FRAGMENT: &str = "namespace N { undefined f(octet a); };";

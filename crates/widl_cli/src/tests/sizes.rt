@@ -1,0 +1,135 @@
+//! Sets of files that say much in few bytes, or one thing in many: each has its answer, and none is too much
+//! for the memory of a machine.
+
+use super::words_of;
+use crate::{Files, MemoryFolder, NamedFile, Status, widl};
+use std::alloc::{AllocError, Global};
+use std::process::Abort;
+use std::test::Fail;
+use widl_sink::{MemorySink, Numbers};
+
+/// A fragment: texts, each of which comes so many times, with the number of the time in place of each `#`.
+type Parts = &'static [(&'static str, usize)];
+
+fn fragment_of(alloc: Global, parts: Parts) -> Result<Vec<u8>, AllocError> {
+    let mut fragment = Vec::new(alloc);
+    for (text, count) in parts {
+        for number in 0..*count {
+            add_numbered(alloc, &mut fragment, text, number)?;
+        }
+    }
+    Ok(fragment)
+}
+
+fn add_numbered(
+    alloc: Global,
+    fragment: &mut Vec<u8>,
+    text: &str,
+    number: usize,
+) -> Result<(), AllocError> {
+    let digits = format!(in alloc; "{number}")?;
+    for byte in text.as_bytes() {
+        if *byte == b'#' {
+            fragment.extend_from_slice(digits.as_bytes())?;
+        } else {
+            fragment.push(*byte)?;
+        }
+    }
+    Ok(())
+}
+
+/// Checks a fragment, and compares the status and the bytes.
+fn expect_size(
+    rt: &impl Abort,
+    alloc: Global,
+    parts: Parts,
+    status: Status,
+    text: &str,
+) -> Result<(), Fail> {
+    let mut files = Files::new(alloc);
+    let name = String::from_str(alloc, "a.idl")?;
+    files.push(NamedFile::new(name, fragment_of(alloc, parts)?))?;
+    let mut folder = MemoryFolder::new(files, Numbers::new(alloc));
+    let mut out = MemorySink::new(alloc, 1_000, 1_000, Numbers::new(alloc))?;
+    let words = words_of(alloc, &["check", "a.idl"])?;
+    assert_eq!(rt; widl(alloc, &words, &mut folder, &mut out), status);
+    assert_eq!(rt; out.held(), text.as_bytes());
+    Ok(())
+}
+
+/// A chain of typedefs with more `?`s than any list of definitions keeps.
+const QUESTIONS: Parts = &[
+    (
+        "typedef long? A; typedef A? B; typedef B? C; typedef C? D; typedef D? E; typedef E? F; ",
+        1,
+    ),
+    (
+        "typedef F? G; typedef G? H; typedef H? I; typedef I? J; typedef J? K; typedef K? L; ",
+        1,
+    ),
+    (
+        "typedef L? M; typedef M? N; typedef N? O; typedef O? P; typedef P? Q; typedef Q? R; ",
+        1,
+    ),
+    ("namespace S { undefined f(R a); };", 1),
+];
+
+/// A long name, which many types lead to.
+const LONG_NAME: Parts = &[
+    ("typedef long ", 1),
+    ("T", 100_000),
+    ("; typedef ", 1),
+    ("T", 100_000),
+    (" U; namespace N {\n", 1),
+    ("undefined f#(U a);\n", 5_000),
+    ("};", 1),
+];
+
+/// A long text, which each member of a long union might have.
+const LONG_TEXT: Parts = &[
+    ("interface I# {};\n", 20_000),
+    ("dictionary D { (", 1),
+    ("I# or ", 20_000),
+    ("DOMString) a = \"", 1),
+    ("x", 80_000),
+    ("\"; };", 1),
+];
+
+/// A type that doubles with each typedef.
+const DOUBLED: Parts = &[
+    ("typedef DOMString T0;\n", 1),
+    ("typedef (sequence<T0> or record<DOMString, T0>) T1;\n", 1),
+    ("typedef (sequence<T1> or record<DOMString, T1>) T2;\n", 1),
+    ("typedef (sequence<T2> or record<DOMString, T2>) T3;\n", 1),
+    ("typedef (sequence<T3> or record<DOMString, T3>) T4;\n", 1),
+    ("typedef (sequence<T4> or record<DOMString, T4>) T5;\n", 1),
+    ("typedef (sequence<T5> or record<DOMString, T5>) T6;\n", 1),
+    ("typedef (sequence<T6> or record<DOMString, T6>) T7;\n", 1),
+    ("namespace N {\n", 1),
+    ("undefined f#(T7 a);\n", 4_000),
+    ("};", 1),
+];
+
+/// Eight million members, all of which are mixed in.
+const MIXED_IN: Parts = &[
+    ("interface mixin M {\n", 1),
+    ("undefined o#();\n", 1_000),
+    ("};\n", 1),
+    ("interface I# {};\nI# includes M;\n", 8_001),
+];
+
+#[test]
+fn sets_of_any_size_have_their_answer(rt: HostRuntime) -> Result<(), Fail> {
+    let alloc = rt.alloc();
+    let rows = [
+        (QUESTIONS, Status::Refused, "refused 21 0 26\n"),
+        (LONG_NAME, Status::Done, "accepted\n"),
+        (LONG_TEXT, Status::Done, "accepted\n"),
+        (DOUBLED, Status::Done, "accepted\n"),
+        (MIXED_IN, Status::Refused, "refused 48 0 53640\n"),
+    ];
+    for (parts, status, text) in rows {
+        expect_size(&rt, alloc, parts, status, text)?;
+    }
+    Ok(())
+}
