@@ -273,6 +273,11 @@ fn the_least_fault_of_a_set_is_named(rt: HostRuntime) -> Result<(), Fail> {
             "",
             "refused deep 0 152\n",
         ),
+        (
+            "typedef Promise<Promise<Promise<Promise<Promise<Promise<Promise<Promise<Promise<Promise<Promise<Promise<Promise<Promise<Promise<Promise<any>>>>>>>>>>>>>>>> T;",
+            "",
+            "refused deep 0 136\n",
+        ),
         (FRAGMENT, FRAGMENT, "refused 1 1 10\n"),
     ];
     for (first, second, text) in rows {

@@ -35,6 +35,10 @@ fn overloads_that_cannot_be_told_apart_are_refused(rt: HostRuntime) -> Result<()
             "namespace N { undefined f(long... a); undefined f(long a, long b); };",
             "refused 35 0 48 other 0 24\n",
         ),
+        (
+            "dictionary D { required long x; }; namespace N { undefined f(T a); undefined f(D a); }; typedef (long? or boolean?) T;",
+            "refused 35 0 77 other 0 59\n",
+        ),
     ];
     expect_rows(&rt, rt.alloc(), &rows)
 }

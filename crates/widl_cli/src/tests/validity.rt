@@ -21,6 +21,10 @@ fn each_rule_on_definitions_and_members_is_broken_at_its_place(
             "refused 14 0 31\n",
         ),
         (
+            "namespace N { undefined f(); undefined f(long... a, optional long b); };",
+            "refused 14 0 45\n",
+        ),
+        (
             "namespace N { undefined f(optional octet a, octet b); };",
             "refused 15 0 50\n",
         ),
