@@ -15,7 +15,7 @@ use std::alloc::{AllocError, Global};
 use thiserror::Error;
 use widl_idl::tree::Definition;
 use widl_idl::{Defs, Fragment, Fragments, Merged, Refusal};
-use widl_names::{Meanings, Node, list_definitions, list_nodes, steps_of};
+use widl_names::{MOST_TYPES, Meanings, Node, list_definitions, list_nodes};
 
 /// Why a set of files has no merged list.
 #[derive(Clone, Copy, Debug, PartialEq, Eq, Error)]
@@ -47,7 +47,7 @@ impl From<AllocError> for MergeFault {
 ///
 /// `Refused` with the first refusal: by the rules of the profile, or, where none of these is broken, by
 /// the rules of merging. `Memory` where there is no memory, also where 32 bits can't number what is in
-/// the list, or where resolving its types takes more steps than [`steps_of`] allows.
+/// the list, or where more than [`MOST_TYPES`] types stand in the types of its typedefs.
 pub fn merge(alloc: Global, fragments: Fragments) -> Result<Merged, MergeFault>
     requires { AreFiles fragments }
     ensures fragments { IfOk result (λ m. m.fragments ≡ fragments) }
@@ -65,7 +65,7 @@ fn merge_files(alloc: Global, fragments: &[Fragment]) -> Result<Defs, MergeFault
 {
     let definitions = list_definitions(alloc, fragments)?;
     let nodes = list_nodes(alloc, &definitions)?;
-    merge_listed(alloc, &definitions, &nodes, steps_of(fragments))
+    merge_listed(alloc, &definitions, &nodes)
 }
 
 /// The same, where the definitions and everything that is written in them are listed.
@@ -73,7 +73,6 @@ fn merge_listed(
     alloc: Global,
     definitions: &[&Definition],
     nodes: &[Node<'_>],
-    steps: usize,
 ) -> Result<Defs, MergeFault>
     requires { nodes_listed nodes.now ≡ nodes_of (listed_definitions definitions.now) }
     ensures merged { IfOk result (λ defs. AreMerged (listed_definitions definitions.now) defs) }
@@ -82,20 +81,16 @@ fn merge_listed(
     let found = find_in_nodes(alloc, definitions, nodes)?;
     match found {
         Some(refusal) => Err(MergeFault::Refused(refusal)),
-        None => Ok(merge_unbroken(alloc, definitions, steps)?),
+        None => Ok(merge_unbroken(alloc, definitions)?),
     }
 }
 
 /// The merged list of definitions that break no rule.
-fn merge_unbroken(
-    alloc: Global,
-    definitions: &[&Definition],
-    steps: usize,
-) -> Result<Defs, AllocError>
+fn merge_unbroken(alloc: Global, definitions: &[&Definition]) -> Result<Defs, AllocError>
     requires { IsRefusal (listed_definitions definitions.now) None }
     ensures { IfOk result (λ defs. AreMerged (listed_definitions definitions.now) defs) }
 {
-    let mut left = steps;
+    let mut left = MOST_TYPES;
     let meanings = Meanings::of(alloc, definitions)?;
     merge_definitions(alloc, &meanings, &mut left)
 }

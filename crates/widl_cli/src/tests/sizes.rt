@@ -118,24 +118,6 @@ const MIXED_IN: Parts = &[
     ("interface I# {};\nI# includes M;\n", 8_001),
 ];
 
-/// Few overloads of many arguments.
-const ELLIPSIS: Parts = &[
-    ("namespace N { undefined f(any... a); undefined f(", 1),
-    ("any a#,", 29_999),
-    ("any b); };", 1),
-];
-
-/// Many arguments, all of which are mixed in.
-const ARGUMENTS: Parts = &[
-    ("interface mixin M {\n", 1),
-    (
-        "undefined o#(long a,long b,long c,long d,long e,long f,long g,long h,long i,long j,long k,long l,long m,long n,long o,long p,long q,long r,long s,long t,long u,long v,long w,long x);\n",
-        1_000,
-    ),
-    ("};\n", 1),
-    ("interface I# {};\nI# includes M;\n", 998),
-];
-
 /// A long name, which is mixed into many interfaces.
 const LONG_OPERATION: Parts = &[
     ("interface mixin M { undefined ", 1),
@@ -153,27 +135,10 @@ fn sets_of_any_size_have_their_answer(rt: HostRuntime) -> Result<(), Fail> {
         (LONG_TEXT, Status::Done, "accepted\n"),
         (DOUBLED, Status::Done, "accepted\n"),
         (MIXED_IN, Status::Refused, "refused 48 0 53640\n"),
-    ];
-    for (parts, status, text) in rows {
-        expect_size(&rt, alloc, parts, status, text)?;
-    }
-    Ok(())
-}
-
-#[test]
-fn what_is_mixed_in_often_is_kept_once(rt: HostRuntime) -> Result<(), Fail> {
-    let alloc = rt.alloc();
-    let rows = [
-        (ELLIPSIS, Status::Refused, "refused 35 0 47 other 0 24\n"),
         (LONG_OPERATION, Status::Done, "accepted\n"),
     ];
     for (parts, status, text) in rows {
         expect_size(&rt, alloc, parts, status, text)?;
     }
     Ok(())
-}
-
-#[test]
-fn many_arguments_are_mixed_in(rt: HostRuntime) -> Result<(), Fail> {
-    expect_size(&rt, rt.alloc(), ARGUMENTS, Status::Done, "accepted\n")
 }

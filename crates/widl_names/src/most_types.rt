@@ -1,13 +1,6 @@
 //! How many types typedefs may make.
 
-use widl_idl::Fragment;
-
 /// The most types that stand in the types of typedefs, wherever these are used in one list of
 /// definitions. Typedefs of typedefs can make types that grow far faster than their source, so that a short
 /// file means a list for which no machine has the memory.
 pub const MOST_TYPES: usize = 100_000_000;
-
-/// How many types typedefs may make in the merged list of these files.
-pub fn steps_of(_fragments: &[Fragment]) -> usize {
-    MOST_TYPES
-}
