@@ -33,6 +33,6 @@ other_line (events.StopProfile number) other = refl
 
 pub returns : goal.returns
 returns c = λ p s. elim c.match-event.branch [
-    | in-Error w ↦ ap (move_of p s) w.result-is ∙ ap throws_by (sym w.in-Error.is)
-    | in_default w ↦ ap (move_of p s) w.result-is ∙ w.ends.ensures p s ∙ other_line c.args.event w.in_default.not-Error
-  ]
+  | in-Error w ↦ ap (move_of p s) w.result-is ∙ ap throws_by (sym w.in-Error.is)
+  | in_default w ↦ ap (move_of p s) w.result-is ∙ w.ends.ensures p s ∙ other_line c.args.event w.in_default.not-Error
+]
