@@ -64,6 +64,8 @@ def hostile():
         "35,000 interfaces below one iterable": pack(["interface A0{iterable<long,long>;};"] + numbered("interface A{next}:A{this}{{}};", 35_000)),
         "a union of 30,000 interfaces": pack(["".join(numbered("interface A{this}{{}};", 30_000)) + "typedef (" + " or ".join(numbered("A{this}", 30_000)) + ") T;"]),
         "20 names of 64 overloads of 64 arguments": pack(["".join(numbered("interface I{this}{{}};", 64))] + numbered("namespace N{this}{{" + overloads + "}};", 20)),
+        "an ellipsis beside 30,000 arguments": pack(["namespace N {undefined f(any... a);undefined f(" + ",".join(numbered("any a{this}", 30_000)) + ");};"]),
+        "30,000 ellipses beside 10,000 arguments": pack(["namespace N {" + "undefined f(any... a);" * 30_000 + "undefined f(" + ",".join(numbered("any a{this}", 10_000)) + ");};"]),
         "10 names of 64 overloads, 63 arguments of each optional": pack(["".join(numbered("interface I{this}{{}};", 64))] + numbered("namespace N{this}{{" + shortened + "}};", 10)),
     }
 

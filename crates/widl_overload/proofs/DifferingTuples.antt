@@ -1,22 +1,17 @@
 -- Tuples that differ before an index, and the smallest length at which a rule on overloads is broken.
-use Rattle.std.proofs.Common.{◌≡◌, inl, inr, ℕ, ◌+◌, ◌<◌, ◌++◌, Bool, true, false, cond, List, [], ◌∷◌, length, take, get_or, arith, below_more, refl, sym, subst, ◌∙◌}
+use Rattle.std.proofs.Common.{◌≡◌, inl, inr, ℕ, ◌+◌, ◌<◌, Bool, true, false, List, [], ◌∷◌, arith, below_more, sym, subst, ◌∙◌}
 use Rattle.std.specs.Prelude.{None, Option, Some, MatchBool, MatchOption, Contains, slice_get}
 use Rattle.std.specs.List.{All}
-use Rattle.std.proofs.lemmas.List.Elements.{All-contains, All-append, All-cons, All-nil}
+use Rattle.std.proofs.lemmas.List.Elements.{All-contains}
 use Rattle.std.proofs.lemmas.Option.{slice_get_within, get_or_from_slice_get}
 use Rattle.widl_idl.specs.declared.interface.Iface.{Iface}
-use Rattle.widl_overload.specs.declared.tuple.Tuple.{Tuple}
-use Rattle.widl_overload.specs.Index.{IsIndex, has_length, of_one_length, distinguishes, terms_of_length}
+use Rattle.widl_overload.specs.Index.{IsIndex, of_one_length, distinguishes}
 use Rattle.widl_overload.specs.OverloadRules.{DifferEarly}
 use Rattle.widl_overload.specs.OverloadViolations.{AgreeBefore, DifferBefore, DiffersFromOne, IsSmallest, IsSmallestBelow, TwoDiffer}
-use Rattle.widl_overload.specs.Sets.{TupleTerm, tuple_term}
-use Rattle.widl_overload.proofs.OneLength.{term_listed, terms_more}
+use Rattle.widl_overload.specs.Sets.{TupleTerm}
 
 pub when_true : (b : Bool) (P Q : Type 0) → b ≡ true → MatchBool b P Q → P
 when_true b P Q e h = subst (λ c. MatchBool c P Q) e h
-
-pub when_false : (b : Bool) (P Q : Type 0) → b ≡ false → MatchBool b P Q → Q
-when_false b P Q e h = subst (λ c. MatchBool c P Q) e h
 
 -- one number more
 pub smallest_more : (P : ℕ → Type 0) (m : ℕ) (found now : Option ℕ) (broken : Bool) → IsSmallestBelow P m found → MatchBool broken (P m) (P m → ⊥) → MatchOption found (MatchBool broken (now ≡ Some m) (now ≡ None)) (λ n. now ≡ Some n) → IsSmallestBelow P (m + 1) now
@@ -37,8 +32,11 @@ no_first (u ∷ tuples) t e c = cc
 pub none_differ : (index : ℕ) (tuples : List TupleTerm) → None ≡ slice_get tuples 0 → TwoDiffer index tuples → ⊥
 none_differ index tuples e d = no_first tuples d.one e d.one_listed
 
-first_listed : (tuples : List TupleTerm) (t : TupleTerm) → Some t ≡ slice_get tuples 0 → Contains tuples t
-first_listed tuples t e = (0, slice_get_within tuples 0 t (sym e), get_or_from_slice_get tuples 0 t t (sym e))
+pub first_listed : {X : Type 0} (xs : List X) (x : X) → Some x ≡ slice_get xs 0 → Contains xs x
+first_listed xs x e = (0, slice_get_within xs 0 x (sym e), get_or_from_slice_get xs 0 x x (sym e))
+
+pub not_both : (b : Bool) → b ≡ true → b ≡ false → ⊥
+not_both b e f = cc
 
 agreeing : (index : ℕ) (first t u : TupleTerm) → AgreeBefore index first t → AgreeBefore index first u → DifferBefore index t u → ⊥
 agreeing index first t u a b d = elim d.differ [
@@ -51,22 +49,7 @@ pub differ_by_first : (index : ℕ) (tuples : List TupleTerm) (first : TupleTerm
 differ_by_first index tuples first true e d = record { one = first; other = d.other; one_listed = first_listed tuples first e; other_listed = d.listed; differ = d.differ }
 differ_by_first index tuples first false e all = λ d. agreeing index first d.one d.other (All-contains (AgreeBefore index first) tuples d.one all d.one_listed) (All-contains (AgreeBefore index first) tuples d.other all d.other_listed) d.differ
 
-one_agrees : (index : ℕ) (first t : TupleTerm) (tuples : List TupleTerm) (b : Bool) → (b ≡ true → AgreeBefore index first t) → All (AgreeBefore index first) tuples → All (AgreeBefore index first) (tuples ++ cond b (t ∷ []) [])
-one_agrees index first t tuples true h all = All-append (AgreeBefore index first) tuples (t ∷ []) all (All-cons (AgreeBefore index first) t [] (h refl) (All-nil (AgreeBefore index first)))
-one_agrees index first t tuples false h all = All-append (AgreeBefore index first) tuples [] all (All-nil (AgreeBefore index first))
-
--- one tuple more, which agrees if it has the length
-pub agree_more : (index m i : ℕ) (first : TupleTerm) (tuples : List Tuple) (t : Tuple) → i < length tuples → t ≡ get_or tuples i t → (has_length m (tuple_term t) ≡ true → AgreeBefore index first (tuple_term t)) → All (AgreeBefore index first) (terms_of_length m (take i tuples)) → All (AgreeBefore index first) (terms_of_length m (take (i + 1) tuples))
-agree_more index m i first tuples t below is h all = subst (All (AgreeBefore index first)) (sym (terms_more tuples m i t below is)) (one_agrees index first (tuple_term t) (terms_of_length m (take i tuples)) (has_length m (tuple_term t)) h all)
-
--- one that differs
-pub differs_here : (index m i : ℕ) (first : TupleTerm) (tuples : List Tuple) (t : Tuple) → i < length tuples → t ≡ get_or tuples i t → has_length m (tuple_term t) ≡ true → DifferBefore index first (tuple_term t) → DiffersFromOne index first (terms_of_length m tuples)
-differs_here index m i first tuples t below is has d = record { other = tuple_term t; listed = term_listed tuples m i t below is has; differ = d }
-
 module _ (ifaces : List Iface) (tuples : List TupleTerm) (m : ℕ) where
-  not_both : (b : Bool) → b ≡ true → b ≡ false → ⊥
-  not_both b e f = cc
-
   one_index : (i j : ℕ) → IsIndex ifaces tuples m i → IsIndex ifaces tuples m j → i ≡ j
   one_index i j a b =
       let not_below : i < j → ⊥ = λ l. not_both (distinguishes ifaces tuples m i) a.tells (b.lowest i l) in

@@ -6,8 +6,11 @@ pub mod Lengths
 pub mod Shorter
 pub mod Constructed
 pub mod Numbered
+pub mod FreeStarts
 pub mod OneLength
+pub mod NumberedTuples
 pub mod DifferingTuples
+pub mod Rows
 pub mod OnlyViolations
 pub mod ViolationSteps
 pub mod SameInterfaces

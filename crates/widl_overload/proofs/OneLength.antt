@@ -1,15 +1,14 @@
 -- The tuples of one length in an effective overload set.
-use Rattle.std.proofs.Common.{◌≡◌, ◌⊎◌, inl, inr, ℕ, zero, suc, ◌+◌, ◌-◌, ◌<◌, ◌≤◌, ◌++◌, Bool, true, false, cond, max, List, [], ◌∷◌, length, take, drop, map, replicate, get_or, nat_eq, nat_lt, arith, refl, sym, ap, subst, ◌∙◌, append-nil}
-use Rattle.std.specs.Prelude.{Option, None, Some, ◌≢◌, Contains, slice_get}
-use Rattle.std.proofs.lemmas.Option.{same_Some, slice_get_read}
-use Rattle.std.proofs.lemmas.List.{length-append, length-map, length-replicate, length-take-le, length_push, get_or_push, map-append, map_more, take-append-drop}
+use Rattle.std.proofs.Common.{◌≡◌, ◌⊎◌, inl, inr, ℕ, zero, suc, ◌+◌, ◌-◌, ◌<◌, ◌≤◌, ◌++◌, Bool, true, false, cond, max, List, [], ◌∷◌, length, replicate, nat_eq, nat_lt, arith, refl, sym, ap, ◌∙◌, append-nil}
+use Rattle.std.specs.Prelude.{Option, None, Some, ◌≢◌}
+use Rattle.std.proofs.lemmas.Option.{same_Some}
+use Rattle.std.proofs.lemmas.List.{length-append, length-map, length-replicate, length-take-le}
 use Rattle.std.proofs.lemmas.List.Elements.{filter-append}
 use Rattle.widl_idl.specs.declared.argument.Arg.{Arg}
 use Rattle.widl_idl.specs.declared.signature.Sig.{Sig}
 use Rattle.widl_idl.specs.Terms.{type_term}
-use Rattle.widl_overload.specs.declared.tuple.Tuple.{Tuple}
-use Rattle.widl_overload.specs.Index.{has_length, of_one_length, terms_of_length}
-use Rattle.widl_overload.specs.Sets.{TupleTerm, declared_types, effective_tuples, longer, longest, of_length, of_lengths, shorter, tuple_of, tuple_term, variadic_last, with_tuple}
+use Rattle.widl_overload.specs.Index.{has_length, of_one_length}
+use Rattle.widl_overload.specs.Sets.{TupleTerm, declared_types, effective_tuples, longer, longest, of_length, of_lengths, shorter, tuple_of, variadic_last, with_tuple}
 
 none_some : {X : Type 0} (x : X) → None ≡ Some x → ⊥
 none_some x e = cc
@@ -114,47 +113,3 @@ no_more sigs m = by_test (nat_lt (longest sigs) m) refl
     by_test : (b : Bool) → nat_lt (longest sigs) m ≡ b → length (of_one_length m (effective_tuples sigs 0)) ≤ length sigs
     by_test true e = let beyond : longest sigs < m = grind arith in let none = ap length (none_beyond sigs m beyond) in omega arith
     by_test false e = let within : m ≤ longest sigs = grind arith in let these = ap length (of_this_length sigs m within) in omega (arith, of_length_few sigs m 0)
-
--- walking tuples: one more has the length or hasn't
-pub terms_more : (tuples : List Tuple) (m i : ℕ) (t : Tuple) → i < length tuples → t ≡ get_or tuples i t → terms_of_length m (take (i + 1) tuples) ≡ terms_of_length m (take i tuples) ++ cond (has_length m (tuple_term t)) (tuple_term t ∷ []) []
-terms_more tuples m i t below is =
-    ap (of_one_length m) (map_more tuple_term tuples i t below ∙ ap (λ u. map tuple_term (take i tuples) ++ tuple_term u ∷ []) (sym is))
-    ∙ filter-append (has_length m) (map tuple_term (take i tuples)) (tuple_term t ∷ [])
-
--- a tuple of the length is among them
-pub term_listed : (tuples : List Tuple) (m i : ℕ) (t : Tuple) → i < length tuples → t ≡ get_or tuples i t → has_length m (tuple_term t) ≡ true → Contains (terms_of_length m tuples) (tuple_term t)
-term_listed [] m i t below is h = absurd (omega arith)
-term_listed (u ∷ tuples) m zero t below is h = subst (λ v. Contains (cond (has_length m (tuple_term v)) (tuple_term v ∷ terms_of_length m tuples) (terms_of_length m tuples)) (tuple_term t)) is (subst (λ b. Contains (cond b (tuple_term t ∷ terms_of_length m tuples) (terms_of_length m tuples)) (tuple_term t)) (sym h) (0, omega arith, refl))
-term_listed (u ∷ tuples) m (suc i) t below is h = after (has_length m (tuple_term u)) (term_listed tuples m i t (omega arith) is h)
-  where
-    after : (b : Bool) → Contains (terms_of_length m tuples) (tuple_term t) → Contains (cond b (tuple_term u ∷ terms_of_length m tuples) (terms_of_length m tuples)) (tuple_term t)
-    after true c = (suc c.0, omega (arith, c.1), c.2)
-    after false c = c
-
-terms_split : (tuples : List Tuple) (m i : ℕ) → terms_of_length m tuples ≡ terms_of_length m (take i tuples) ++ terms_of_length m (drop i tuples)
-terms_split tuples m i =
-    ap (terms_of_length m) (sym (take-append-drop i tuples))
-    ∙ ap (of_one_length m) (map-append tuple_term (take i tuples) (drop i tuples))
-    ∙ filter-append (has_length m) (map tuple_term (take i tuples)) (map tuple_term (drop i tuples))
-
--- the first that has the length
-pub first_term : (tuples : List Tuple) (m i : ℕ) (t : Tuple) → i < length tuples → t ≡ get_or tuples i t → has_length m (tuple_term t) ≡ true → terms_of_length m (take i tuples) ≡ [] → Some (tuple_term t) ≡ slice_get (terms_of_length m tuples) 0
-first_term tuples m i t below is has none =
-    let front : terms_of_length m (take (i + 1) tuples) ≡ tuple_term t ∷ [] = terms_more tuples m i t below is ∙ (λ j. none j ++ cond (has j) (tuple_term t ∷ []) []) in
-    sym (ap (λ ts. slice_get ts 0) (terms_split tuples m (i + 1) ∙ ap (λ ts. ts ++ terms_of_length m (drop (i + 1) tuples)) front))
-
-last_of : (ts : List TupleTerm) (t : TupleTerm) → slice_get (ts ++ t ∷ []) (length (ts ++ t ∷ []) - 1) ≡ Some t
-last_of ts t =
-    let size : length (ts ++ t ∷ []) ≡ length ts + 1 = length_push ts t in
-    slice_get_read (ts ++ t ∷ []) (length (ts ++ t ∷ [])) (length (ts ++ t ∷ []) - 1) t refl (omega arith) (sym (get_or_push ts t t (length (ts ++ t ∷ []) - 1) (omega arith)))
-
--- the last that has the length, so far
-pub last_here : (tuples : List Tuple) (m i : ℕ) (t : Tuple) → i < length tuples → t ≡ get_or tuples i t → has_length m (tuple_term t) ≡ true → slice_get (terms_of_length m (take (i + 1) tuples)) (length (terms_of_length m (take (i + 1) tuples)) - 1) ≡ Some (tuple_term t)
-last_here tuples m i t below is has =
-    ap (λ ts. slice_get ts (length ts - 1)) (terms_more tuples m i t below is ∙ ap (λ b. terms_of_length m (take i tuples) ++ cond b (tuple_term t ∷ []) []) has)
-    ∙ last_of (terms_of_length m (take i tuples)) (tuple_term t)
-
--- one that hasn't the length changes nothing
-pub none_here : (tuples : List Tuple) (m i : ℕ) (t : Tuple) → i < length tuples → t ≡ get_or tuples i t → has_length m (tuple_term t) ≡ false → terms_of_length m (take (i + 1) tuples) ≡ terms_of_length m (take i tuples)
-none_here tuples m i t below is has =
-    terms_more tuples m i t below is ∙ ap (λ b. terms_of_length m (take i tuples) ++ cond b (tuple_term t ∷ []) []) has ∙ append-nil (terms_of_length m (take i tuples))

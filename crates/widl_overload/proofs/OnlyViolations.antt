@@ -8,12 +8,15 @@ use Rattle.widl_idl.specs.declared.violation.Violation.{Violation}
 use Rattle.widl_idl.specs.First.{FirstWhere}
 use Rattle.widl_idl.proofs.Order.{first_same, one_violation}
 use Rattle.widl_overload.specs.Index.{of_one_length}
-use Rattle.widl_overload.specs.OverloadNames.{number_of, place_of_number}
+use Rattle.widl_overload.specs.declared.span.Span.{Span}
+use Rattle.widl_overload.specs.OverloadNames.{AreNamedAt, number_of, place_of_number}
 use Rattle.widl_overload.specs.OverloadRules.{AtOverloads, AtSmallestLength, IsLeastNumber, overload_place}
 use Rattle.widl_overload.specs.OverloadViolations.{IsAtNames, IsOnly, IsOnlyViolation, IsSmallest}
-use Rattle.widl_overload.specs.Sets.{TupleTerm, effective_tuples}
+use Rattle.widl_overload.specs.Sets.{TupleTerm, effective_tuples, longest}
+use Rattle.widl_overload.specs.Spans.{AreSpans, spans_hold, true_places}
+use Rattle.widl_overload.proofs.Rows.{row_of}
 
-abbrev violation : Place → Option Place → Violation
+abbrev pub violation : Place → Option Place → Violation
 violation at other = record { at = at; other = other }
 
 module _ (sigs : List Sig) (tuples : List TupleTerm) where
@@ -93,7 +96,13 @@ module _ (P : List TupleTerm → ℕ → Type 0) (sigs : List Sig) where
   found_first most None found beyond within none = subst (FirstWhere (AtSmallestLength P sigs)) (sym none) (never_broken (beyond_or_within most within beyond))
   found_first most (Some m) found beyond earliest only = first_only (AtSmallestLength P sigs) found (only_at_size m found earliest only)
 
+  named_at : (spans : List Span) (most : ℕ) (size : Option ℕ) (found : Option Violation) → most ≡ longest sigs → AreSpans sigs spans → ((m : ℕ) → most < m → P (effective_tuples sigs 0) m → ⊥) → IsSmallest (P (effective_tuples sigs 0)) most size → AreNamedAt sigs spans size found → IsAtNames sigs (effective_tuples sigs 0) size found
+  named_at spans most None found is spanned beyond small none = none
+  named_at spans most (Some m) found is spanned beyond small named =
+      let not_beyond : most < m → ⊥ = λ l. beyond m l small.holds in
+      let within : m ≤ longest sigs = omega (arith, not_beyond) in
+      named (of_one_length m (effective_tuples sigs 0)) (row_of sigs spans m (true_places 0 (spans_hold m spans)) within spanned refl).are
+
   -- the violation at the names of the overloads of the smallest length is the least
-  pub callee_violation : (tuples : List TupleTerm) (most : ℕ) (size : Option ℕ) (found : Option Violation) → tuples ≡ effective_tuples sigs 0 → ((m : ℕ) → most < m → P (effective_tuples sigs 0) m → ⊥) → IsSmallest (P tuples) most size → IsAtNames sigs tuples size found → FirstWhere (AtSmallestLength P sigs) found
-  callee_violation tuples most size found e beyond small names =
-      found_first most size found beyond (subst (λ ts. IsSmallest (P ts) most size) e small) (subst (λ ts. IsAtNames sigs ts size found) e names)
+  pub callee_violation : (spans : List Span) (most : ℕ) (size : Option ℕ) (found : Option Violation) → most ≡ longest sigs → AreSpans sigs spans → ((m : ℕ) → most < m → P (effective_tuples sigs 0) m → ⊥) → IsSmallest (P (effective_tuples sigs 0)) most size → AreNamedAt sigs spans size found → FirstWhere (AtSmallestLength P sigs) found
+  callee_violation spans most size found is spanned beyond small named = found_first most size found beyond small (named_at spans most size found is spanned beyond small named)

@@ -15,9 +15,9 @@ types_apart ifaces t u = false
 unfoldable pub apart_at : List Iface → ℕ → TupleTerm → TupleTerm → Bool
 apart_at ifaces place t u = types_apart ifaces (slice_get t.types place) (slice_get u.types place)
 
-abbrev pub each_two : (TupleTerm → TupleTerm → Bool) → List TupleTerm → Bool
+abbrev pub each_two : {X : Type 0} → (X → X → Bool) → List X → Bool
 each_two test [] = true
-each_two test (t ∷ tuples) = list_all (test t) tuples && each_two test tuples
+each_two test (x ∷ xs) = list_all (test x) xs && each_two test xs
 
 abbrev pub has_length : ℕ → TupleTerm → Bool
 has_length m t = nat_eq (length t.types) m

@@ -2,8 +2,10 @@ pub mod Inheritance
 pub mod Distinct
 pub mod Pairs
 pub mod Sets
+pub mod Spans
 pub mod Served
 pub mod Index
+pub mod Numbers
 pub mod Construction
 pub mod TypeUses
 pub mod ArgumentRules

@@ -4,6 +4,7 @@ use Rattle.widl_idl.specs.declared.interface.Iface.{Iface}
 use Rattle.widl_idl.specs.declared.signature.Sig.{Sig}
 use Rattle.widl_idl.specs.declared.violation.Violation.{Violation}
 use Rattle.widl_idl.specs.First.{FirstWhere, Somewhere, earlier}
+use Rattle.widl_overload.specs.declared.overload_sizes.BreakingLengths.{BreakingLengths}
 use Rattle.widl_overload.specs.declared.overload_violations.OverloadViolations.{OverloadViolations}
 use Rattle.widl_overload.specs.Index.{of_one_length}
 use Rattle.widl_overload.specs.OverloadRules.{AtOverloads, AtSmallestLength, DifferAt, DifferEarly, IsLeastNumber, LacksIndex}
@@ -44,6 +45,11 @@ IsSmallest P most found = MatchOption found ((m : ℕ) → m ≤ most → P m �
 -- the least number of which P holds, or none where it holds of none below m
 abbrev pub IsSmallestBelow : (ℕ → Type 0) → ℕ → Option ℕ → Type 0
 IsSmallestBelow P m found = MatchOption found ((k : ℕ) → k < m → P k → ⊥) (IsLeastNumber P)
+
+-- the smallest lengths, up to the greatest one, at which tuples break each of the two rules
+pub record AreSmallest (ifaces : List Iface) (tuples : List TupleTerm) (most : ℕ) (lengths : BreakingLengths) : Type 0 where
+  pub indistinguishable : IsSmallest (LacksIndex ifaces tuples) most lengths.indistinguishable
+  pub early : IsSmallest (DifferEarly ifaces tuples) most lengths.early
 
 -- P holds at this violation alone
 pub record IsOnlyViolation (P : Violation → Type 0) (s : Violation) : Type 0 where

@@ -9,6 +9,7 @@
 mod accepted;
 mod callees;
 mod category;
+mod differing;
 mod distinct;
 mod index;
 mod inheritance;
@@ -18,6 +19,8 @@ mod overload_sizes;
 mod overload_violations;
 mod served;
 mod sets;
+mod span;
+mod telling;
 #[cfg(test)]
 mod tests;
 mod tuple;

@@ -1,63 +1,48 @@
-//! The names of overloads, at which the rules on them are broken.
+//! The names of the overloads that break a rule.
 
-ghost use Rattle.std.specs.Prelude.{◌≡◌, ◌-◌, length, option_and_then, option_map, slice_get};
-ghost use Rattle.widl_overload.specs.Index.{terms_of_length};
-ghost use Rattle.widl_overload.specs.OverloadRules.{AtOverloads};
-ghost use Rattle.widl_overload.specs.OverloadViolations.{IsAtNames, IsOnly};
-ghost use Rattle.widl_overload.specs.OverloadNames.{number_of, place_of_number};
-ghost use Rattle.widl_overload.specs.Sets.{tuples_in};
+ghost use Rattle.std.specs.Prelude.{◌≡◌, ◌<◌, IfOk, length};
+ghost use Rattle.widl_overload.specs.OverloadNames.{AreNamed, AreNamedAt, place_of_number};
 
-use crate::index::has_length;
-use crate::tuple::{OverloadSet, Tuple};
+use crate::span::{Span, overloads_of_length};
+use std::alloc::{AllocError, Global};
 use widl_idl::{Sig, Violation};
 use widl_text::Place;
 
 /// The violation at the name of the last overload with a tuple of a length, which speaks of that of the
 /// first.
-pub(crate) fn at_names(sigs: &[Sig], set: &OverloadSet, size: Option<u32>) -> Option<Violation>
-    ensures { IsAtNames sigs.now (tuples_in set.now) size result }
+///
+/// # Errors
+///
+/// `AllocError` where there is no memory.
+pub(crate) fn at_names(
+    alloc: Global,
+    sigs: &[Sig],
+    spans: &[Span],
+    size: Option<u32>,
+) -> Result<Option<Violation>, AllocError>
+    requires few { length spans.now < 4294967296 }
+    ensures { IfOk result (λ violation. AreNamedAt sigs.now spans.now size violation) }
 {
     match size {
-        None => None,
-        Some(size) => at_names_of_length(sigs, &set.tuples, size as usize),
+        None => Ok(None),
+        Some(size) => {
+            let overloads = overloads_of_length(alloc, spans, size as usize)?;
+            Ok(at_ends(sigs, overloads.as_slice()))
+        }
     }
 }
 
-fn at_names_of_length(sigs: &[Sig], tuples: &[Tuple], m: usize) -> Option<Violation>
-    ensures { IsOnly (AtOverloads sigs.now (terms_of_length m tuples.now)) result }
+/// The violation at the name of the last of these overloads, which speaks of that of the first.
+fn at_ends(sigs: &[Sig], overloads: &[u32]) -> Option<Violation>
+    ensures { AreNamed sigs.now overloads.now result }
 {
-    let first = first_overload(tuples, m)?;
-    let last = last_overload(tuples, m)?;
-    let at = overload_place(sigs, last)?;
+    let first = overloads.first()?;
+    let last = overloads.last()?;
+    let at = overload_place(sigs, *last)?;
     Some(Violation {
         at,
-        other: overload_place(sigs, first),
+        other: overload_place(sigs, *first),
     })
-}
-
-/// The number of the first overload with a tuple of a length.
-fn first_overload(tuples: &[Tuple], m: usize) -> Option<u32>
-    ensures { result ≡ option_map number_of (slice_get (terms_of_length m tuples.now) 0) }
-{
-    for tuple in tuples {
-        if has_length(tuple, m) {
-            return Some(tuple.overload);
-        }
-    }
-    None
-}
-
-/// The number of the last overload with a tuple of a length.
-fn last_overload(tuples: &[Tuple], m: usize) -> Option<u32>
-    ensures { result ≡ option_map number_of (slice_get (terms_of_length m tuples.now) (length (terms_of_length m tuples.now) - 1)) }
-{
-    let mut last = None;
-    for tuple in tuples {
-        if has_length(tuple, m) {
-            last = Some(tuple.overload);
-        }
-    }
-    last
 }
 
 /// The place of the name of an overload.

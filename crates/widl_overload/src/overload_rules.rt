@@ -11,7 +11,8 @@ ghost use Rattle.widl_overload.specs.Sets.{AreNumbered};
 use crate::overload_names::at_names;
 use crate::overload_sizes::breaking_lengths;
 use crate::overload_violations::OverloadViolations;
-use crate::sets::{longest_list, set_of};
+use crate::sets::longest_list;
+use crate::span::spans_of;
 use std::alloc::{AllocError, Global};
 use widl_idl::{Defs, Iface, OpName, Sig, Space, Violation};
 
@@ -121,11 +122,13 @@ pub(crate) fn violations_of_overloads(
     if sigs.len() < 2 {
         return Ok(OverloadViolations::none());
     }
-    let set = set_of(alloc, sigs, 0)?;
+    let spans = spans_of(alloc, sigs)?;
     let most = longest_list(sigs);
-    let lengths = breaking_lengths(defs, &set, most);
+    let lengths = breaking_lengths(alloc, defs, sigs, spans.as_slice(), most)?;
+    let indistinguishable = at_names(alloc, sigs, spans.as_slice(), lengths.indistinguishable)?;
+    let early = at_names(alloc, sigs, spans.as_slice(), lengths.early)?;
     Ok(OverloadViolations {
-        indistinguishable: at_names(sigs, &set, lengths.indistinguishable),
-        early: at_names(sigs, &set, lengths.early),
+        indistinguishable,
+        early,
     })
 }

@@ -1,17 +1,18 @@
-//! The smallest lengths at which an effective overload set breaks the rules on overloads.
+//! The smallest lengths at which an effective overload set breaks the rules on overloads. No tuple is built:
+//! the walk goes over the lengths, and over the overloads that have a tuple of each.
 
-ghost use Rattle.std.specs.Prelude.{◌≡◌, ◌<◌, ◌↔◌, IsTrue, List, MatchBool, MatchOption, None, Some, slice_get};
-ghost use Rattle.std.specs.List.{All};
-ghost use Rattle.std.specs.Option.{option_copied, option_map};
-ghost use Rattle.widl_idl.specs.declared.interface.Iface as interfaces;
-ghost use Rattle.widl_overload.specs.Index.{IsDistinguishingIndex, terms_of_length};
-ghost use Rattle.widl_overload.specs.OverloadRules.{DifferAt, DifferEarly, LacksIndex};
-ghost use Rattle.widl_overload.specs.OverloadViolations.{AgreeAt, AgreeBefore, DifferBefore, DiffersFromOne, IsSmallest, TwoDiffer};
-ghost use Rattle.widl_overload.specs.Sets.{tuple_term, tuples_in};
+ghost use Rattle.std.specs.Prelude.{◌≡◌, ◌-◌, ◌<◌, IfOk, MatchBool, MatchOption, None, Some, false, length, nat_le};
+ghost use Rattle.widl_overload.specs.Numbers.{IsEarly, IsRow, IsTelling, NoneTells};
+ghost use Rattle.widl_overload.specs.OverloadViolations.{AreSmallest};
+ghost use Rattle.widl_overload.specs.Sets.{AreNumbered, effective_tuples, longest};
+ghost use Rattle.widl_overload.specs.Spans.{AreListed, AreSpans, spans_hold, true_places};
 
-use crate::index::{are_several, distinguishing_index, has_length};
-use crate::tuple::{OverloadSet, Tuple};
-use widl_idl::{Defs, same_type};
+use crate::differing::differ_before;
+use crate::span::{Span, end_of_row, overloads_of_length};
+use crate::telling::first_telling;
+use std::alloc::{AllocError, Global};
+use widl_idl::{Defs, Sig};
+use widl_text::Items;
 
 /// The smallest lengths at which an effective overload set breaks the two rules on overloads.
 #[derive(Clone, Copy, Debug)]
@@ -22,26 +23,59 @@ pub(crate) struct BreakingLengths {
     pub(crate) early: Option<u32>,
 }
 
-/// The smallest lengths at which the rules are broken. None is asked beyond a greatest length. Both
-/// rules ask for the distinguishing argument index of a length, which is found once.
-pub(crate) fn breaking_lengths(defs: &Defs, set: &OverloadSet, most: usize) -> BreakingLengths
-    requires { most < 4294967296 }
-    ensures indistinguishable { IsSmallest (LacksIndex defs.now.ifaces (tuples_in set.now)) most result.indistinguishable }
-    ensures early { IsSmallest (DifferEarly defs.now.ifaces (tuples_in set.now)) most result.early }
+/// The overloads that have a tuple of one length, and what tells them apart.
+#[derive(Drop)]
+pub(crate) struct Row {
+    /// Their numbers.
+    overloads: Items<u32>,
+    /// The length from which on others may have a tuple.
+    end: usize,
+    /// The distinguishing argument index of the length.
+    index: Option<u32>,
+    /// Whether two of them differ before that index.
+    early: bool,
+}
+
+/// The smallest lengths at which the rules are broken. None is asked beyond the longest list of arguments.
+///
+/// What an overload has at a place is the same in each of its tuples. So a place is asked again only at a
+/// length of which other overloads may have a tuple than of the one before: where the tuples of one begin
+/// or end. There are at most twice as many as overloads, and no more than the longest list has arguments.
+///
+/// # Errors
+///
+/// `AllocError` where there is no memory.
+pub(crate) fn breaking_lengths(
+    alloc: Global,
+    defs: &Defs,
+    sigs: &[Sig],
+    spans: &[Span],
+    most: usize,
+) -> Result<BreakingLengths, AllocError>
+    requires numbered { AreNumbered sigs.now }
+    requires spans { AreSpans sigs.now spans.now }
+    requires most { most ≡ longest sigs.now }
+    requires few { most < 4294967296 }
+    ensures { IfOk result (λ lengths. AreSmallest defs.now.ifaces (effective_tuples sigs.now 0) most lengths) }
 {
+    let mut row = Row {
+        overloads: Items::new(alloc),
+        end: 0,
+        index: None,
+        early: false,
+    };
     let mut indistinguishable = None;
     let mut early = None;
     for m in 0..most + 1 {
-        let index = distinguishing_index(defs, set, m as u32);
-        let lacks = lacks_index(set, m as u32, index);
+        row = next_row(alloc, defs, sigs, spans, row, m as u32)?;
+        let lacks = lacks_index(&row);
         indistinguishable = found_or(indistinguishable, m as u32, lacks);
-        let differ = differ_early(set, m as u32, index);
-        early = found_or(early, m as u32, differ);
+        early = found_or(early, m as u32, row.early);
     }
-    BreakingLengths {
+    Ok(BreakingLengths {
         indistinguishable,
         early,
-    }
+    })
 }
 
 /// The length that was found before, and else this one, if a rule is broken at it.
@@ -54,98 +88,92 @@ fn found_or(found: Option<u32>, m: u32, broken: bool) -> Option<u32>
     }
 }
 
-/// Whether several tuples have a length, and there is no place by which they are distinguished, where
-/// `index` is the distinguishing argument index of the length.
-fn lacks_index(set: &OverloadSet, m: u32, index: Option<u32>) -> bool
-    ensures { (ifaces : List interfaces.Iface) → IsDistinguishingIndex ifaces (tuples_in set.now) m index → MatchBool result (LacksIndex ifaces (tuples_in set.now) m) (LacksIndex ifaces (tuples_in set.now) m → ⊥) }
+/// Whether several overloads have the length of a row, and there is no place by which they are
+/// distinguished.
+fn lacks_index(row: &Row) -> bool
+    ensures { MatchOption row.now.index (result ≡ nat_le 2 (length row.now.overloads)) (λ place. result ≡ false) }
 {
-    match index {
-        None => are_several(&set.tuples, m as usize),
+    match row.index {
+        None => row.overloads.len() >= 2,
         Some(_) => false,
     }
 }
 
-/// Whether two tuples of a length differ before `index`, its distinguishing argument index.
-fn differ_early(set: &OverloadSet, m: u32, index: Option<u32>) -> bool
-    ensures { (ifaces : List interfaces.Iface) → IsDistinguishingIndex ifaces (tuples_in set.now) m index → MatchBool result (DifferEarly ifaces (tuples_in set.now) m) (DifferEarly ifaces (tuples_in set.now) m → ⊥) }
+/// The row of a length, after that of the length before.
+fn next_row(
+    alloc: Global,
+    defs: &Defs,
+    sigs: &[Sig],
+    spans: &[Span],
+    row: Row,
+    m: u32,
+) -> Result<Row, AllocError>
+    requires few { length spans.now < 4294967296 }
+    requires before { IsRow defs.now.ifaces sigs.now (m - 1) row }
+    requires listed { AreListed spans.now m row.end row.overloads }
+    ensures row { IfOk result (λ next. IsRow defs.now.ifaces sigs.now m next) }
+    ensures now { IfOk result (λ next. next.overloads ≡ true_places 0 (spans_hold m spans.now)) }
+    ensures listed { IfOk result (λ next. AreListed spans.now m next.end next.overloads) }
+{
+    if (m as usize) < row.end {
+        Ok(longer_row(defs, sigs, row, m))
+    } else {
+        let overloads = overloads_of_length(alloc, spans, m as usize)?;
+        let end = end_of_row(spans, m as usize);
+        Ok(row_from(defs, sigs, overloads, end, 0, m))
+    }
+}
+
+/// The row of a length of which the same overloads have a tuple as of the one before.
+fn longer_row(defs: &Defs, sigs: &[Sig], row: Row, m: u32) -> Row
+    requires { IsRow defs.now.ifaces sigs.now (m - 1) row }
+    ensures row { IsRow defs.now.ifaces sigs.now m result }
+    ensures same { result.overloads ≡ row.overloads }
+    ensures end { result.end ≡ row.end }
+{
+    if row.index.is_some() {
+        row
+    } else {
+        row_from(defs, sigs, row.overloads, row.end, m.saturating_sub(1), m)
+    }
+}
+
+/// The row of a length, of these overloads, which no place before `from` tells apart.
+fn row_from(defs: &Defs, sigs: &[Sig], overloads: Items<u32>, end: usize, from: u32, m: u32) -> Row
+    requires { NoneTells defs.now.ifaces sigs.now overloads from }
+    ensures row { IsRow defs.now.ifaces sigs.now m result }
+    ensures same { result.overloads ≡ overloads }
+    ensures end { result.end ≡ end }
+{
+    let index = index_from(defs, sigs, overloads.as_slice(), from, m);
+    let early = are_early(sigs, overloads.as_slice(), index);
+    Row {
+        overloads,
+        end,
+        index,
+        early,
+    }
+}
+
+/// The lowest place at which each two of several overloads are distinguishable, which is none before
+/// `from`.
+fn index_from(defs: &Defs, sigs: &[Sig], overloads: &[u32], from: u32, m: u32) -> Option<u32>
+    requires { NoneTells defs.now.ifaces sigs.now overloads.now from }
+    ensures { MatchOption result (NoneTells defs.now.ifaces sigs.now overloads.now m) (IsTelling defs.now.ifaces sigs.now overloads.now m) }
+{
+    if overloads.len() < 2 {
+        None
+    } else {
+        first_telling(defs, sigs, overloads, from, m)
+    }
+}
+
+/// Whether overloads differ before their distinguishing argument index, if they have one.
+fn are_early(sigs: &[Sig], overloads: &[u32], index: Option<u32>) -> bool
+    ensures { IsEarly sigs.now overloads.now index result }
 {
     match index {
         None => false,
-        Some(index) => differ_before(&set.tuples, m as usize, index as usize),
-    }
-}
-
-/// Whether two tuples of a length differ before an index.
-fn differ_before(tuples: &[Tuple], m: usize, index: usize) -> bool
-    ensures { MatchBool result (TwoDiffer index (terms_of_length m tuples.now)) (TwoDiffer index (terms_of_length m tuples.now) → ⊥) }
-{
-    match first_of_length(tuples, m) {
-        None => false,
-        Some(first) => differs_from_one(first, tuples, m, index),
-    }
-}
-
-/// The first tuple of a length.
-fn first_of_length(tuples: &[Tuple], m: usize) -> Option<&Tuple>
-    ensures { option_map tuple_term (option_copied result) ≡ slice_get (terms_of_length m tuples.now) 0 }
-{
-    for tuple in tuples {
-        if has_length(tuple, m) {
-            return Some(tuple);
-        }
-    }
-    None
-}
-
-/// Whether a tuple differs before an index from one of those of a length.
-fn differs_from_one(first: &Tuple, tuples: &[Tuple], m: usize, index: usize) -> bool
-    ensures { MatchBool result
-        (DiffersFromOne index (tuple_term first.now) (terms_of_length m tuples.now))
-        (All (AgreeBefore index (tuple_term first.now)) (terms_of_length m tuples.now)) }
-{
-    for tuple in tuples {
-        if has_length(tuple, m) && !agree_before(first, tuple, index) {
-            return true;
-        }
-    }
-    false
-}
-
-/// Whether two tuples have the same types and optionality values before an index.
-fn agree_before(t: &Tuple, u: &Tuple, index: usize) -> bool
-    ensures { MatchBool result (AgreeBefore index (tuple_term t.now) (tuple_term u.now)) (DifferBefore index (tuple_term t.now) (tuple_term u.now)) }
-{
-    for place in 0..index {
-        if !agree_at(t, u, place) {
-            return false;
-        }
-    }
-    true
-}
-
-/// Whether two tuples have the same type and the same optionality value at a place.
-fn agree_at(t: &Tuple, u: &Tuple, place: usize) -> bool
-    ensures { MatchBool result (AgreeAt (tuple_term t.now) (tuple_term u.now) place) (DifferAt (tuple_term t.now) (tuple_term u.now) place) }
-{
-    same_type_at(t, u, place) && same_opt_at(t, u, place)
-}
-
-fn same_type_at(t: &Tuple, u: &Tuple, place: usize) -> bool
-    ensures { IsTrue result ↔ (slice_get (tuple_term t.now).types place ≡ slice_get (tuple_term u.now).types place) }
-{
-    if place < t.types.len() && place < u.types.len() {
-        same_type(t.types.at(place), u.types.at(place))
-    } else {
-        t.types.len() <= place && u.types.len() <= place
-    }
-}
-
-fn same_opt_at(t: &Tuple, u: &Tuple, place: usize) -> bool
-    ensures { IsTrue result ↔ (slice_get (tuple_term t.now).opts place ≡ slice_get (tuple_term u.now).opts place) }
-{
-    if place < t.opts.len() && place < u.opts.len() {
-        *t.opts.at(place) == *u.opts.at(place)
-    } else {
-        t.opts.len() <= place && u.opts.len() <= place
+        Some(index) => differ_before(sigs, overloads, index as usize),
     }
 }

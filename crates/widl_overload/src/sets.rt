@@ -95,7 +95,7 @@ fn any_variadic(sigs: &[Sig]) -> bool
 }
 
 /// The last argument, if it is variadic.
-fn last_variadic(args: &[Arg]) -> Option<&Arg>
+pub(crate) fn last_variadic(args: &[Arg]) -> Option<&Arg>
     ensures { option_copied result ≡ variadic_last args.now }
 {
     match args.last() {

@@ -126,6 +126,16 @@ const LONG_OPERATION: Parts = &[
     ("interface I# {};\nI# includes M;\n", 16_000),
 ];
 
+/// An overload with an ellipsis, which has a tuple of each length that the other one has.
+const ELLIPSIS: Parts = &[
+    (
+        "namespace N { undefined f(any... a); undefined f(any a",
+        1,
+    ),
+    (", any a#", 29_999),
+    ("); };", 1),
+];
+
 #[test]
 fn sets_of_any_size_have_their_answer(rt: HostRuntime) -> Result<(), Fail> {
     let alloc = rt.alloc();
@@ -136,6 +146,7 @@ fn sets_of_any_size_have_their_answer(rt: HostRuntime) -> Result<(), Fail> {
         (DOUBLED, Status::Done, "accepted\n"),
         (MIXED_IN, Status::Refused, "refused 48 0 53640\n"),
         (LONG_OPERATION, Status::Done, "accepted\n"),
+        (ELLIPSIS, Status::Refused, "refused 35 0 47 other 0 24\n"),
     ];
     for (parts, status, text) in rows {
         expect_size(&rt, alloc, parts, status, text)?;

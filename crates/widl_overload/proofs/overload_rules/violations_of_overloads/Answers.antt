@@ -1,5 +1,6 @@
+use Rattle.std.proofs.Common.{subst, sym}
 use Rattle.widl_overload.specs.OverloadRules.{DifferEarly, LacksIndex}
-use Rattle.widl_overload.specs.Sets.{tuples_in}
+use Rattle.widl_overload.specs.Spans.{AreSpans}
 use Rattle.widl_overload.proofs.OnlyViolations.{callee_violation}
 use Rattle.widl_overload.proofs.ViolationSteps.{none_indistinguishable_beyond, none_early_beyond, violations_of_few}
 use Rattle.widl_overload.proofs.overload_rules.violations_of_overloads.Goals as goal
@@ -11,9 +12,9 @@ pub returns : goal.returns
 returns c =
     let ifaces = c.args.defs.now.ifaces in
     let sigs = c.args.sigs.now in
-    let tuples = tuples_in c.in_ok-set.set in
     let most = c.longest_list-most.result in
+    let lengths = c.in_ok-lengths.lengths in
     record {
-      indistinguishable = callee_violation (LacksIndex ifaces) sigs tuples most c.breaking_lengths-lengths.result.indistinguishable c.at_names.result c.in_ok-set.ensures (λ m. none_indistinguishable_beyond ifaces sigs most m c.longest_list-most.ensures.is) c.breaking_lengths-lengths.ensures.indistinguishable c.at_names.ensures;
-      early = callee_violation (DifferEarly ifaces) sigs tuples most c.breaking_lengths-lengths.result.early c.at_names-2.result c.in_ok-set.ensures (λ m. none_early_beyond ifaces sigs most m c.longest_list-most.ensures.is) c.breaking_lengths-lengths.ensures.early c.at_names-2.ensures;
+      indistinguishable = callee_violation (LacksIndex ifaces) sigs c.as_slice-2.result.now most lengths.indistinguishable c.in_ok-indistinguishable.indistinguishable c.longest_list-most.ensures.is (subst (AreSpans sigs) (sym c.as_slice-2.ensures) c.in_ok-spans.ensures) (λ m. none_indistinguishable_beyond ifaces sigs most m c.longest_list-most.ensures.is) c.in_ok-lengths.ensures.indistinguishable c.in_ok-indistinguishable.ensures;
+      early = callee_violation (DifferEarly ifaces) sigs c.as_slice-3.result.now most lengths.early c.in_ok-early.early c.longest_list-most.ensures.is (subst (AreSpans sigs) (sym c.as_slice-3.ensures) c.in_ok-spans.ensures) (λ m. none_early_beyond ifaces sigs most m c.longest_list-most.ensures.is) c.in_ok-lengths.ensures.early c.in_ok-early.ensures;
     }

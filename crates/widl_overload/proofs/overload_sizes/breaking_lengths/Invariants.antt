@@ -1,10 +1,15 @@
+use Rattle.std.proofs.Common.{◌-◌}
+use Rattle.widl_overload.specs.Numbers.{IsRow}
 use Rattle.widl_overload.specs.OverloadRules.{DifferEarly, LacksIndex}
 use Rattle.widl_overload.specs.OverloadViolations.{IsSmallestBelow}
-use Rattle.widl_overload.specs.Sets.{tuples_in}
+use Rattle.widl_overload.specs.Sets.{effective_tuples}
+use Rattle.widl_overload.specs.Spans.{AreListed}
 use Rattle.widl_overload.proofs.overload_sizes.breaking_lengths.Given as goal
 
 abbrev pub invariant-loop-m : goal.invariant-loop-m
 invariant-loop-m l = record {
-  indistinguishable : IsSmallestBelow (LacksIndex l.defs.ifaces (tuples_in l.set)) l.m l.indistinguishable;
-  early : IsSmallestBelow (DifferEarly l.defs.ifaces (tuples_in l.set)) l.m l.early;
+  row : IsRow l.defs.ifaces l.sigs (l.m - 1) l.row;
+  listed : AreListed l.spans l.m l.row.end l.row.overloads;
+  indistinguishable : IsSmallestBelow (LacksIndex l.defs.ifaces (effective_tuples l.sigs 0)) l.m l.indistinguishable;
+  early : IsSmallestBelow (DifferEarly l.defs.ifaces (effective_tuples l.sigs 0)) l.m l.early;
 }
