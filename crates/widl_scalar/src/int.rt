@@ -5,11 +5,13 @@ ghost use Rattle.widl_scalar.specs.Scalars.{WrapsTo, Congruent, wrapped_of, wrap
 ghost use Rattle.widl_scalar.specs.Scalars.{ClampsTo, clamped_of, clamped, NearestWithin, lower_bound, upper_bound};
 ghost use Rattle.widl_scalar.specs.Scalars.{IsInBounds, enforced_of, enforced, integer_of};
 
+use thiserror::Error;
 use widl_idl::{IntKind, Mode};
 use widl_value::Number;
 
 /// A number outside the range that a conversion enforces (Web IDL, `[EnforceRange]`).
-#[derive(Clone, Copy, Debug, PartialEq, Eq)]
+#[derive(Clone, Copy, Debug, PartialEq, Eq, Error)]
+#[error("the number is outside the range that the conversion enforces")]
 pub struct NotInRange(pub Number);
 
 /// The integer of a kind that a number becomes (Web IDL, "ConvertToInt").
