@@ -18,23 +18,6 @@ use widl_lines::{Terminal, WordForm, integer_of, units_of};
 use widl_text::{Units, magnitude};
 use widl_value::{Number, Value, nearest};
 
-/// The text whose units are these bytes.
-pub(crate) fn units_of_bytes(alloc: Global, bytes: &[u8]) -> Result<Units, AllocError>
-    ensures { IfOk result (λ units. units ≡ bytes.now) }
-{
-    // Names are ASCII: such a text gets its room at once.
-    if bytes.is_ascii() {
-        if let Ok(text) = std::str::from_utf8(bytes) {
-            return Units::of_ascii(alloc, text);
-        }
-    }
-    let mut units = Units::new(alloc);
-    for byte in bytes {
-        units.push(u16::from(*byte))?;
-    }
-    Ok(units)
-}
-
 /// The Number that is nearest to an integer of at most 2^64 in magnitude.
 pub(crate) fn number_of(text: &[u8]) -> Number
     ensures { result ≡ nearest_of (within_bound (integer_of text.now)) }
@@ -140,7 +123,7 @@ impl<'w, 's> Reader<'w, 's> {
     pub(crate) fn target_name(&mut self) -> Result<Units, AllocError>
         ensures { IfOk result (λ name. IsTextAhead name self.old self.new) }
     {
-        let name = units_of_bytes(self.alloc(), self.text())?;
+        let name = Units::of_bytes(self.alloc(), self.text())?;
         self.take();
         Ok(name)
     }

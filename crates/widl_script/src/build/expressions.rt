@@ -6,12 +6,13 @@ ghost use Rattle.widl_lines.specs.declared.grammar.Terminal.TheVariants as termi
 ghost use Rattle.widl_script.specs.declared.build.forms.Form.TheVariants as form;
 ghost use Rattle.widl_script.specs.Reading.{Widens, part, terminal_ahead, Holds, IsNameAhead, Begins, is_leaf, is_formed};
 
-use crate::build::constants::{number_of, text_of, units_of_bytes};
+use crate::build::constants::{number_of, text_of};
 use crate::build::forms::{Form, form_of, leaf_of, link_of};
 use crate::build::nodes::Nodes;
 use crate::build::reader::Reader;
 use std::alloc::AllocError;
 use widl_script_tree::Expression;
+use widl_text::Units;
 
 impl<'w, 's> Reader<'w, 's> {
     /// The number of the name ahead.
@@ -19,7 +20,7 @@ impl<'w, 's> Reader<'w, 's> {
         ensures grown { OnOk result (Widens nodes.old nodes.new) }
         ensures name { IfOk result (λ number. IsNameAhead nodes.old nodes.new number self.old self.new) }
     {
-        let text = units_of_bytes(self.alloc(), self.text())?;
+        let text = Units::of_bytes(self.alloc(), self.text())?;
         self.take();
         nodes.name(text)
     }
