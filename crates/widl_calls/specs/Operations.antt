@@ -26,17 +26,18 @@ use Rattle.widl_calls.specs.StepLines.{Operation, lines_for, read_values}
 -- 1. What an operation is
 
 -- an overload of the operations of one name, where there is one
-abbrev pub overload_of : Text → ℕ → OpNameTerm → Option Operation
-overload_of owner overload o = option_map (λ (s : SigTerm). record { owner = owner; name = o.name; fixed = o.fixed; overload = overload }) (slice_get o.sigs overload)
+abbrev pub overload_of : Text → Bool → ℕ → OpNameTerm → Option Operation
+overload_of owner fixed overload o = option_map (λ (s : SigTerm). record { owner = owner; name = o.name; fixed = fixed; overload = overload }) (slice_get o.sigs overload)
 
 -- other parts are no operations
-abbrev pub named_operation : Text → Part → ℕ → MembersTerm → Option Operation
-named_operation owner (parts.Op n) overload members = option_and_then (overload_of owner overload) (slice_get members.ops n)
-named_operation owner _ overload members = None
+abbrev pub named_operation : Text → (OpNameTerm → Bool) → Part → ℕ → MembersTerm → Option Operation
+named_operation owner is_static (parts.Op n) overload members = option_and_then (λ (o : OpNameTerm). overload_of owner (is_static o) overload o) (slice_get members.ops n)
+named_operation owner is_static _ overload members = None
 
+-- those of a namespace aren't static
 abbrev pub operation_in : DefsTerm → Part → ℕ → Owner → Option Operation
-operation_in list part overload (owners.Space n) = option_and_then (λ (s : SpaceTerm). named_operation s.name part overload s.members) (slice_get list.spaces n)
-operation_in list part overload (owners.Iface n) = option_and_then (λ (i : IfaceTerm). named_operation i.name part overload i.members) (slice_get list.ifaces n)
+operation_in list part overload (owners.Space n) = option_and_then (λ (s : SpaceTerm). named_operation s.name (λ o. false) part overload s.members) (slice_get list.spaces n)
+operation_in list part overload (owners.Iface n) = option_and_then (λ (i : IfaceTerm). named_operation i.name (λ o. o.fixed) part overload i.members) (slice_get list.ifaces n)
 
 -- the lines of the steps block of each overload, in a script; what is no operation of the list has none
 abbrev pub StepsOf : Type 0

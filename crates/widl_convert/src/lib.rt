@@ -9,8 +9,7 @@
 //! [`Asker::resume`] answers is exactly what comes next in the talk of its task, tasks alone lead to it
 //! from what was left, and less is left after each ask that takes no charge. Today the conversions of
 //! scalars have code, the choice of an overload and the way of scalars to script; the others have
-//! definitions alone. The laws are the contracts of the functions of [`laws`]. The tests stand in
-//! `widl_conversations`, above the crates that read a set.
+//! definitions alone. The laws are the contracts of the functions of [`laws`].
 #![tactic(auto)]
 
 mod answer;

@@ -22,7 +22,7 @@ use Rattle.widl_store.specs.Effects.{is_fixed, put_of, put_in, define_of, define
 use Rattle.widl_store.specs.Found.{Shows, found_at}
 use Rattle.widl_store.specs.Objects.{Obj, StoreState, with_objects, own_at}
 use Rattle.widl_trace.specs.EventTerms.{EventTerm}
-use Rattle.widl_runs.specs.declared.completion.Completion.TheVariants.{Normal}
+use Rattle.widl_runs.specs.Ends.{Normal}
 use Rattle.widl_runs.specs.Actions.{IsPut, IsDefined, IsDeleted, is_put, is_made, put_result, define_result, with_store}
 use Rattle.widl_runs.specs.Jobs.{Program, Doing}
 use Rattle.widl_runs.specs.Members.{read_value, put_done, define_done, delete_done}

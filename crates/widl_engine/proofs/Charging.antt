@@ -7,7 +7,7 @@ use Rattle.widl_dialog.proofs.Running.{does_said, does_stop}
 use Rattle.widl_script_tree.specs.Tables.{Tables}
 use Rattle.widl_store.specs.Objects.{StoreState}
 use Rattle.widl_trace.specs.EventTerms.{EventTerm, event_term}
-use Rattle.widl_runs.specs.declared.completion.Completion.{Completion}
+use Rattle.widl_runs.specs.Ends.{JobEnd}
 use Rattle.widl_runs.specs.declared.stop.Stop.{Stop}
 use Rattle.widl_runs.specs.declared.stop.Stop.TheVariants as stops
 use Rattle.widl_runs.specs.Actions.{IsDone, act, event_cost}
@@ -39,7 +39,7 @@ module _ (p : Program) (s : Tables) where
   stopped t u m n due stop x taken = record {
     taken = taken;
     runs = λ b ls.
-        let g : Completion → Doing = under s m.frames.items in
+        let g : JobEnd → Doing = under p s m.frames.items in
         let there : world s t m b ls ≡ world s u n b ls = same_world s t m n b ls x.place taken ∙ ap (λ (o : StoreState). world s o n b ls) (sym x.store) in
         subst (λ (w : World). Run p (moves_on p s (move.Acts due) m) (world s t m b ls) w (Halted stop)) there
         (does_stop (rule p) (act p.list) (act_of p s due) (λ r. bind (after p s due r) g) stop (world s t m b ls) (x.stops (b - m.taken) ls));
@@ -68,28 +68,28 @@ module _ (p : Program) (s : Tables) where
 
   pub stops_here : (t : StoreState) (m : Machine) → StopsHere p s t m
   stops_here t m = record {
-    stops = λ b ls h. does_stop (rule p) (act p.list) (charge_of m.due) (λ r. bind (after_paying p s m.due r) (under s m.frames.items)) stops.Budget (world s t m b ls) (charge_stops t m m.due b ls h);
+    stops = λ b ls h. does_stop (rule p) (act p.list) (charge_of m.due) (λ r. bind (after_paying p s m.due r) (under p s m.frames.items)) stops.Budget (world s t m b ls) (charge_stops t m m.due b ls h);
   }
 
   -- what is left after a charge that is paid for
-  pub after_paid : (t : StoreState) (m n : Machine) → n.taken ≡ m.taken + cost p m.due → n.place ≡ m.place → (b : ℕ) (ls : List EventTerm) → n.taken ≤ b → (v : World) (f : Finish Completion Stop) → Run p (bind (after_charge p s m.due) (under s m.frames.items)) (world s t n b (ls ++ written m.due)) v f → Run p (still p s m) (world s t m b ls) v f
+  pub after_paid : (t : StoreState) (m n : Machine) → n.taken ≡ m.taken + cost p m.due → n.place ≡ m.place → (b : ℕ) (ls : List EventTerm) → n.taken ≤ b → (v : World) (f : Finish JobEnd Stop) → Run p (bind (after_charge p s m.due) (under p s m.frames.items)) (world s t n b (ls ++ written m.due)) v f → Run p (still p s m) (world s t m b ls) v f
   after_paid t m n taken place b ls h v f run =
-      does_said (rule p) (act p.list) (charge_of m.due) (λ r. bind (after_paying p s m.due r) (under s m.frames.items)) IsDone (charge_goes t m n m.due taken place b ls h) run
+      does_said (rule p) (act p.list) (charge_of m.due) (λ r. bind (after_paying p s m.due r) (under p s m.frames.items)) IsDone (charge_goes t m n m.due taken place b ls h) run
 
   -- what is left after a charge, and before it
-  before_charge : (t : StoreState) (m n : Machine) (next : Move) → n.taken ≡ m.taken + cost p m.due → n.place ≡ m.place → n.frames.items ≡ m.frames.items → move_of p s next ≡ after_charge p s m.due → (b : ℕ) (ls : List EventTerm) → n.taken ≤ b → (v : World) (f : Finish Completion Stop) → Run p (moves_on p s next n) (world s t n b (ls ++ written m.due)) v f → Run p (still p s m) (world s t m b ls) v f
+  before_charge : (t : StoreState) (m n : Machine) (next : Move) → n.taken ≡ m.taken + cost p m.due → n.place ≡ m.place → n.frames.items ≡ m.frames.items → move_of p s next ≡ after_charge p s m.due → (b : ℕ) (ls : List EventTerm) → n.taken ≤ b → (v : World) (f : Finish JobEnd Stop) → Run p (moves_on p s next n) (world s t n b (ls ++ written m.due)) v f → Run p (still p s m) (world s t m b ls) v f
   before_charge t m n next taken place frames is b ls h v f run =
-      let g : Completion → Doing = under s m.frames.items in
+      let g : JobEnd → Doing = under p s m.frames.items in
       let tree : moves_on p s next n ≡ bind (after_charge p s m.due) g =
-      ap (λ (d : Doing). bind d (under s n.frames.items)) is ∙ ap (λ (l : List Frame). bind (after_charge p s m.due) (under s l)) frames in
+      ap (λ (d : Doing). bind d (under p s n.frames.items)) is ∙ ap (λ (l : List Frame). bind (after_charge p s m.due) (under p s l)) frames in
       after_paid t m n taken place b ls h v f
       (subst (λ (d : Doing). Run p d (world s t n b (ls ++ written m.due)) v f) tree run)
 
   comes_charge : (t : StoreState) (m n : Machine) (next : Move) → n.taken ≡ m.taken + cost p m.due → n.place ≡ m.place → n.frames.items ≡ m.frames.items → move_of p s next ≡ after_charge p s m.due → (b : ℕ) (ls : List EventTerm) → n.taken ≤ b → Comes p (moves_on p s next n) (world s t n b (ls ++ written m.due)) (still p s m) (world s t m b ls)
   comes_charge t m n next taken place frames is b ls h =
-      let g : Completion → Doing = under s m.frames.items in
+      let g : JobEnd → Doing = under p s m.frames.items in
       let tree : moves_on p s next n ≡ bind (after_charge p s m.due) g =
-      ap (λ (d : Doing). bind d (under s n.frames.items)) is ∙ ap (λ (l : List Frame). bind (after_charge p s m.due) (under s l)) frames in
+      ap (λ (d : Doing). bind d (under p s n.frames.items)) is ∙ ap (λ (l : List Frame). bind (after_charge p s m.due) (under p s l)) frames in
       said (charge_of m.due) (λ r. bind (after_paying p s m.due r) g) IsDone (world s t m b ls) (world s t n b (ls ++ written m.due)) (charge_goes t m n m.due taken place b ls h) (comes_same (sym tree) refl)
 
   -- where a machine fits, it fits at the move after its charge

@@ -1,5 +1,7 @@
 -- For proofs alone. The places that steps come to, and what fits there.
-use Rattle.std.proofs.Common.{◌≡◌, ℕ, ◌<◌, List, [], length, sym, ap, subst}
+use Rattle.std.proofs.Common.{◌≡◌, ℕ, zero, suc, ◌<◌, List, [], length, refl, sym, ap, subst}
+use Rattle.widl_dialog.specs.Dialog.{End, Say, Steps, bind}
+use Rattle.widl_dialog.specs.Position.{After, At}
 use Rattle.std.proofs.lemmas.List.{length-map}
 use Rattle.std.proofs.lemmas.Option.{slice_get-get_or}
 use Rattle.widl_idl.specs.MergedSets.{MergedSet}
@@ -16,8 +18,11 @@ use Rattle.widl_engine.specs.declared.moves.Move.{Move}
 use Rattle.widl_engine.specs.declared.moves.Move.TheVariants as move
 use Rattle.widl_engine.specs.Added.{CanBeAdded}
 use Rattle.widl_engine.specs.Fits.{Fits}
-use Rattle.widl_runs.specs.Fitting.{Comes, here, said, begun, CanBeMade, FitsPlace, KeepsFitting}
-use Rattle.widl_engine.specs.Frames.{new_of, program_of}
+use Rattle.widl_runs.specs.Fitting.{Comes, here, said, begun, CanBeMade, FitsJob, FitsPlace, KeepsFitting}
+use Rattle.widl_runs.specs.Rules.{rule}
+use Rattle.widl_engine.specs.declared.frames.Frame.{Frame}
+use Rattle.widl_engine.specs.declared.jobs.Job as jobs
+use Rattle.widl_engine.specs.Frames.{job_of, new_of, program_of, Wants}
 use Rattle.widl_engine.specs.Machine.{world, moves_on, Leads, MachineFits}
 
 pub comes_same : {p : Program} {d e : Doing} {w u : World} → d ≡ e → w ≡ u → Comes p e u d w
@@ -27,6 +32,16 @@ pub comes_then : {p : Program} {e : Doing} {u : World} {g : Doing} {o : World} {
 comes_then here y = y
 comes_then (said q k r w v is x) y = said q k r w v is (comes_then x y)
 comes_then (begun j k w x) y = begun j k w (comes_then x y)
+
+-- jobs alone come to where they lead
+pub comes_after : {p : Program} (m : ℕ) (d e : Doing) (w : World) → After (rule p) Wants m d [] e → Comes p e w d w
+comes_after zero d e w x = comes_same x refl
+comes_after (suc m) (End c) e w x = absurd x
+comes_after (suc m) (Say q k) e w x = absurd x
+comes_after {p = p} (suc m) (Steps j k) e w x = begun j k w (comes_after m (bind (rule p j) k) e w x)
+
+pub comes_at : {p : Program} {d e : Doing} → At (rule p) Wants d [] e → (w : World) → Comes p e w d w
+comes_at {d = d} {e = e} x w = comes_after x.steps d e w x.after
 
 -- what fits at a place fits at each place after it
 pub keeps_on : {p : Program} {d e : Doing} {w u : World} → Comes p e u d w → KeepsFitting p d w → KeepsFitting p e u
@@ -47,6 +62,8 @@ module _ (set : MergedSet) (s : Tables) (objects : List Obj) where
   can_be_added (new.Function number) x = subst (λ (k : ℕ). number < k) (functions_in s) x
   can_be_added (new.Array items) x = x
   can_be_added new.Error x = x
+  can_be_added (new.Entries entries) x = x
+  can_be_added (new.ArrayIterator object) x = x
 
 module _ (set : MergedSet) (s : Tables) where
   -- what the action of a place asks for, the due action asks for
@@ -57,7 +74,7 @@ module _ (set : MergedSet) (s : Tables) where
       at (due.Depth f this args b) y = tt
       at (due.DepthOfNew f args) y = tt
       at (due.Enter number this args) y = tt
-      at (due.EnterBuiltin function this args) y = tt
+      at (due.EnterBuiltin f function this args) y = tt
       at (due.Leave c) y = tt
       at (due.FindBody f this args) y = y
       at (due.FindConstructor f args) y = y
@@ -70,6 +87,11 @@ module _ (set : MergedSet) (s : Tables) where
       at (due.Put object key v) y = y
       at (due.Define object key prop) y = y
       at (due.Delete object key) y = y
+      at (due.FindKeys object) y = y
+      at (due.FindOwn object key) y = y
+      at (due.FindKind object) y = y
+      at (due.FindCursor object) y = y
+      at (due.MoveCursor object next turn) y = y
       at (due.Reach end) y = tt
 
   pub fits_move : (t : StoreState) (m : Machine) (current : Move) (d : Due) → current ≡ move.Acts d → MachineFits (program_of set s) s t (moves_on (program_of set s) s current m) m → Fits s t.objects m.place.next_symbol d
@@ -82,3 +104,10 @@ module _ (p : Program) (s : Tables) where
     lines = fits.lines;
     keeps = subst (λ (b : ℕ). KeepsFitting p e (world s u n b fits.lines)) (sym x.budget) (keeps_on (x.comes m.budget fits.lines) fits.keeps);
   }
+
+  -- what the call of a function asks for, where a job begins
+  pub fits_stepped : (t : StoreState) (m : Machine) (current : Move) (f : Frame) (j : jobs.Job) → current ≡ move.Steps f j → MachineFits p s t (moves_on p s current m) m → FitsJob (job_of s j)
+  fits_stepped t m current f j is x = (subst (λ (c : Move). MachineFits p s t (moves_on p s c m) m) is x).keeps.each _ _ here
+
+  pub fits_goes : (t : StoreState) (m : Machine) (current : Move) (j : jobs.Job) → current ≡ move.Goes j → MachineFits p s t (moves_on p s current m) m → FitsJob (job_of s j)
+  fits_goes t m current j is x = (subst (λ (c : Move). MachineFits p s t (moves_on p s c m) m) is x).keeps.each _ _ here

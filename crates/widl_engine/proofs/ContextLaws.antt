@@ -3,26 +3,30 @@ use Rattle.std.proofs.Common.{◌≡◌, ℕ, zero, suc, ◌+◌, ◌<◌, min, 
 use Rattle.std.proofs.Math.ListN.{drop_of_length-le}
 use Rattle.std.proofs.Math.Seq.{drop-cons}
 use Rattle.indexmap.specs.IndexMap.{insert_entry}
-use Rattle.widl_dialog.specs.Dialog.{Steps}
+use Rattle.widl_dialog.specs.Dialog.{End, Steps}
 use Rattle.widl_dialog.specs.Runs.{Went}
+use Rattle.widl_value.specs.declared.object.ObjRef.{ObjRef}
 use Rattle.widl_value.specs.declared.value.Value.{Value}
 use Rattle.widl_script_tree.specs.Trees.{Text, StatementTrees, ScriptTree}
 use Rattle.widl_script_tree.specs.Tables.{Tables, name_at, statements_tree, function_at, script_tree}
 use Rattle.widl_script_tree.specs.declared.row.Row.{Row}
 use Rattle.widl_store.specs.Objects.{StoreState}
+use Rattle.widl_store.specs.declared.inner.Builtin.{Builtin}
 use Rattle.widl_trace.specs.EventTerms.{EventTerm}
-use Rattle.widl_runs.specs.declared.completion.Completion.{Completion}
+use Rattle.widl_engine.specs.declared.ends.Completion.{Completion}
 use Rattle.widl_runs.specs.Actions.{IsDone}
 use Rattle.widl_runs.specs.Calls.{called, function_in}
 use Rattle.widl_runs.specs.Jobs.{Program, Doing, RunStatements}
 use Rattle.widl_runs.specs.Worlds as worlds
-use Rattle.widl_runs.specs.Worlds.{World, Bindings, bound_parameters, with_value, function_context, builtin_context, outer_contexts}
+use Rattle.widl_runs.specs.Worlds.{World, Bindings, bound_parameters, function_context, builtin_context, outer_contexts}
 use Rattle.widl_engine.specs.declared.contexts.Context.{Context}
 use Rattle.widl_engine.specs.declared.contexts.Place.{Place}
 use Rattle.widl_engine.specs.declared.due.Due.TheVariants as due
 use Rattle.widl_engine.specs.declared.frames.Frame.TheVariants as frame
 use Rattle.widl_engine.specs.declared.jobs.Job.TheVariants as job
+use Rattle.widl_engine.specs.declared.moves.Move.{Move}
 use Rattle.widl_engine.specs.declared.moves.Move.TheVariants as move
+use Rattle.widl_engine.specs.Frames.{completion_end, move_of}
 use Rattle.widl_engine.specs.Place.{named, context_of, outer_of, contexts_of, contexts_in, world_of, OtherContexts, Performed}
 use Rattle.widl_engine.proofs.Acting.{Done, performed, outer_push}
 use Rattle.widl_engine.proofs.Functions.{names_in, params_in, body_in}
@@ -68,8 +72,8 @@ world_now s t x y now k ls o =
     let cs = sym o.contexts in
     λ i. let w : World = record { store = t; globals = named (name_at s) (g i); next_symbol = n i; lines = ls; units = k; contexts = cs i } in w
 
-pub left_performed : (p : Program) (s : Tables) (t : StoreState) (x y : Place) (c : Completion) → OtherContexts s x y (outer_contexts (contexts_in s x)) → Performed p s (due.Leave c) t x t y (move.Gives c)
-left_performed p s t x y c o = performed IsDone (λ k ls. ap (λ (w : World). let d : Done = Went w IsDone in d) (world_now s t x y (outer_contexts (contexts_in s x)) k ls o)) refl
+pub left_performed : (p : Program) (s : Tables) (t : StoreState) (x y : Place) (c : Completion) (next : Move) → OtherContexts s x y (outer_contexts (contexts_in s x)) → move_of p s next ≡ End (completion_end c) → Performed p s (due.Leave c) t x t y next
+left_performed p s t x y c next o goes = performed IsDone (λ k ls. ap (λ (w : World). let d : Done = Went w IsDone in d) (world_now s t x y (outer_contexts (contexts_in s x)) k ls o)) goes
 
 pub enter_performed : (p : Program) (s : Tables) (t : StoreState) (x y : Place) (n : ℕ) (this : Value) (args : List Value) (inner : Context) (row : Row) → p.script ≡ script_tree s → context_of s inner ≡ function_context (function_in (script_tree s) n) this args → OtherContexts s x y (context_of s inner ∷ contexts_in s x) → row ≡ (function_at s n).body → Performed p s (due.Enter n this args) t x t y (move.Steps frame.Called (job.Statements row))
 enter_performed p s t x y n this args inner row script is o rows =
@@ -79,6 +83,15 @@ enter_performed p s t x y n this args inner row script is o rows =
     ∙ ap (λ (c : worlds.Context). let d : Done = Went (record (world_of s t x k ls) { contexts = c ∷ contexts_in s x }) IsDone in d) (sym is)
     ∙ ap (λ (w : World). let d : Done = Went w IsDone in d) (world_now s t x y (context_of s inner ∷ contexts_in s x) k ls o))
     (ap (λ (b : StatementTrees). let d : Doing = Steps (RunStatements b) called in d) (ap (statements_tree s) rows ∙ sym (body_in s n) ∙ ap (λ (sc : ScriptTree). (function_in sc n).body) (sym script)))
+
+-- a function that isn't written in the script
+pub builtin_performed : (p : Program) (s : Tables) (t : StoreState) (x y : Place) (f : ObjRef) (function : Builtin) (this that : Value) (args : List Value) → that ≡ this → OtherContexts s x y (builtin_context that ∷ contexts_in s x) → Performed p s (due.EnterBuiltin f function this args) t x t y (move.Steps frame.Talked (job.Function f function this args))
+builtin_performed p s t x y f function this that args same o =
+    performed IsDone
+    (λ k ls.
+    ap (λ (v : Value). let d : Done = Went (record (world_of s t x k ls) { contexts = builtin_context v ∷ contexts_in s x }) IsDone in d) (sym same)
+    ∙ ap (λ (w : World). let d : Done = Went w IsDone in d) (world_now s t x y (builtin_context that ∷ contexts_in s x) k ls o))
+    refl
 
 pub new_context : (s : Tables) (number : ℕ) (this : Value) (args : List Value) (params : List ℕ) (locals : List (ℕ × Value)) → params ≡ (function_at s number).params → named (name_at s) locals ≡ bound_parameters [] (map (name_at s) params) args → context_of s (record { this = this; function = Some number; locals = locals }) ≡ function_context (function_in (script_tree s) number) this args
 new_context s number this args params locals same bound =

@@ -1,4 +1,4 @@
--- For proofs alone. The items of a new array, defined one after another.
+-- For proofs alone. The items of a new array and the properties of a new object, defined one after another.
 use Rattle.std.proofs.Common.{◌≡◌, ℕ, zero, suc, ◌+◌, ◌<◌, List, [], ◌∷◌, Option, Some, None, length, drop, sym, ap, ◌∙◌, refl, slice_get, slice_set, decimal}
 use Rattle.std.specs.Option.{option_map, option_map_or}
 use Rattle.widl_text.specs.declared.key.Key.{Key}
@@ -9,7 +9,7 @@ use Rattle.widl_store.specs.declared.property.Prop.{Prop}
 use Rattle.widl_store.specs.declared.property.Prop.TheVariants.{Plain}
 use Rattle.widl_store.specs.Effects.{with_props, placed, defined}
 use Rattle.widl_store.specs.Objects.{Obj, StoreState, with_objects, IsLive, all_flags}
-use Rattle.widl_runs.specs.Actions.{with_items}
+use Rattle.widl_runs.specs.Actions.{data_properties, with_items, with_properties}
 use Rattle.widl_engine.proofs.TakenBack.{rest_of_taken}
 
 same_shape : (objects : List Obj) (id k : ℕ) (o x : Obj) → slice_get objects id ≡ Some o → x.shape ≡ o.shape → option_map (λ (q : Obj). q.shape) (slice_get (slice_set objects id x) k) ≡ option_map (λ (q : Obj). q.shape) (slice_get objects k)
@@ -31,3 +31,8 @@ next_item t u id k items more key v new within at put is_key is =
     ap (λ (z : StoreState). with_objects z (with_items z.objects id (k + 1) (drop (k + 1) more))) is
     ∙ ap (λ (q : Key). with_objects t (with_items (defined t.objects id q (Plain v all_flags)) id (k + 1) (drop (k + 1) more))) is_key
     ∙ ap (λ (vs : List Value). with_objects t (with_items t.objects id k vs)) (sym (rest_of_taken items more k v new within at put))
+
+pub next_entry : (t u : StoreState) (id k : ℕ) (entries more : List (Key × Value)) (entry new : Key × Value) → k < length entries → slice_get entries k ≡ Some entry → more ≡ slice_set entries k new → u ≡ with_objects t (defined t.objects id entry.0 (Plain entry.1 all_flags)) → with_objects u (with_properties u.objects id (data_properties (drop (k + 1) more))) ≡ with_objects t (with_properties t.objects id (data_properties (drop k entries)))
+next_entry t u id k entries more entry new within at put is =
+    ap (λ (z : StoreState). with_objects z (with_properties z.objects id (data_properties (drop (k + 1) more)))) is
+    ∙ ap (λ (es : List (Key × Value)). with_objects t (with_properties t.objects id (data_properties es))) (sym (rest_of_taken entries more k entry new within at put))

@@ -1,13 +1,16 @@
 -- For proofs alone. One place of a machine after another.
 use Rattle.std.proofs.Common.{◌≡◌, ℕ, ◌+◌, ◌-◌, List, [], ◌∷◌, ◌++◌, length, sym, ap, subst, ◌∙◌, refl, arith, length-append}
 use Rattle.widl_dialog.specs.Dialog.{Say, bind}
+use Rattle.widl_dialog.specs.Follows.{Follows}
+use Rattle.widl_dialog.specs.Position.{At}
+use Rattle.widl_dialog.proofs.Positions.{at_bind}
 use Rattle.widl_dialog.specs.Runs.{Went, Finish, Ended}
 use Rattle.widl_dialog.proofs.Bind.{bind_assoc, bind_end}
-use Rattle.widl_dialog.proofs.Following.{follows_same, follows_said, follows_steps, follows_then}
+use Rattle.widl_dialog.proofs.Following.{follows_same, follows_said, follows_steps, follows_then, follows_at}
 use Rattle.widl_script_tree.specs.Tables.{Tables}
 use Rattle.widl_store.specs.Objects.{StoreState}
 use Rattle.widl_trace.specs.EventTerms.{EventTerm}
-use Rattle.widl_runs.specs.declared.completion.Completion.{Completion}
+use Rattle.widl_runs.specs.Ends.{JobEnd}
 use Rattle.widl_runs.specs.declared.stop.Stop.{Stop}
 use Rattle.widl_runs.specs.Actions.{act}
 use Rattle.widl_runs.specs.Jobs.{Program, Doing}
@@ -19,18 +22,21 @@ use Rattle.widl_engine.specs.declared.due.Due.{Due}
 use Rattle.widl_engine.specs.declared.frames.Frame.{Frame}
 use Rattle.widl_engine.specs.declared.jobs.Job as jobs
 use Rattle.widl_engine.specs.declared.machine.Machine.{Machine}
+use Rattle.widl_engine.specs.declared.machine.Turn.{Turn}
 use Rattle.widl_engine.specs.declared.moves.Move.{Move}
 use Rattle.widl_engine.specs.declared.moves.Move.TheVariants as move
-use Rattle.widl_engine.specs.Frames.{charge_of, after_paying, act_of, after, job_of, back_to, move_of}
+use Rattle.widl_engine.specs.declared.ends.JobEnd as job_ends
+use Rattle.widl_engine.specs.Frames.{charge_of, after_paying, act_of, after, job_of, job_end_of, back_to, move_of, Wants, LeadsTo}
 use Rattle.widl_engine.specs.Place.{world_of, Performed}
-use Rattle.widl_engine.specs.Machine.{under, world, still, moves_on, Leads, Moves, RunsTo}
+use Rattle.widl_engine.specs.Machine.{under, world, still, moves_on, Leads, Moves, RunsTo, Turns}
 use Rattle.widl_engine.proofs.Acting.{Done}
-use Rattle.widl_runs.specs.Fitting.{here, said, begun}
-use Rattle.widl_engine.proofs.Coming.{comes_same, comes_then}
+use Rattle.widl_runs.specs.Fitting.{Comes, here, said, begun}
+use Rattle.widl_runs.specs.Worlds.{World}
+use Rattle.widl_engine.proofs.Coming.{comes_same, comes_then, comes_at}
 
-pub under_push : (s : Tables) (fs : List Frame) (f : Frame) (c : Completion) → under s (fs ++ f ∷ []) c ≡ bind (back_to s f c) (under s fs)
-under_push s [] f c = sym (bind_end (back_to s f c))
-under_push s (g ∷ fs) f c = ap (λ (x : Doing). bind x (back_to s g)) (under_push s fs f c) ∙ bind_assoc (back_to s f c) (under s fs) (back_to s g)
+pub under_push : (p : Program) (s : Tables) (fs : List Frame) (f : Frame) (c : JobEnd) → under p s (fs ++ f ∷ []) c ≡ bind (back_to p s f c) (under p s fs)
+under_push p s [] f c = sym (bind_end (back_to p s f c))
+under_push p s (g ∷ fs) f c = ap (λ (x : Doing). bind x (back_to p s g)) (under_push p s fs f c) ∙ bind_assoc (back_to p s f c) (under p s fs) (back_to p s g)
 
 -- the same place and units give the same world
 pub same_world : (s : Tables) (t : StoreState) (m n : Machine) (b : ℕ) (ls : List EventTerm) → n.place ≡ m.place → n.taken ≡ m.taken → world s t m b ls ≡ world s t n b ls
@@ -46,7 +52,7 @@ then_leads x y = record {
   comes = λ b ls. comes_then (x.comes b ls) (y.comes b ls);
 }
 
-pub then_runs : {p : Program} {s : Tables} {t u o : StoreState} {d e : Doing} {m n q : Machine} {f : Finish Completion Stop} → Leads p s t d m u e n → RunsTo p s u e n o q f → RunsTo p s t d m o q f
+pub then_runs : {p : Program} {s : Tables} {t u o : StoreState} {d e : Doing} {m n q : Machine} {f : Finish JobEnd Stop} → Leads p s t d m u e n → RunsTo p s u e n o q f → RunsTo p s t d m o q f
 then_runs x ends = record { taken = ends.taken ∙ x.taken; runs = λ b ls. (x.follows b ls).leads _ _ (ends.runs b ls) }
 
 pub leads_here : (p : Program) (s : Tables) (t : StoreState) (d : Doing) (m : Machine) → Leads p s t d m t d m
@@ -54,14 +60,8 @@ leads_here p s t d m = record { taken = refl; budget = refl; between = 0; follow
 
 module _ (p : Program) (s : Tables) where
   -- a move that is known
-  pub at_leads : (t u : StoreState) (c known : Move) (m n : Machine) (e : Doing) → c ≡ known → Leads p s t (moves_on p s known m) m u e n → Leads p s t (moves_on p s c m) m u e n
-  at_leads t u c known m n e same x = subst (λ (c : Move). Leads p s t (moves_on p s c m) m u e n) (sym same) x
-
-  pub at_move : (t u : StoreState) (c known : Move) (m n : Machine) (e : Doing) → c ≡ known → Moves p s t (moves_on p s known m) m u e n → Moves p s t (moves_on p s c m) m u e n
-  at_move t u c known m n e same x = subst (λ (c : Move). Moves p s t (moves_on p s c m) m u e n) (sym same) x
-
-  pub at_end : (t u : StoreState) (c known : Move) (m n : Machine) (f : Finish Completion Stop) → c ≡ known → RunsTo p s t (moves_on p s known m) m u n f → RunsTo p s t (moves_on p s c m) m u n f
-  at_end t u c known m n f same x = subst (λ (c : Move). RunsTo p s t (moves_on p s c m) m u n f) (sym same) x
+  pub at_move : (t u : StoreState) (c known : Move) (m n : Machine) (r : Turn) → c ≡ known → Turns p s t known m u n r → Turns p s t c m u n r
+  at_move t u c known m n r same x = subst (λ (c : Move). Turns p s t c m u n r) (sym same) x
 
   pub rested : (t : StoreState) (m n : Machine) (charge : Charge) → n.due ≡ charge → n.place ≡ m.place → n.frames.items ≡ m.frames.items → n.taken ≡ m.taken → n.budget ≡ m.budget → Leads p s t (moves_on p s (move.Pays charge) m) m t (still p s n) n
   rested t m n charge due place frames taken budget = record {
@@ -71,11 +71,11 @@ module _ (p : Program) (s : Tables) where
     follows = λ b ls.
         let c = sym due in
         let fs = sym frames in
-        follows_same _ _ (λ i. bind (Say (charge_of (c i)) (after_paying p s (c i))) (under s (fs i))) (same_world s t m n b ls place taken);
+        follows_same _ _ (λ i. bind (Say (charge_of (c i)) (after_paying p s (c i))) (under p s (fs i))) (same_world s t m n b ls place taken);
     comes = λ b ls.
         let c = sym due in
         let fs = sym frames in
-        comes_same (λ i. bind (Say (charge_of (c i)) (after_paying p s (c i))) (under s (fs i))) (same_world s t m n b ls place taken);
+        comes_same (λ i. bind (Say (charge_of (c i)) (after_paying p s (c i))) (under p s (fs i))) (same_world s t m n b ls place taken);
   }
 
   pub acted : (t u : StoreState) (m n : Machine) (due : Due) (next : Move) → Performed p s due t m.place u n.place next → n.frames.items ≡ m.frames.items → n.taken ≡ m.taken → n.budget ≡ m.budget → Moves p s t (moves_on p s (move.Acts due) m) m u (moves_on p s next n) n
@@ -85,82 +85,89 @@ module _ (p : Program) (s : Tables) where
       budget = budget;
       between = 1 + 0;
       follows = λ b ls.
-          let g : Completion → Doing = under s m.frames.items in
+          let g : JobEnd → Doing = under p s m.frames.items in
           let went : act p.list (act_of p s due) (world s t m b ls) ≡ Went (world s u n b ls) x.reply =
           x.done.went (b - m.taken) ls ∙ ap (λ (k : ℕ). let d : Done = Went (world_of s u n.place (b - k) ls) x.reply in d) (sym taken) in
-          let tree : bind (after p s due x.reply) g ≡ bind (move_of p s next) (under s n.frames.items) =
-          ap (λ (d : Doing). bind d g) (sym x.goes) ∙ ap (λ (l : List Frame). bind (move_of p s next) (under s l)) (sym frames) in
+          let tree : bind (after p s due x.reply) g ≡ bind (move_of p s next) (under p s n.frames.items) =
+          ap (λ (d : Doing). bind d g) (sym x.goes) ∙ ap (λ (l : List Frame). bind (move_of p s next) (under p s l)) (sym frames) in
           follows_then _ _ (follows_said (rule p) (act p.list) (act_of p s due) (λ r. bind (after p s due r) g) x.reply went) (follows_same _ _ tree refl);
       comes = λ b ls.
-          let g : Completion → Doing = under s m.frames.items in
+          let g : JobEnd → Doing = under p s m.frames.items in
           let went : act p.list (act_of p s due) (world s t m b ls) ≡ Went (world s u n b ls) x.reply =
           x.done.went (b - m.taken) ls ∙ ap (λ (k : ℕ). let d : Done = Went (world_of s u n.place (b - k) ls) x.reply in d) (sym taken) in
-          let tree : bind (after p s due x.reply) g ≡ bind (move_of p s next) (under s n.frames.items) =
-          ap (λ (d : Doing). bind d g) (sym x.goes) ∙ ap (λ (l : List Frame). bind (move_of p s next) (under s l)) (sym frames) in
+          let tree : bind (after p s due x.reply) g ≡ bind (move_of p s next) (under p s n.frames.items) =
+          ap (λ (d : Doing). bind d g) (sym x.goes) ∙ ap (λ (l : List Frame). bind (move_of p s next) (under p s l)) (sym frames) in
           said (act_of p s due) (λ r. bind (after p s due r) g) x.reply (world s t m b ls) (world s u n b ls) went (comes_same tree refl);
     };
     less = let e = ap (λ (l : List Frame). length l) frames in omega (arith, e);
   }
 
-  pub gave : (t : StoreState) (m n : Machine) (next : Move) (f : Frame) (c : Completion) → n.place ≡ m.place → n.taken ≡ m.taken → n.budget ≡ m.budget → m.frames.items ≡ n.frames.items ++ f ∷ [] → move_of p s next ≡ back_to s f c → Moves p s t (moves_on p s (move.Gives c) m) m t (moves_on p s next n) n
-  gave t m n next f c place taken budget frames is = record {
-    place = record {
-      taken = taken;
-      budget = budget;
-      between = 0;
-      follows = λ b ls.
-          let tree : under s m.frames.items c ≡ bind (move_of p s next) (under s n.frames.items) =
-          ap (λ (l : List Frame). under s l c) frames ∙ under_push s n.frames.items f c ∙ ap (λ (d : Doing). bind d (under s n.frames.items)) (sym is) in
-          follows_same _ _ tree (same_world s t m n b ls place taken);
-      comes = λ b ls.
-          let tree : under s m.frames.items c ≡ bind (move_of p s next) (under s n.frames.items) =
-          ap (λ (l : List Frame). under s l c) frames ∙ under_push s n.frames.items f c ∙ ap (λ (d : Doing). bind d (under s n.frames.items)) (sym is) in
-          comes_same tree (same_world s t m n b ls place taken);
-    };
-    less = let e = ap (λ (l : List Frame). length l) frames in let h = length-append n.frames.items (f ∷ []) in omega (arith, e, h);
-  }
+  -- where jobs alone lead to the next move, the place follows
+  leads_under : (e : Doing) (next : Move) (m n : Machine) (t : StoreState) → n.taken ≡ m.taken → n.place ≡ m.place → (x : LeadsTo p s e next) → (b : ℕ) (ls : List EventTerm) → Follows (rule p) (act p.list) (bind e (under p s n.frames.items)) (world s t m b ls) (moves_on p s next n) (world s t n b ls) (at_bind (rule p) Wants (under p s n.frames.items) x).steps
+  leads_under e next m n t taken place x b ls =
+      let y : At (rule p) Wants (bind e (under p s n.frames.items)) [] (moves_on p s next n) = at_bind (rule p) Wants (under p s n.frames.items) x in
+      subst (λ (w : World). Follows (rule p) (act p.list) (bind e (under p s n.frames.items)) w (moves_on p s next n) (world s t n b ls) y.steps) (sym (same_world s t m n b ls place taken)) (follows_at (rule p) (act p.list) Wants (world s t n b ls) y)
 
-  pub stepped : (t : StoreState) (m n : Machine) (next : Move) (f : Frame) (j : jobs.Job) → n.place ≡ m.place → n.taken ≡ m.taken → n.budget ≡ m.budget → n.frames.items ≡ m.frames.items ++ f ∷ [] → move_of p s next ≡ rule p (job_of s j) → Moves p s t (moves_on p s (move.Steps f j) m) m t (moves_on p s next n) n
-  stepped t m n next f j place taken budget frames is = record {
-    place = record {
-      taken = taken;
-      budget = budget;
-      between = 1 + 0;
-      follows = λ b ls.
-          let k : Completion → Doing = λ c. bind (back_to s f c) (under s m.frames.items) in
-          let r : Doing = rule p (job_of s j) in
-          let back : (c : Completion) → bind (back_to s f c) (under s m.frames.items) ≡ under s (m.frames.items ++ f ∷ []) c = λ c. sym (under_push s m.frames.items f c) in
-          let tree : bind r k ≡ bind (move_of p s next) (under s n.frames.items) =
-          (λ i. bind r (λ c. back c i)) ∙ ap (λ (l : List Frame). bind r (under s l)) (sym frames) ∙ ap (λ (d : Doing). bind d (under s n.frames.items)) (sym is) in
-          follows_then _ _ (follows_steps (rule p) (act p.list) (job_of s j) k (world s t m b ls)) (follows_same _ _ tree (same_world s t m n b ls place taken));
-      comes = λ b ls.
-          let k : Completion → Doing = λ c. bind (back_to s f c) (under s m.frames.items) in
-          let r : Doing = rule p (job_of s j) in
-          let back : (c : Completion) → bind (back_to s f c) (under s m.frames.items) ≡ under s (m.frames.items ++ f ∷ []) c = λ c. sym (under_push s m.frames.items f c) in
-          let tree : bind r k ≡ bind (move_of p s next) (under s n.frames.items) =
-          (λ i. bind r (λ c. back c i)) ∙ ap (λ (l : List Frame). bind r (under s l)) (sym frames) ∙ ap (λ (d : Doing). bind d (under s n.frames.items)) (sym is) in
-          begun (job_of s j) k (world s t m b ls) (comes_same tree (same_world s t m n b ls place taken));
-    };
-    less = let e = ap (λ (l : List Frame). length l) frames in let h = length-append m.frames.items (f ∷ []) in omega (arith, e, h);
-  }
+  comes_under : (e : Doing) (next : Move) (m n : Machine) (t : StoreState) → n.taken ≡ m.taken → n.place ≡ m.place → LeadsTo p s e next → (b : ℕ) (ls : List EventTerm) → Comes p (moves_on p s next n) (world s t n b ls) (bind e (under p s n.frames.items)) (world s t m b ls)
+  comes_under e next m n t taken place x b ls =
+      let y : At (rule p) Wants (bind e (under p s n.frames.items)) [] (moves_on p s next n) = at_bind (rule p) Wants (under p s n.frames.items) x in
+      subst (λ (w : World). Comes p (moves_on p s next n) (world s t n b ls) (bind e (under p s n.frames.items)) w) (sym (same_world s t m n b ls place taken)) (comes_at y (world s t n b ls))
 
-  pub went : (t : StoreState) (m : Machine) (next : Move) (j : jobs.Job) → move_of p s next ≡ rule p (job_of s j) → Moves p s t (moves_on p s (move.Goes j) m) m t (moves_on p s next m) m
-  went t m next j is = record {
-    place = record {
-      taken = refl;
-      budget = refl;
-      between = 1 + 0;
-      follows = λ b ls.
-          follows_then _ _ (follows_steps (rule p) (act p.list) (job_of s j) (under s m.frames.items) (world s t m b ls)) (follows_same _ _ (ap (λ (d : Doing). bind d (under s m.frames.items)) (sym is)) refl);
-      comes = λ b ls.
-          begun (job_of s j) (under s m.frames.items) (world s t m b ls) (comes_same (ap (λ (d : Doing). bind d (under s m.frames.items)) (sym is)) refl);
-    };
-    less = omega arith;
-  }
+  pub gave : (t : StoreState) (m n : Machine) (next : Move) (f : Frame) (c : job_ends.JobEnd) → n.place ≡ m.place → n.taken ≡ m.taken → n.budget ≡ m.budget → m.frames.items ≡ n.frames.items ++ f ∷ [] → LeadsTo p s (back_to p s f (job_end_of c)) next → Moves p s t (moves_on p s (move.Gives c) m) m t (moves_on p s next n) n
+  gave t m n next f c place taken budget frames x =
+      let end : JobEnd = job_end_of c in
+      let tree : under p s m.frames.items end ≡ bind (back_to p s f end) (under p s n.frames.items) = ap (λ (l : List Frame). under p s l end) frames ∙ under_push p s n.frames.items f end in
+      record {
+        place = record {
+          taken = taken;
+          budget = budget;
+          between = 0 + (at_bind (rule p) Wants (under p s n.frames.items) x).steps;
+          follows = λ b ls. follows_then _ _ (follows_same _ _ tree refl) (leads_under (back_to p s f end) next m n t taken place x b ls);
+          comes = λ b ls. comes_then (comes_same tree refl) (comes_under (back_to p s f end) next m n t taken place x b ls);
+        };
+        less = let e = ap (λ (l : List Frame). length l) frames in let h = length-append n.frames.items (f ∷ []) in omega (arith, e, h);
+      }
 
-  pub over : (t : StoreState) (m n : Machine) (c : Completion) → n.place ≡ m.place → n.taken ≡ m.taken → m.frames.items ≡ [] → RunsTo p s t (moves_on p s (move.Gives c) m) m t n (Ended c)
+  pub stepped : (t : StoreState) (m n : Machine) (next : Move) (f : Frame) (j : jobs.Job) → n.place ≡ m.place → n.taken ≡ m.taken → n.budget ≡ m.budget → n.frames.items ≡ m.frames.items ++ f ∷ [] → LeadsTo p s (rule p (job_of s j)) next → Moves p s t (moves_on p s (move.Steps f j) m) m t (moves_on p s next n) n
+  stepped t m n next f j place taken budget frames x =
+      let k : JobEnd → Doing = λ c. bind (back_to p s f c) (under p s m.frames.items) in
+      let r : Doing = rule p (job_of s j) in
+      let back : (c : JobEnd) → bind (back_to p s f c) (under p s m.frames.items) ≡ under p s (m.frames.items ++ f ∷ []) c = λ c. sym (under_push p s m.frames.items f c) in
+      let tree : bind r k ≡ bind r (under p s n.frames.items) = (λ i. bind r (λ c. back c i)) ∙ ap (λ (l : List Frame). bind r (under p s l)) (sym frames) in
+      record {
+        place = record {
+          taken = taken;
+          budget = budget;
+          between = 1 + (0 + (at_bind (rule p) Wants (under p s n.frames.items) x).steps);
+          follows = λ b ls.
+              follows_then _ _ (follows_steps (rule p) (act p.list) (job_of s j) k (world s t m b ls)) (follows_then _ _ (follows_same _ _ tree refl) (leads_under r next m n t taken place x b ls));
+          comes = λ b ls. begun (job_of s j) k (world s t m b ls) (comes_then (comes_same tree refl) (comes_under r next m n t taken place x b ls));
+        };
+        less = let e = ap (λ (l : List Frame). length l) frames in let h = length-append m.frames.items (f ∷ []) in omega (arith, e, h);
+      }
+
+  pub went : (t : StoreState) (m : Machine) (next : Move) (j : jobs.Job) → LeadsTo p s (rule p (job_of s j)) next → Moves p s t (moves_on p s (move.Goes j) m) m t (moves_on p s next m) m
+  went t m next j x =
+      let r : Doing = rule p (job_of s j) in
+      record {
+        place = record {
+          taken = refl;
+          budget = refl;
+          between = 1 + (at_bind (rule p) Wants (under p s m.frames.items) x).steps;
+          follows = λ b ls.
+              follows_then _ _ (follows_steps (rule p) (act p.list) (job_of s j) (under p s m.frames.items) (world s t m b ls)) (leads_under r next m m t refl refl x b ls);
+          comes = λ b ls. begun (job_of s j) (under p s m.frames.items) (world s t m b ls) (comes_under r next m m t refl refl x b ls);
+        };
+        less = omega arith;
+      }
+
+  pub over : (t : StoreState) (m n : Machine) (c : job_ends.JobEnd) → n.place ≡ m.place → n.taken ≡ m.taken → m.frames.items ≡ [] → RunsTo p s t (moves_on p s (move.Gives c) m) m t n (Ended (job_end_of c))
   over t m n c place taken none = record {
     taken = taken;
     runs = λ b ls.
-        subst (λ (l : List Frame). Run p (under s l c) (world s t m b ls) (world s t n b ls) (Ended c)) (sym none) (record { steps = 1; runs = (sym (same_world s t m n b ls place taken), refl) });
+        subst (λ (l : List Frame). Run p (under p s l (job_end_of c)) (world s t m b ls) (world s t n b ls) (Ended (job_end_of c))) (sym none) (record { steps = 1; runs = (sym (same_world s t m n b ls place taken), refl) });
   }
+
+-- an equation leads
+pub leads_is : (p : Program) (s : Tables) (d : Doing) (next : Move) → move_of p s next ≡ d → LeadsTo p s d next
+leads_is p s d next is = record { steps = 0; after = sym is }

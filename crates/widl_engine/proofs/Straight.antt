@@ -9,8 +9,7 @@ use Rattle.widl_script_tree.specs.Trees.{StatementTrees}
 use Rattle.widl_value.specs.declared.value.Value.{Value}
 use Rattle.widl_value.specs.declared.value.Value.TheVariants as values
 use Rattle.widl_store.specs.Objects.{StoreState}
-use Rattle.widl_runs.specs.declared.completion.Completion.{Completion}
-use Rattle.widl_runs.specs.declared.completion.Completion.TheVariants.{Normal}
+use Rattle.widl_runs.specs.Ends.{JobEnd, Normal}
 use Rattle.widl_runs.specs.Actions.{BindName, IsDone, act}
 use Rattle.widl_runs.specs.Expressions.{evaluate}
 use Rattle.widl_runs.specs.Fitting.{begun}
@@ -32,12 +31,15 @@ use Rattle.widl_engine.specs.declared.machine.Moved.{Moved}
 use Rattle.widl_engine.specs.declared.machine.Moved.TheVariants as moved
 use Rattle.widl_engine.specs.declared.moves.Move.{Move}
 use Rattle.widl_engine.specs.declared.moves.Move.TheVariants as move
-use Rattle.widl_engine.specs.Frames.{back_to}
+use Rattle.widl_engine.specs.declared.ends.Completion.TheVariants as completions
+use Rattle.widl_engine.specs.declared.ends.JobEnd as job_ends
+use Rattle.widl_engine.specs.declared.ends.JobEnd.TheVariants.{Completed as completed}
+use Rattle.widl_engine.specs.Frames.{back_to, job_of, job_end_of}
 use Rattle.widl_engine.specs.Machine.{under, world, still, moves_on, Leads, Advances}
 use Rattle.widl_engine.specs.Place.{Acts}
 use Rattle.widl_engine.proofs.Acting.{performed}
 use Rattle.widl_engine.proofs.Coming.{comes_same}
-use Rattle.widl_engine.proofs.Leading.{then_leads, then_runs, same_world, gave, went, stepped, acted, rested}
+use Rattle.widl_engine.proofs.Leading.{then_leads, then_runs, same_world, gave, went, stepped, acted, rested, leads_is}
 
 -- all moves after one place are all moves after one that leads to it
 pub then_advances : (p : Program) (s : Tables) (t u o : StoreState) (first next : Move) (m n q : Machine) (led : Moved) → Leads p s t (moves_on p s first m) m u (moves_on p s next n) n → Advances p s u next n o q led → Advances p s t first m o q led
@@ -50,8 +52,8 @@ module _ (p : Program) (s : Tables) where
   -- the literal is evaluated, and its value is to be bound
   evaluated : (t : StoreState) (m : Machine) (b : Binding) → evaluate (expression_tree s b.place) ≡ End (Normal b.value) → Leads p s t (moves_on p s (binding b) m) m t (moves_on p s (move.Acts (due.Bind b.name b.value then_what.Ends)) m) m
   evaluated t m b is =
-      let k : Completion → Doing = λ c. bind (back_to s (frame.Value (goes_on.Binds b.name)) c) (under s m.frames.items) in
-      let tree : bind (evaluate (expression_tree s b.place)) k ≡ bind (binds (name_at s b.name) b.value) (under s m.frames.items) = ap (λ (d : Doing). bind d k) is in
+      let k : JobEnd → Doing = λ c. bind (back_to p s (frame.Value (goes_on.Binds b.name)) c) (under p s m.frames.items) in
+      let tree : bind (evaluate (expression_tree s b.place)) k ≡ bind (binds (name_at s b.name) b.value) (under p s m.frames.items) = ap (λ (d : Doing). bind d k) is in
       record {
         taken = refl;
         budget = refl;
@@ -61,29 +63,29 @@ module _ (p : Program) (s : Tables) where
       }
 
   -- and is bound
-  pub bound : (t : StoreState) (m n : Machine) (b : Binding) → evaluate (expression_tree s b.place) ≡ End (Normal b.value) → Acts p s (BindName (name_at s b.name) b.value) t m.place t n.place IsDone → n.frames.items ≡ m.frames.items → n.taken ≡ m.taken → n.budget ≡ m.budget → Leads p s t (moves_on p s (binding b) m) m t (moves_on p s (move.Gives (Normal values.Undefined)) n) n
+  pub bound : (t : StoreState) (m n : Machine) (b : Binding) → evaluate (expression_tree s b.place) ≡ End (Normal b.value) → Acts p s (BindName (name_at s b.name) b.value) t m.place t n.place IsDone → n.frames.items ≡ m.frames.items → n.taken ≡ m.taken → n.budget ≡ m.budget → Leads p s t (moves_on p s (binding b) m) m t (moves_on p s (move.Gives (completed (completions.Normal values.Undefined))) n) n
   bound t m n b is x frames taken budget =
       then_leads (evaluated t m b is)
-      (acted p s t t m n (due.Bind b.name b.value then_what.Ends) (move.Gives (Normal values.Undefined)) (performed IsDone x.went refl) frames taken budget).place
+      (acted p s t t m n (due.Bind b.name b.value then_what.Ends) (move.Gives (completed (completions.Normal values.Undefined))) (performed IsDone x.went refl) frames taken budget).place
 
   -- the next statement of the frame that was taken takes its unit
-  pub next_taken : (t : StoreState) (m n o q : Machine) (f : Frame) (row : Row) (v : Value) → GoesOnWith s f row → m.frames.items ≡ n.frames.items ++ f ∷ [] → n.place ≡ m.place → n.taken ≡ m.taken → n.budget ≡ m.budget → o.frames.items ≡ n.frames.items ++ frame.Value (goes_on.NextStatements (rest_of row)) ∷ [] → o.place ≡ n.place → o.taken ≡ n.taken → o.budget ≡ n.budget → q.due ≡ charge.Unit (unit.Statement row.first) → q.place ≡ o.place → q.frames.items ≡ o.frames.items → q.taken ≡ o.taken → q.budget ≡ o.budget → Leads p s t (moves_on p s (move.Gives (Normal v)) m) m t (still p s q) q
+  pub next_taken : (t : StoreState) (m n o q : Machine) (f : Frame) (row : Row) (v : Value) → GoesOnWith s f row → m.frames.items ≡ n.frames.items ++ f ∷ [] → n.place ≡ m.place → n.taken ≡ m.taken → n.budget ≡ m.budget → o.frames.items ≡ n.frames.items ++ frame.Value (goes_on.NextStatements (rest_of row)) ∷ [] → o.place ≡ n.place → o.taken ≡ n.taken → o.budget ≡ n.budget → q.due ≡ charge.Unit (unit.Statement row.first) → q.place ≡ o.place → q.frames.items ≡ o.frames.items → q.taken ≡ o.taken → q.budget ≡ o.budget → Leads p s t (moves_on p s (move.Gives (completed (completions.Normal v))) m) m t (still p s q) q
   next_taken t m n o q f row v x popped place taken budget pushed place_o taken_o budget_o due_q place_q frames_q taken_q budget_q =
       let rest : Frame = frame.Value (goes_on.NextStatements (rest_of row)) in
       let goes : Move = move.Goes (job.Statements row) in
       let first : Move = move.Steps rest (job.Statement row.first) in
       let pays : Move = move.Pays (charge.Unit (unit.Statement row.first)) in
-      then_leads (gave p s t m n goes f (Normal v) place taken budget popped (ap (λ (g : Frame). back_to s g (Normal v)) (sym x.next))).place
-      (then_leads (went p s t n first (job.Statements row) (ap (λ (ts : StatementTrees). run_statements ts) (sym x.opens))).place
-      (then_leads (stepped p s t n o pays rest (job.Statement row.first) place_o taken_o budget_o pushed (sym x.pays)).place
+      then_leads (gave p s t m n goes f (completed (completions.Normal v)) place taken budget popped (leads_is p s (back_to p s f (Normal v)) goes (ap (λ (g : Frame). back_to p s g (Normal v)) (sym x.next)))).place
+      (then_leads (went p s t n first (job.Statements row) (leads_is p s (rule p (job_of s (job.Statements row))) first (ap (λ (ts : StatementTrees). run_statements ts) (sym x.opens)))).place
+      (then_leads (stepped p s t n o pays rest (job.Statement row.first) place_o taken_o budget_o pushed (leads_is p s (rule p (job_of s (job.Statement row.first))) pays (sym x.pays))).place
       (rested p s t o q (charge.Unit (unit.Statement row.first)) due_q place_q frames_q taken_q budget_q)))
 
   -- frames that lie there again
-  pub put_back : (t : StoreState) (m n : Machine) (c : Completion) → n.place ≡ m.place → n.frames.items ≡ m.frames.items → n.taken ≡ m.taken → n.budget ≡ m.budget → Leads p s t (moves_on p s (move.Gives c) m) m t (moves_on p s (move.Gives c) n) n
+  pub put_back : (t : StoreState) (m n : Machine) (c : job_ends.JobEnd) → n.place ≡ m.place → n.frames.items ≡ m.frames.items → n.taken ≡ m.taken → n.budget ≡ m.budget → Leads p s t (moves_on p s (move.Gives c) m) m t (moves_on p s (move.Gives c) n) n
   put_back t m n c place frames taken budget = record {
     taken = taken;
     budget = budget;
     between = 0;
-    follows = λ b ls. follows_same _ _ (ap (λ (l : List Frame). under s l c) (sym frames)) (same_world s t m n b ls place taken);
-    comes = λ b ls. comes_same (ap (λ (l : List Frame). under s l c) (sym frames)) (same_world s t m n b ls place taken);
+    follows = λ b ls. follows_same _ _ (ap (λ (l : List Frame). under p s l (job_end_of c)) (sym frames)) (same_world s t m n b ls place taken);
+    comes = λ b ls. comes_same (ap (λ (l : List Frame). under p s l (job_end_of c)) (sym frames)) (same_world s t m n b ls place taken);
   }

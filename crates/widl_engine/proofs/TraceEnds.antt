@@ -8,8 +8,7 @@ use Rattle.widl_store.specs.Objects.{StoreState}
 use Rattle.widl_store.specs.Realm.{realm_of}
 use Rattle.widl_trace.specs.EventLines.{line_of}
 use Rattle.widl_trace.specs.EventTerms.{EventTerm}
-use Rattle.widl_runs.specs.declared.completion.Completion.{Completion}
-use Rattle.widl_runs.specs.declared.completion.Completion.TheVariants.{Normal, Returned, Thrown}
+use Rattle.widl_runs.specs.Ends.{JobEnd, Normal, Returned, Thrown, Talked, Seen}
 use Rattle.widl_runs.specs.declared.stop.Stop.{Stop}
 use Rattle.widl_runs.specs.Actions.{act}
 use Rattle.widl_runs.specs.Jobs.{Program}
@@ -23,6 +22,8 @@ use Rattle.widl_engine.specs.declared.runs.End.{End}
 use Rattle.widl_engine.specs.declared.runs.End.TheVariants as ends
 use Rattle.widl_engine.specs.Outcomes.{IsWhole, IsFirstPart, IsTorn, RanAs}
 use Rattle.widl_engine.specs.Output.{Output, Emits, Tears, bytes_of_lines}
+use Rattle.widl_engine.specs.declared.ends.JobEnd as job_ends
+use Rattle.widl_engine.specs.Frames.{job_end_of}
 use Rattle.widl_engine.specs.Running.{bytes_of_events, Finished, Begun, Broken, Became}
 use Rattle.widl_engine.specs.Stops.{ends_with, bytes_of_stop, Said}
 use Rattle.widl_engine.proofs.WholeRuns.{bytes_append}
@@ -30,7 +31,7 @@ use Rattle.widl_engine.proofs.WholeRuns.{bytes_append}
 module _ (p : Program) (budget : ℕ) where
   -- 1. Runs that end
 
-  whole_ended : (before after : Output) (c : Completion) (end : Ending) (counts : Counts) → end ≡ ending_of (Ended c) → Finished p (realm_of p.list) budget before after (Ended c) counts → IsWhole p.list p.script budget before after end counts
+  whole_ended : (before after : Output) (c : JobEnd) (end : Ending) (counts : Counts) → end ≡ ending_of (Ended c) → Finished p (realm_of p.list) budget before after (Ended c) counts → IsWhole p.list p.script budget before after end counts
   whole_ended before after c end counts is x = record {
     lines = map (line_of p.list) x.world.lines;
     trace = record { world = x.world; finish = Ended c; runs = x.runs; written = ap (map (line_of p.list)) (sym (append-nil x.world.lines)); ended = is };
@@ -39,10 +40,12 @@ module _ (p : Program) (budget : ℕ) where
     units = x.units;
   }
 
-  pub ended_as : (before after : Output) (c : Completion) (counts : Counts) → Finished p (realm_of p.list) budget before after (Ended c) counts → RanAs p.list p.script budget before after (ends_with c) counts
+  pub ended_as : (before after : Output) (c : JobEnd) (counts : Counts) → Finished p (realm_of p.list) budget before after (Ended c) counts → RanAs p.list p.script budget before after (ends_with c) counts
   ended_as before after (Normal v) counts x = whole_ended before after (Normal v) _ counts refl x
   ended_as before after (Returned v) counts x = whole_ended before after (Returned v) _ counts refl x
   ended_as before after (Thrown v) counts x = whole_ended before after (Thrown v) _ counts refl x
+  ended_as before after (Talked end) counts x = whole_ended before after (Talked end) _ counts refl x
+  ended_as before after (Seen answer) counts x = whole_ended before after (Seen answer) _ counts refl x
 
   -- 2. Parts
 
@@ -103,7 +106,7 @@ module _ (p : Program) (budget : ℕ) where
       tears = λ all end trace.
           let one = one_outcome (rule p) (act p.list) trace.runs x.runs in
           let lines : all ≡ map (line_of p.list) (x.world.lines ++ stop_event stop ∷ []) =
-          trace.written ∙ ap (λ (w : World). map (line_of p.list) (w.lines ++ stop_events trace.finish)) one.0 ∙ ap (λ (f : Finish Completion Stop). map (line_of p.list) (x.world.lines ++ stop_events f)) one.1 in
+          trace.written ∙ ap (λ (w : World). map (line_of p.list) (w.lines ++ stop_events trace.finish)) one.0 ∙ ap (λ (f : Finish JobEnd Stop). map (line_of p.list) (x.world.lines ++ stop_events f)) one.1 in
           subst (Tears before after) (stop_bytes ∙ ap bytes_of_lines (sym lines))
           (sends_prefix before.held mid.held after.held before.kept (bytes_of_events p x.world.lines) mid.kept (bytes_of_stop p.list stop) x.emitted tears);
     }
@@ -124,8 +127,8 @@ module _ (p : Program) (budget : ℕ) where
     at_way : (w : Way) → how ≡ w → Became p (realm_of p.list) budget before mid w counts
     at_way w is = subst (λ (w : Way). Became p (realm_of p.list) budget before mid w counts) is from_realm
 
-    pub run_ended : (c : Completion) (end : End) → how ≡ way.Ended c → end ≡ ends_with c → RanAs p.list p.script budget before mid end counts
-    run_ended c end is ends = subst (λ (e : End). RanAs p.list p.script budget before mid e counts) (sym ends) (ended_as before mid c counts (at_way (way.Ended c) is))
+    pub run_ended : (c : job_ends.JobEnd) (end : End) → how ≡ way.Ended c → end ≡ ends_with (job_end_of c) → RanAs p.list p.script budget before mid end counts
+    run_ended c end is ends = subst (λ (e : End). RanAs p.list p.script budget before mid e counts) (sym ends) (ended_as before mid (job_end_of c) counts (at_way (way.Ended c) is))
 
     pub run_stopped : (stop : Stop) (end : End) (more : Counts) → how ≡ way.Stopped stop → more.events ≡ counts.events + 1 → more.units ≡ counts.units → Said p.list stop mid after end → RanAs p.list p.script budget before after end more
     run_stopped stop end more is events units said = stop_said before mid after stop counts more (at_way (way.Stopped stop) is) end events units said

@@ -12,7 +12,7 @@ use Rattle.widl_sink.proofs.Grows.{sends_then, sends_none, sends_prefix, prefix_
 use Rattle.widl_store.specs.Objects.{StoreState}
 use Rattle.widl_trace.specs.EventLines.{line_of}
 use Rattle.widl_trace.specs.EventTerms.{EventTerm, event_term}
-use Rattle.widl_runs.specs.declared.completion.Completion.{Completion}
+use Rattle.widl_runs.specs.Ends.{JobEnd}
 use Rattle.widl_runs.specs.declared.stop.Stop.{Stop}
 use Rattle.widl_runs.specs.declared.stop.Stop.TheVariants as stops
 use Rattle.widl_runs.specs.Actions.{act}
@@ -77,7 +77,7 @@ module _ (p : Program) where
       subst (Rattle.widl_sink.specs.Growth.GrewByPrefix before.held after.held) (append_assoc before.kept (bytes_of_events p es ++ bytes) (bytes_of_events p more) ∙ ap (λ (l : List ℕ). before.kept ++ l) (sym is)) longer
 
   -- where a run from a place is a whole one, the lines of the place begin those of the whole one
-  pub begins : (start : StoreState) (budget : ℕ) (d : Doing) (w : World) → ((v : World) (f : Finish Completion Stop) → Run p d w v f → WholeRun p start budget v f) → (v : World) (f : Finish Completion Stop) → WholeRun p start budget v f → (more : List EventTerm) × (v.lines ≡ w.lines ++ more)
+  pub begins : (start : StoreState) (budget : ℕ) (d : Doing) (w : World) → ((v : World) (f : Finish JobEnd Stop) → Run p d w v f → WholeRun p start budget v f) → (v : World) (f : Finish JobEnd Stop) → WholeRun p start budget v f → (more : List EventTerm) × (v.lines ≡ w.lines ++ more)
   begins start budget d w leads v f run =
       let here = some_outcome p d w in
       let grown = lines_grow p d w here.world here.finish here.does in
@@ -97,9 +97,9 @@ module _ (p : Program) where
         λ i. record { store = t; globals = named (Rattle.widl_script_tree.specs.Tables.name_at s) (globals i); next_symbol = symbol i; lines = []; units = units i; contexts = contexts_of s (here i) (outer i) }
 
     fresh_moves : (m : Machine) (first : Move) (budget : ℕ) → move_of p s first ≡ whole p → IsFresh m budget → moves_on p s first m ≡ whole p
-    fresh_moves m first budget is x = ap (λ (d : Doing). bind d (under s m.frames.items)) is ∙ ap (λ (fs : List Frame). bind (whole p) (under s fs)) x.frames ∙ bind_end (whole p)
+    fresh_moves m first budget is x = ap (λ (d : Doing). bind d (under p s m.frames.items)) is ∙ ap (λ (fs : List Frame). bind (whole p) (under p s fs)) x.frames ∙ bind_end (whole p)
 
-    from_fresh : (t : StoreState) (m : Machine) (first : Move) (budget : ℕ) → move_of p s first ≡ whole p → IsFresh m budget → (v : World) (f : Finish Completion Stop) → Run p (moves_on p s first m) (world s t m budget []) v f → WholeRun p t budget v f
+    from_fresh : (t : StoreState) (m : Machine) (first : Move) (budget : ℕ) → move_of p s first ≡ whole p → IsFresh m budget → (v : World) (f : Finish JobEnd Stop) → Run p (moves_on p s first m) (world s t m budget []) v f → WholeRun p t budget v f
     from_fresh t m first budget is x v f run =
         subst (λ (w : World). Run p (whole p) w v f) (fresh_world t m budget x)
         (subst (λ (d : Doing). Run p d (world s t m budget []) v f) (fresh_moves m first budget is x) run)
@@ -129,7 +129,7 @@ module _ (p : Program) where
     }
 
     -- a run that ends before its first charge
-    pub first_finished : (t u : StoreState) (m n : Machine) (first : Move) (budget : ℕ) (before : Output) (f : Finish Completion Stop) (counts : Counts) → move_of p s first ≡ whole p → IsFresh m budget → counts.events ≡ 0 → counts.units ≡ 0 → RunsTo p s t (moves_on p s first m) m u n f → Finished p t budget before before f counts
+    pub first_finished : (t u : StoreState) (m n : Machine) (first : Move) (budget : ℕ) (before : Output) (f : Finish JobEnd Stop) (counts : Counts) → move_of p s first ≡ whole p → IsFresh m budget → counts.events ≡ 0 → counts.units ≡ 0 → RunsTo p s t (moves_on p s first m) m u n f → Finished p t budget before before f counts
     first_finished t u m n first budget before f counts is x none free ends = record {
       world = world s u n budget [];
       runs = from_fresh t m first budget is x _ f (ends.runs budget []);
@@ -168,7 +168,7 @@ module _ (p : Program) where
           fits = keeps_on (on.comes budget r.events within) r.fits;
         }
 
-    finished : (start t u : StoreState) (m n : Machine) (budget count more : ℕ) (before mid after : Output) (f : Finish Completion Stop) (counts : Counts) → Stands p s start budget before t m mid count → n.taken ≡ m.taken + cost p m.due → n.taken ≤ m.budget → EndsSo p s t m u n f → Emits mid after (bytes_of p m.due) → more ≡ length (written m.due) → counts.events ≡ count + more → counts.units ≡ n.taken → Finished p start budget before after f counts
+    finished : (start t u : StoreState) (m n : Machine) (budget count more : ℕ) (before mid after : Output) (f : Finish JobEnd Stop) (counts : Counts) → Stands p s start budget before t m mid count → n.taken ≡ m.taken + cost p m.due → n.taken ≤ m.budget → EndsSo p s t m u n f → Emits mid after (bytes_of p m.due) → more ≡ length (written m.due) → counts.events ≡ count + more → counts.units ≡ n.taken → Finished p start budget before after f counts
     finished start t u m n budget count more before mid after f counts r taken within ends emitted is events units =
         let size = length-append r.events (written m.due) in
         let less = written_few p m.due in
@@ -201,10 +201,10 @@ module _ (p : Program) where
     }
 
     -- with the line of the charge that is due, for which the budget pays
-    paid_begins : (start t : StoreState) (m : Machine) (budget count : ℕ) (before mid : Output) (r : Stands p s start budget before t m mid count) → m.taken + cost p m.due ≤ m.budget → (v : World) (f : Finish Completion Stop) → WholeRun p start budget v f → (more : List EventTerm) × (v.lines ≡ (r.events ++ written m.due) ++ more)
+    paid_begins : (start t : StoreState) (m : Machine) (budget count : ℕ) (before mid : Output) (r : Stands p s start budget before t m mid count) → m.taken + cost p m.due ≤ m.budget → (v : World) (f : Finish JobEnd Stop) → WholeRun p start budget v f → (more : List EventTerm) × (v.lines ≡ (r.events ++ written m.due) ++ more)
     paid_begins start t m budget count before mid r pays =
         let n : Machine = record m { taken = m.taken + cost p m.due } in
-        begins start budget (bind (after_charge p s m.due) (under s m.frames.items)) (world s t n budget (r.events ++ written m.due))
+        begins start budget (bind (after_charge p s m.due) (under p s m.frames.items)) (world s t n budget (r.events ++ written m.due))
         (λ v f run. r.leads v f (after_paid p s t m n refl refl budget r.events (omega (arith, pays, r.limit)) v f run))
 
     broke : (start t : StoreState) (m : Machine) (budget count : ℕ) (before mid after : Output) → Stands p s start budget before t m mid count → Broke p m mid after → Begun p start budget before after

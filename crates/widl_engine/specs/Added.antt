@@ -17,3 +17,5 @@ CanBeAdded s objects (new.Ordinary proto) = IfSome proto (IsLive objects)
 CanBeAdded s objects (new.Function number) = number < length s.functions
 CanBeAdded s objects (new.Array items) = Unit {0}
 CanBeAdded s objects new.Error = Unit {0}
+CanBeAdded s objects (new.Entries entries) = Unit {0}
+CanBeAdded s objects (new.ArrayIterator object) = Unit {0}

@@ -5,7 +5,7 @@ use Rattle.widl_script_tree.specs.declared.row.Row.{Row}
 use Rattle.widl_script_tree.specs.Rows.{rest_of}
 use Rattle.widl_script_tree.specs.Tables.{Tables, expression_tree, statement_tree, statements_tree}
 use Rattle.widl_script_tree.specs.Trees.{then_more}
-use Rattle.widl_runs.specs.declared.completion.Completion.TheVariants.{Normal}
+use Rattle.widl_runs.specs.Ends.{Normal}
 use Rattle.widl_runs.specs.Actions.{Pay}
 use Rattle.widl_runs.specs.Expressions.{evaluate}
 use Rattle.widl_runs.specs.Jobs.{Program}

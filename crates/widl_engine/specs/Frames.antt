@@ -1,29 +1,38 @@
 -- What the parts of a machine still do, as the steps of rules: places become trees, numbers of names texts. No rule names any of it.
-use Rattle.std.specs.Prelude.{ℕ, List, [], ◌∷◌, length, map, Option, Some, None, option_map}
+use Rattle.std.specs.Prelude.{ℕ, [], false, length, map, option_map}
 use Rattle.widl_dialog.specs.Dialog.{End, Say, Steps}
 use Rattle.widl_idl.specs.DefinitionTerms.{DefsTerm, defs_term}
 use Rattle.widl_idl.specs.MergedSets.{MergedSet}
-use Rattle.widl_idl.specs.declared.callee.Callee.{Callee}
 use Rattle.widl_value.specs.declared.value.Value.{Value}
 use Rattle.widl_value.specs.declared.value.Value.TheVariants as values
-use Rattle.widl_value.specs.IdlTerms.{IdlTerm, AnyValue, idl_terms}
-use Rattle.widl_script_tree.specs.declared.steps.StepLine.{StepLine}
-use Rattle.widl_script_tree.specs.Tables.{Tables, expression_tree, expressions_tree, statement_tree, statements_tree, script_tree, name_at, key_at, function_at, steps_at}
+use Rattle.widl_script_tree.specs.Tables.{Tables, expression_tree, expressions_tree, statement_tree, statements_tree, script_tree, name_at, key_at, function_at}
 use Rattle.widl_trace.specs.declared.event.Event.{Event}
 use Rattle.widl_trace.specs.declared.event.Event.TheVariants as events
 use Rattle.widl_trace.specs.EventTerms.{event_term}
-use Rattle.widl_runs.specs.declared.completion.Completion.{Completion}
-use Rattle.widl_runs.specs.declared.completion.Completion.TheVariants.{Normal, Thrown}
+use Rattle.widl_dialog.specs.Position.{At}
+use Rattle.widl_convert.specs.AskTerms.{ask_term}
+use Rattle.widl_convert.specs.Frames.{end_of}
+use Rattle.widl_convert.specs.AskTerms.{answer_term}
+use Rattle.widl_calls.specs.CallTasks.{Function}
+use Rattle.widl_calls.specs.Operations.{lines_of}
+use Rattle.widl_calls.specs.Stack.{call_rest}
+use Rattle.widl_runs.specs.Ends.{JobEnd, Normal, Returned, Thrown, Talked, Seen, answer_by}
+use Rattle.widl_runs.specs.Asks.{in_world, sees}
 use Rattle.widl_runs.specs.Worlds.{function_context, builtin_context}
-use Rattle.widl_runs.specs.Actions.{NewObject, Ordinary, ScriptFunction, ArrayOf, TypeErrorObject, Body, ScriptBody, BuiltinBody, NoBody, Action, Pay, Write, TestDepth, Enter, Leave, FindBody, ReadThis, ReadName, BindName, TakeSymbol, AddObject, FindProperty, PutProperty, DefineProperty, DeleteProperty, Reach, Reply}
-use Rattle.widl_runs.specs.Jobs.{Program, KeyPart, Named, Computed, MemberUse, ForRead, ForCall, ForSet, ForDefine, ForAccessor, ForDelete, RowUse, ForArguments, ForNew, ForItems, Job, RunStatements, RunStatement, Evaluate, EvaluateRow, ReadMember, SetMember, DefineMember, DefineAccessor, DeleteMember, CallValue, ConstructValue, RunSteps, Fail, Doing, nothing, value, drops, gives, reaches, not_yet_end}
+use Rattle.widl_runs.specs.Actions.{NewObject, Ordinary, ScriptFunction, ArrayOf, TypeErrorObject, ObjectOf, ArrayIteratorOf, Body, ScriptBody, BuiltinBody, NoBody, Action, Pay, Write, TestDepth, Enter, Leave, FindBody, ReadThis, ReadName, BindName, TakeSymbol, AddObject, FindProperty, PutProperty, DefineProperty, DeleteProperty, FindKeys, FindOwn, FindInner, MoveCursor, Reach, Reply, kind_seen, cursor_seen, keys_seen, own_seen}
+use Rattle.widl_runs.specs.Jobs.{Program, KeyPart, Named, Computed, MemberUse, ForRead, ForCall, ForSet, ForDefine, ForAccessor, ForDelete, RowUse, ForArguments, ForNew, ForItems, Job, RunStatements, RunStatement, Evaluate, EvaluateRow, ReadMember, SetMember, DefineMember, DefineAccessor, DeleteMember, CallValue, ConstructValue, Talk, Asked, Fail, Doing, nothing, value, drops, gives, reaches, not_yet_end}
 use Rattle.widl_runs.specs.Errors.{new_error, made_error}
-use Rattle.widl_runs.specs.Operations.{step}
-use Rattle.widl_runs.specs.Calls.{called, function_in, begins_function, begins_builtin, body, call_line, found_body, new_line, found_constructor}
-use Rattle.widl_runs.specs.Members.{calls_with, sets, defines, with_getter, defines_accessor, with_name, with_key, evaluates_key, found, has_put, has_defined, has_deleted}
+use Rattle.widl_runs.specs.Calls.{called, talked, function_in, begins_function, begins_builtin, body, call_line, found_body, new_line, found_constructor}
+use Rattle.widl_runs.specs.Members.{calls_with, sets, defines, with_getter, defines_accessor, with_name, with_key, evaluates_key, reads, found, has_put, has_defined, has_deleted}
 use Rattle.widl_runs.specs.Expressions.{gives_object, adds, takes_symbol, object_of, next_in_row, evaluates_this, with_this, constructs_with}
 use Rattle.widl_runs.specs.Statements.{done, binds, binds_object, new_function, begins_handler, caught, chooses, compares, returns, throws, shows, performs, next_statements}
+use Rattle.widl_runs.specs.Rules.{rule}
 use Rattle.widl_runs.specs.Traces.{last_line}
+use Rattle.widl_engine.specs.AskKinds.{ask_kind_of}
+use Rattle.widl_engine.specs.declared.ends.Completion.{Completion}
+use Rattle.widl_engine.specs.declared.ends.Completion.TheVariants as completions
+use Rattle.widl_engine.specs.declared.ends.JobEnd as job_ends
+use Rattle.widl_engine.specs.declared.ends.JobEnd.TheVariants as job_end
 use Rattle.widl_engine.specs.declared.jobs.KeyPart as key_parts
 use Rattle.widl_engine.specs.declared.jobs.KeyPart.TheVariants as key_part
 use Rattle.widl_engine.specs.declared.jobs.MemberUse as member_uses
@@ -83,14 +92,6 @@ row_use_of (row_use.Arguments f this) = ForArguments f this
 row_use_of (row_use.New f) = ForNew f
 row_use_of row_use.Items = ForItems
 
--- the lines of the steps for an operation, which has one overload
-abbrev pub lines_or_none : Option (List StepLine) → List StepLine
-lines_or_none None = []
-lines_or_none (Some lines) = lines
-
-abbrev pub lines_at : Tables → Callee → List StepLine
-lines_at s callee = lines_or_none (steps_at s callee (Some 0))
-
 abbrev pub job_of : Tables → jobs.Job → Job
 job_of s (job.Statements row) = RunStatements (statements_tree s row)
 job_of s (job.Statement place) = RunStatement (statement_tree s place)
@@ -103,8 +104,20 @@ job_of s (job.Accessor of key getter setter) = DefineAccessor of (key_part_of s 
 job_of s (job.Delete of key) = DeleteMember of (key_part_of s key)
 job_of s (job.Call f this args) = CallValue f this args
 job_of s (job.Construct f args) = ConstructValue f args
-job_of s (job.Steps callee args) = RunSteps args (lines_at s callee)
+job_of s (job.Function f what this args) = Talk (Function f what this args false)
+job_of s (job.Asked ask) = Asked (ask_term ask)
 job_of s (job.Fail code) = Fail code
+
+-- the ends of jobs
+abbrev pub completion_end : Completion → JobEnd
+completion_end (completions.Normal v) = Normal v
+completion_end (completions.Returned v) = Returned v
+completion_end (completions.Thrown v) = Thrown v
+
+abbrev pub job_end_of : job_ends.JobEnd → JobEnd
+job_end_of (job_end.Completed c) = completion_end c
+job_end_of (job_end.Talked ending) = Talked (end_of ending)
+job_end_of (job_end.Seen answer) = Seen (answer_term answer)
 
 -- 3. What comes after a charge
 
@@ -112,11 +125,6 @@ abbrev pub body_of : bodies.Body → Body
 body_of (body_code.Script number) = ScriptBody number
 body_of (body_code.Builtin function) = BuiltinBody function
 body_of body_code.Nothing = NoBody
-
--- the first step, where there is one
-abbrev pub first_step : List Value → List StepLine → Doing
-first_step args [] = nothing
-first_step args (line ∷ lines) = step args line
 
 -- how many parameters a function has
 abbrev pub parameters_of : Tables → ℕ → ℕ
@@ -128,33 +136,39 @@ after_unit s unit.Symbol = takes_symbol
 after_unit s (unit.Object proto) = adds (Ordinary proto)
 after_unit s (unit.Array vs) = adds (ArrayOf vs)
 after_unit s (unit.Function number) = new_function number (name_at s (function_at s number).name) (parameters_of s number)
-after_unit s (unit.Step callee args) = first_step args (lines_at s callee)
+after_unit s unit.Asked = nothing
+after_unit s (unit.Entries entries) = adds (ObjectOf entries)
+after_unit s (unit.ArrayIterator object) = adds (ArrayIteratorOf object)
 after_unit s (unit.Fail code) = new_error code
 
 -- what a call does after its line; no other line comes before it
 abbrev pub enters_by : Program → bodies.Body → Event → Doing
-enters_by p b (events.Call f this args) = body p this args (body_of b)
+enters_by p b (events.Call f this args) = body p f this args (body_of b)
 enters_by p b _ = nothing
 
--- the values of the line of an operation, as its arguments; no other values are in it
-abbrev pub any_in : IdlTerm → Value
-any_in (AnyValue v) = v
-any_in _ = values.Undefined
+-- the property of the line is read, the keys of its object are listed, its own property is looked at
+abbrev pub gets_by : Event → Doing
+gets_by (events.Get object key) = reads object key
+gets_by _ = nothing
 
-abbrev pub runs_by : Tables → Event → Doing
-runs_by s (events.Op callee overload vs) = Steps (RunSteps (map any_in (idl_terms vs)) (lines_at s callee)) called
-runs_by s _ = nothing
+abbrev pub keys_by : Event → Doing
+keys_by (events.Keys object) = Say (FindKeys object) (sees keys_seen)
+keys_by _ = nothing
+
+abbrev pub own_by : Event → Doing
+own_by (events.Own object key) = Say (FindOwn object key) (sees own_seen)
+own_by _ = nothing
 
 -- a completion after the context of the call is left
 abbrev pub left_with : Completion → Reply → Doing
-left_with c r = End c
+left_with c r = End (completion_end c)
 
 abbrev pub leaves_with : Completion → Doing
 leaves_with c = Say Leave (left_with c)
 
 abbrev pub leaves_by : Event → Doing
-leaves_by (events.Ret v) = leaves_with (Normal v)
-leaves_by (events.Thr v) = leaves_with (Thrown v)
+leaves_by (events.Ret v) = leaves_with (completions.Normal v)
+leaves_by (events.Thr v) = leaves_with (completions.Thrown v)
 leaves_by _ = nothing
 
 abbrev pub throws_by : Event → Doing
@@ -169,10 +183,12 @@ abbrev pub after_line : Program → Tables → Event → AfterLine → Doing
 after_line p s e line.Shown = nothing
 after_line p s e (line.Enters b) = enters_by p b e
 after_line p s e line.Constructs = reaches not_yet_end
-after_line p s e line.Runs = runs_by s e
+after_line p s e line.Gets = gets_by e
+after_line p s e line.Keys = keys_by e
+after_line p s e line.Own = own_by e
 after_line p s e line.Leaves = leaves_by e
 after_line p s e line.Throws = throws_by e
-after_line p s e (line.Ends c) = End c
+after_line p s e (line.Ends end) = End (job_end_of end)
 after_line p s e line.EndsThrown = ends_by e
 
 abbrev pub charge_of : Charge → Action
@@ -190,12 +206,14 @@ new_of s (new.Ordinary proto) = Ordinary proto
 new_of s (new.Function number) = ScriptFunction number (name_at s (function_at s number).name) (parameters_of s number)
 new_of s (new.Array items) = ArrayOf items
 new_of s new.Error = TypeErrorObject
+new_of s (new.Entries entries) = ObjectOf entries
+new_of s (new.ArrayIterator object) = ArrayIteratorOf object
 
 abbrev pub act_of : Program → Tables → Due → Action
 act_of p s (due.Depth f this args b) = TestDepth
 act_of p s (due.DepthOfNew f args) = TestDepth
 act_of p s (due.Enter number this args) = Enter (function_context (function_in p.script number) this args)
-act_of p s (due.EnterBuiltin function this args) = Enter (builtin_context this)
+act_of p s (due.EnterBuiltin f function this args) = Enter (builtin_context this)
 act_of p s (due.Leave c) = Leave
 act_of p s (due.FindBody f this args) = FindBody f
 act_of p s (due.FindConstructor f args) = FindBody f
@@ -208,6 +226,11 @@ act_of p s (due.Find object key) = FindProperty object key
 act_of p s (due.Put object key v) = PutProperty object key v
 act_of p s (due.Define object key prop) = DefineProperty object key prop
 act_of p s (due.Delete object key) = DeleteProperty object key
+act_of p s (due.FindKeys object) = FindKeys object
+act_of p s (due.FindOwn object key) = FindOwn object key
+act_of p s (due.FindKind object) = FindInner object
+act_of p s (due.FindCursor object) = FindInner object
+act_of p s (due.MoveCursor object next turn) = MoveCursor object next turn
 act_of p s (due.Reach end) = Reach end
 
 abbrev pub after_add : Tables → Made → Reply → Doing
@@ -219,7 +242,7 @@ abbrev pub after_bind : Tables → Then → Reply → Doing
 after_bind s then_what.Ends = done
 after_bind s (then_what.Handles row) = begins_handler (statements_tree s row)
 
--- no reply to the end of the profile comes
+-- the reply isn't used
 abbrev pub reached : Reply → Doing
 reached r = nothing
 
@@ -227,7 +250,7 @@ abbrev pub after : Program → Tables → Due → Reply → Doing
 after p s (due.Depth f this args b) = call_line p f this args (body_of b)
 after p s (due.DepthOfNew f args) = new_line f args
 after p s (due.Enter number this args) = begins_function (function_in p.script number)
-after p s (due.EnterBuiltin function this args) = begins_builtin p args function
+after p s (due.EnterBuiltin f function this args) = begins_builtin f function this args
 after p s (due.Leave c) = left_with c
 after p s (due.FindBody f this args) = found_body p f this args
 after p s (due.FindConstructor f args) = found_constructor f args
@@ -240,6 +263,11 @@ after p s (due.Find object key) = found object
 after p s (due.Put object key v) = has_put object
 after p s (due.Define object key prop) = has_defined
 after p s (due.Delete object key) = has_deleted
+after p s (due.FindKeys object) = sees keys_seen
+after p s (due.FindOwn object key) = sees own_seen
+after p s (due.FindKind object) = sees kind_seen
+after p s (due.FindCursor object) = sees cursor_seen
+after p s (due.MoveCursor object next turn) = reached
 after p s (due.Reach end) = reached
 
 -- 5. What comes after the end of a job
@@ -267,11 +295,14 @@ value_to s (goes_on.This this args) = evaluates_this (expression_tree s this) (e
 value_to s (goes_on.ThisOf f args) = with_this f (expressions_tree s args)
 value_to s (goes_on.Constructs args) = constructs_with (expressions_tree s args)
 
-abbrev pub back_to : Tables → Frame → Completion → Doing
-back_to s (frame.Value f) = value (value_to s f)
-back_to s (frame.Catches name handler) = caught (name_at s name) (statements_tree s handler)
-back_to s frame.Called = called
-back_to s frame.Last = last_line
+-- a conversation goes on with the answer that the end of the work of its ask makes
+abbrev pub back_to : Program → Tables → Frame → JobEnd → Doing
+back_to p s (frame.Value f) = value (value_to s f)
+back_to p s (frame.Catches name handler) = caught (name_at s name) (statements_tree s handler)
+back_to p s frame.Called = called
+back_to p s frame.Talked = talked
+back_to p s (frame.Suspended x) = λ end. in_world (call_rest p.list (lines_of p.list p.script) x.value.asker (answer_by (ask_kind_of x.value.kind) end))
+back_to p s frame.Last = last_line
 
 -- 6. Moves
 
@@ -282,6 +313,14 @@ after_paying p s c r = after_charge p s c
 abbrev pub move_of : Program → Tables → Move → Doing
 move_of p s (move.Pays c) = Say (charge_of c) (after_paying p s c)
 move_of p s (move.Acts a) = Say (act_of p s a) (after p s a)
-move_of p s (move.Gives c) = End c
-move_of p s (move.Steps f j) = Steps (job_of s j) (back_to s f)
+move_of p s (move.Gives end) = End (job_end_of end)
+move_of p s (move.Steps f j) = Steps (job_of s j) (back_to p s f)
 move_of p s (move.Goes j) = Steps (job_of s j) End
+
+-- no reply stands against it
+abbrev pub Wants : Action → Reply → Type 0
+Wants q r = Unit {0}
+
+-- jobs alone lead from the steps to the next move
+abbrev pub LeadsTo : Program → Tables → Doing → Move → Type 0
+LeadsTo p s d next = At (rule p) Wants d [] (move_of p s next)

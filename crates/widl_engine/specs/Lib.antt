@@ -1,10 +1,11 @@
+pub mod AskKinds
 pub mod Frames
+pub mod Conversing
 pub mod AtOnce
 pub mod Tested
 pub mod ReadOver
 pub mod Place
 pub mod Shown
-pub mod ArgumentCounts
 pub mod Added
 pub mod Machine
 pub mod Fits

@@ -6,7 +6,7 @@ use Rattle.widl_dialog.specs.Runs.{Finish, Ended, Halted}
 use Rattle.widl_script_tree.specs.Tables.{Tables}
 use Rattle.widl_store.specs.Objects.{StoreState}
 use Rattle.widl_trace.specs.EventTerms.{EventTerm, event_term}
-use Rattle.widl_runs.specs.declared.completion.Completion.{Completion}
+use Rattle.widl_runs.specs.Ends.{JobEnd}
 use Rattle.widl_runs.specs.declared.stop.Stop.{Stop}
 use Rattle.widl_runs.specs.declared.stop.Stop.TheVariants as stops
 use Rattle.widl_runs.specs.Actions.{act, event_cost}
@@ -23,7 +23,7 @@ use Rattle.widl_engine.specs.declared.machine.Moved.TheVariants as moved
 use Rattle.widl_engine.specs.declared.machine.Turn.{Turn}
 use Rattle.widl_engine.specs.declared.machine.Turn.TheVariants as turn
 use Rattle.widl_engine.specs.declared.moves.Move.{Move}
-use Rattle.widl_engine.specs.Frames.{charge_of, after_paying, back_to, move_of}
+use Rattle.widl_engine.specs.Frames.{charge_of, after_paying, back_to, job_end_of, move_of}
 use Rattle.widl_engine.specs.Place.{world_of}
 use Rattle.widl_runs.specs.Fitting.{Comes, KeepsFitting}
 
@@ -37,9 +37,9 @@ written (charge.Unit u) = []
 written (charge.Line e after) = event_term e ∷ []
 
 -- what the frames do with an end, the lowest frame first
-abbrev pub under : Tables → List Frame → Completion → Doing
-under s [] c = End c
-under s (f ∷ fs) c = bind (under s fs c) (back_to s f)
+abbrev pub under : Program → Tables → List Frame → JobEnd → Doing
+under p s [] c = End c
+under p s (f ∷ fs) c = bind (under p s fs c) (back_to p s f)
 
 -- the machine's world in a run with a budget, where these lines were written
 abbrev pub world : Tables → StoreState → Machine → ℕ → List EventTerm → World
@@ -47,10 +47,10 @@ world s t m b ls = world_of s t m.place (b - m.taken) ls
 
 -- what is still done where a charge is due, and where a move comes next
 abbrev pub still : Program → Tables → Machine → Doing
-still p s m = bind (Say (charge_of m.due) (after_paying p s m.due)) (under s m.frames.items)
+still p s m = bind (Say (charge_of m.due) (after_paying p s m.due)) (under p s m.frames.items)
 
 abbrev pub moves_on : Program → Tables → Move → Machine → Doing
-moves_on p s current m = bind (move_of p s current) (under s m.frames.items)
+moves_on p s current m = bind (move_of p s current) (under p s m.frames.items)
 
 -- with each budget, the second place follows the first, with no charge between them
 pub record Leads (p : Program) (s : Tables) (t : StoreState) (d : Doing) (m : Machine) (u : StoreState) (e : Doing) (n : Machine) : Type 0 where
@@ -66,20 +66,20 @@ pub record Moves (p : Program) (s : Tables) (t : StoreState) (d : Doing) (m : Ma
   pub less : length n.frames.items < 2 * place.between + length m.frames.items
 
 -- with each budget the run ends in this machine's world
-pub record RunsTo (p : Program) (s : Tables) (t : StoreState) (d : Doing) (m : Machine) (u : StoreState) (n : Machine) (f : Finish Completion Stop) : Type 0 where
+pub record RunsTo (p : Program) (s : Tables) (t : StoreState) (d : Doing) (m : Machine) (u : StoreState) (n : Machine) (f : Finish JobEnd Stop) : Type 0 where
   pub taken : n.taken ≡ m.taken
   pub runs : (b : ℕ) (ls : List EventTerm) → Run p d (world s t m b ls) (world s u n b ls) f
 
 abbrev pub Turns : Program → Tables → StoreState → Move → Machine → StoreState → Machine → Turn → Type 0
 Turns p s t current m u n (turn.More next) = Moves p s t (moves_on p s current m) m u (moves_on p s next n) n
 Turns p s t current m u n turn.Rests = Leads p s t (moves_on p s current m) m u (still p s n) n
-Turns p s t current m u n (turn.Ended c) = RunsTo p s t (moves_on p s current m) m u n (Ended c)
+Turns p s t current m u n (turn.Ended c) = RunsTo p s t (moves_on p s current m) m u n (Ended (job_end_of c))
 Turns p s t current m u n (turn.Stopped stop) = RunsTo p s t (moves_on p s current m) m u n (Halted stop)
 Turns p s t current m u n turn.Memory = Unit {0}
 
 abbrev pub Advances : Program → Tables → StoreState → Move → Machine → StoreState → Machine → Moved → Type 0
 Advances p s t first m u n moved.Going = Leads p s t (moves_on p s first m) m u (still p s n) n
-Advances p s t first m u n (moved.Ended c) = RunsTo p s t (moves_on p s first m) m u n (Ended c)
+Advances p s t first m u n (moved.Ended c) = RunsTo p s t (moves_on p s first m) m u n (Ended (job_end_of c))
 Advances p s t first m u n (moved.Stopped stop) = RunsTo p s t (moves_on p s first m) m u n (Halted stop)
 Advances p s t first m u n moved.Memory = Unit {0}
 
@@ -90,12 +90,12 @@ pub record StopsHere (p : Program) (s : Tables) (t : StoreState) (m : Machine) :
 -- with each budget that pays for what was taken, a run from the new place is one from the old
 pub record GoesOn (p : Program) (s : Tables) (t : StoreState) (m : Machine) (u : StoreState) (n : Machine) : Type 0 where
   pub budget : n.budget ≡ m.budget
-  pub leads : (b : ℕ) (ls : List EventTerm) → n.taken ≤ b → (v : World) (f : Finish Completion Stop) → Run p (still p s n) (world s u n b (ls ++ written m.due)) v f → Run p (still p s m) (world s t m b ls) v f
+  pub leads : (b : ℕ) (ls : List EventTerm) → n.taken ≤ b → (v : World) (f : Finish JobEnd Stop) → Run p (still p s n) (world s u n b (ls ++ written m.due)) v f → Run p (still p s m) (world s t m b ls) v f
   pub comes : (b : ℕ) (ls : List EventTerm) → n.taken ≤ b → Comes p (still p s n) (world s u n b (ls ++ written m.due)) (still p s m) (world s t m b ls)
   pub here : StopsHere p s u n
 
 -- and ends so
-pub record EndsSo (p : Program) (s : Tables) (t : StoreState) (m : Machine) (u : StoreState) (n : Machine) (f : Finish Completion Stop) : Type 0 where
+pub record EndsSo (p : Program) (s : Tables) (t : StoreState) (m : Machine) (u : StoreState) (n : Machine) (f : Finish JobEnd Stop) : Type 0 where
   pub runs : (b : ℕ) (ls : List EventTerm) → n.taken ≤ b → Run p (still p s m) (world s t m b ls) (world s u n b (ls ++ written m.due)) f
 
 -- the charge was taken, and the budget pays for it; with each budget between the two counts the run stops at it
@@ -107,7 +107,7 @@ pub record Charged (p : Program) (s : Tables) (t : StoreState) (m n : Machine) :
 -- what a charge that was taken leads to
 abbrev pub StepsTo : Program → Tables → StoreState → Machine → StoreState → Machine → Moved → Type 0
 StepsTo p s t m u n moved.Going = Charged p s t m n × GoesOn p s t m u n
-StepsTo p s t m u n (moved.Ended c) = Charged p s t m n × EndsSo p s t m u n (Ended c)
+StepsTo p s t m u n (moved.Ended c) = Charged p s t m n × EndsSo p s t m u n (Ended (job_end_of c))
 StepsTo p s t m u n (moved.Stopped stop) = Charged p s t m n × EndsSo p s t m u n (Halted stop)
 StepsTo p s t m u n moved.Memory = Unit {0}
 

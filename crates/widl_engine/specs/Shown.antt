@@ -12,7 +12,7 @@ use Rattle.widl_store.specs.declared.effects.PutFault.{PutFault}
 use Rattle.widl_store.specs.declared.effects.PutFault.TheVariants as putting
 use Rattle.widl_store.specs.declared.found.Found.{Found}
 use Rattle.widl_store.specs.declared.found.Found.TheVariants.{Held, Getter, NoGetter, Nothing}
-use Rattle.widl_runs.specs.declared.completion.Completion.TheVariants.{Normal}
+use Rattle.widl_runs.specs.Ends.{Normal}
 use Rattle.widl_runs.specs.Jobs.{CallValue, Doing, nothing}
 
 abbrev pub shown : ObjRef → Found → Doing

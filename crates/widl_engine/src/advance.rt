@@ -1,15 +1,23 @@
 //! What a machine does up to its next charge.
 
 ghost use Rattle.std.specs.Prelude.{◌≡◌, ◌≤◌, ◌+◌, [], ◌∷◌, ◌++◌, IfSome, IfNone, OnOk};
+ghost use Rattle.widl_runs.specs.Fitting.{FitsJob};
 ghost use Rattle.widl_runs.specs.Jobs.{Program};
-ghost use Rattle.widl_engine.specs.Frames.{program_of};
+ghost use Rattle.widl_script_tree.specs.Tables.{Tables as ScriptTables};
+ghost use Rattle.widl_store.specs.Objects.{StoreState};
+ghost use Rattle.widl_engine.specs.declared.machine.Machine.{Machine as Machines};
+ghost use Rattle.widl_engine.specs.Fits.{Fits};
+ghost use Rattle.widl_engine.specs.Frames.{job_of, program_of};
 ghost use Rattle.widl_engine.specs.Machine.{Advances, MachineFits, StepsTo, Turns, cost, moves_on, still};
 ghost use Rattle.widl_engine.specs.ReadOver.{IsReadOver};
 
 use crate::acts::Acted;
 use crate::at_once::bound_by;
 use crate::charges::{Charge, Unit};
+use crate::due::Due;
+use crate::ends::JobEnd;
 use crate::frames::Frame;
+use crate::jobs::Job;
 use crate::machine::{Machine, Moved, Turn};
 use crate::moves::{Move, begin, charged, returned};
 use crate::perform::perform;
@@ -41,7 +49,90 @@ pub(crate) fn push(frames: &mut Vec<Frame>, frame: Frame) -> Result<(), AllocErr
 #[inline(always)]
 fn discard(_charge: Charge) {}
 
+/// A job isn't begun.
+fn let_go(_job: Job) {}
+
+/// The turn of a job whose end is for the frame below.
+fn goes(alloc: Global, tables: &Tables, script: &Script, job: Job) -> Turn
+    requires read { let p : Program = program_of tables.now script.now in IsReadOver p.list script.now }
+    requires fits { FitsJob (job_of script.now job) }
+    ensures { (t : StoreState) (m : Machines) → Turns (program_of tables.now script.now) script.now t (Move.Goes job) m t m result }
+{
+    match begin(alloc, tables, script, job) {
+        Ok(next) => Turn::More(next),
+        Err(_) => Turn::Memory,
+    }
+}
+
+// Each kind of move has a function of its own: a function pays for the room of all its arms.
 impl Machine {
+    /// The turn of an action that takes units.
+    fn rests(&mut self, charge: Charge) -> Turn
+        ensures { (p : Program) (s : ScriptTables) (t : StoreState) → Turns p s t (Move.Pays charge) self.old t self.new result }
+    {
+        discard(mem::replace(&mut self.due, charge));
+        Turn::Rests
+    }
+
+    /// The turn of an action that takes none.
+    fn acts(
+        &mut self,
+        alloc: Global,
+        tables: &Tables,
+        script: &Script,
+        store: &mut Store,
+        due: Due,
+    ) -> Turn
+        requires read { let p : Program = program_of tables.now script.now in IsReadOver p.list script.now }
+        requires fits { Fits script.now store.old.objects self.old.place.next_symbol due }
+        ensures { Turns (program_of tables.now script.now) script.now store.old (Move.Acts due) self.old store.new self.new result }
+    {
+        match perform(alloc, tables, script, store, &mut self.place, due) {
+            Acted::Went(next) => Turn::More(next),
+            Acted::Stopped(stop) => Turn::Stopped(stop),
+            Acted::Memory => Turn::Memory,
+        }
+    }
+
+    /// The turn of an end of a job.
+    fn gives(&mut self, alloc: Global, tables: &Tables, script: &Script, end: JobEnd) -> Turn
+        requires read { let p : Program = program_of tables.now script.now in IsReadOver p.list script.now }
+        ensures { (t : StoreState) → Turns (program_of tables.now script.now) script.now t (Move.Gives end) self.old t self.new result }
+    {
+        match pop(&mut self.frames) {
+            None => Turn::Ended(end),
+            Some(frame) => match returned(alloc, tables, script, frame, end) {
+                Ok(next) => Turn::More(next),
+                Err(_) => Turn::Memory,
+            },
+        }
+    }
+
+    /// The turn of a job whose end is for a frame.
+    fn steps(
+        &mut self,
+        alloc: Global,
+        tables: &Tables,
+        script: &Script,
+        frame: Frame,
+        job: Job,
+    ) -> Turn
+        requires read { let p : Program = program_of tables.now script.now in IsReadOver p.list script.now }
+        requires fits { FitsJob (job_of script.now job) }
+        ensures { (t : StoreState) → Turns (program_of tables.now script.now) script.now t (Move.Steps frame job) self.old t self.new result }
+    {
+        match push(&mut self.frames, frame) {
+            Ok(()) => match begin(alloc, tables, script, job) {
+                Ok(next) => Turn::More(next),
+                Err(_) => Turn::Memory,
+            },
+            Err(_) => {
+                let_go(job);
+                Turn::Memory
+            }
+        }
+    }
+
     /// One move that takes no unit.
     #[inline(always)]
     fn turn(
@@ -57,33 +148,11 @@ impl Machine {
         ensures { Turns (program_of tables.now script.now) script.now store.old current self.old store.new self.new result }
     {
         match current {
-            Move::Pays(charge) => {
-                discard(mem::replace(&mut self.due, charge));
-                Turn::Rests
-            }
-            Move::Acts(due) => match perform(alloc, tables, script, store, &mut self.place, due) {
-                Acted::Went(next) => Turn::More(next),
-                Acted::Stopped(stop) => Turn::Stopped(stop),
-                Acted::Memory => Turn::Memory,
-            },
-            Move::Gives(completion) => match pop(&mut self.frames) {
-                None => Turn::Ended(completion),
-                Some(frame) => match returned(alloc, script, frame, completion) {
-                    Ok(next) => Turn::More(next),
-                    Err(_) => Turn::Memory,
-                },
-            },
-            Move::Steps(frame, job) => match push(&mut self.frames, frame) {
-                Ok(()) => match begin(alloc, script, job) {
-                    Ok(next) => Turn::More(next),
-                    Err(_) => Turn::Memory,
-                },
-                Err(_) => Turn::Memory,
-            },
-            Move::Goes(job) => match begin(alloc, script, job) {
-                Ok(next) => Turn::More(next),
-                Err(_) => Turn::Memory,
-            },
+            Move::Pays(charge) => self.rests(charge),
+            Move::Acts(due) => self.acts(alloc, tables, script, store, due),
+            Move::Gives(end) => self.gives(alloc, tables, script, end),
+            Move::Steps(frame, job) => self.steps(alloc, tables, script, frame, job),
+            Move::Goes(job) => goes(alloc, tables, script, job),
         }
     }
 
@@ -105,7 +174,7 @@ impl Machine {
             match self.turn(alloc, tables, script, store, current) {
                 Turn::More(next) => current = next,
                 Turn::Rests => return Moved::Going,
-                Turn::Ended(completion) => return Moved::Ended(completion),
+                Turn::Ended(end) => return Moved::Ended(end),
                 Turn::Stopped(stop) => return Moved::Stopped(stop),
                 Turn::Memory => return Moved::Memory,
             }

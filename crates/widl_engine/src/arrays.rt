@@ -36,7 +36,12 @@ fn index_key(alloc: Global, index: usize) -> Result<Key, AllocError>
 
 /// Defines an item of a new array, which has no such property yet: so what isn't done is for want of
 /// memory.
-fn define_item(store: &mut Store, array: ObjRef, key: Key, value: Value) -> Result<(), AllocError>
+pub(crate) fn define_item(
+    store: &mut Store,
+    array: ObjRef,
+    key: Key,
+    value: Value,
+) -> Result<(), AllocError>
     requires { IsLive store.old.objects array }
     ensures { OnOk result (store.new ≡ with_objects store.old (defined store.old.objects array.id key (Prop.Plain value all_flags))) }
 {

@@ -3,7 +3,7 @@
 
 ghost use Rattle.std.specs.Prelude.{◌≡◌, IfSome};
 ghost use Rattle.widl_dialog.specs.Dialog.{End};
-ghost use Rattle.widl_runs.specs.declared.completion.Completion.TheVariants.{Normal};
+ghost use Rattle.widl_runs.specs.Ends.{Normal};
 ghost use Rattle.widl_value.specs.declared.value.Value.TheVariants.{Undefined};
 ghost use Rattle.widl_script_tree.specs.Tables.{expression_tree};
 ghost use Rattle.widl_runs.specs.Expressions.{evaluate};
@@ -15,6 +15,7 @@ ghost use Rattle.widl_engine.specs.ReadOver.{IsReadOver};
 
 use crate::advance::{pop, push};
 use crate::charges::{Charge, Unit};
+use crate::ends::{Completion, JobEnd};
 use crate::frames::{Frame, ValueFrame};
 use crate::globals::bind;
 use crate::machine::{Machine, Moved};
@@ -22,7 +23,6 @@ use crate::moves::Move;
 use crate::statements::is_steps;
 use std::alloc::Global;
 use std::mem;
-use widl_runs::Completion;
 use widl_script_tree::laws::rows_open;
 use widl_script_tree::{Expression, Row, Script, Statement};
 use widl_store::Store;
@@ -107,10 +107,10 @@ impl Machine {
         store: &mut Store,
     ) -> Moved
         requires read { let p : Program = program_of tables.now script.now in IsReadOver p.list script.now }
-        requires fits { let p : Program = program_of tables.now script.now in MachineFits p script.now store.old (moves_on p script.now (Move.Gives (Normal Undefined)) self.old) self.old }
-        ensures { Advances (program_of tables.now script.now) script.now store.old (Move.Gives (Normal Undefined)) self.old store.new self.new result }
+        requires fits { let p : Program = program_of tables.now script.now in MachineFits p script.now store.old (moves_on p script.now (Move.Gives (JobEnd.Completed (Completion.Normal Undefined))) self.old) self.old }
+        ensures { Advances (program_of tables.now script.now) script.now store.old (Move.Gives (JobEnd.Completed (Completion.Normal Undefined))) self.old store.new self.new result }
     {
-        let end = Completion::Normal(Value::Undefined);
+        let end = JobEnd::Completed(Completion::Normal(Value::Undefined));
         match pop(&mut self.frames) {
             None => Moved::Ended(end),
             Some(frame) => match next_row(script, &frame) {

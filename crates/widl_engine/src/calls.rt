@@ -3,16 +3,22 @@
 ghost use Rattle.std.specs.Prelude.{◌≡◌};
 ghost use Rattle.widl_value.specs.declared.object.ObjRef.{ObjRef};
 ghost use Rattle.widl_script_tree.specs.Tables.{Tables};
-ghost use Rattle.widl_runs.specs.Calls.{call, callable, called, construct};
+ghost use Rattle.widl_trace.specs.EventTerms.{event_term};
+ghost use Rattle.widl_convert.specs.Frames.{end_of};
+ghost use Rattle.widl_runs.specs.Calls.{call, callable, called, construct, end_line, ends_talk, talked};
+ghost use Rattle.widl_runs.specs.Ends.{Returned};
 ghost use Rattle.widl_runs.specs.Jobs.{Doing, Program};
-ghost use Rattle.widl_engine.specs.Frames.{enters_by, leaves_by, move_of};
+ghost use Rattle.widl_engine.specs.Frames.{enters_by, job_end_of, leaves_by, move_of};
 ghost use Rattle.widl_engine.specs.Tested.{if_function};
 
 use crate::charges::{AfterLine, Charge};
 use crate::due::{Body, Due};
+use crate::ends::{Completion, JobEnd};
 use crate::errors::fails;
+use crate::frames::Frame;
+use crate::jobs::Job;
 use crate::moves::{Move, ends, reaches};
-use widl_runs::Completion;
+use widl_convert::{Ending, Outcome};
 use widl_trace::{Code, Event};
 use widl_value::{ObjRef, Shape, Value, Values};
 
@@ -61,9 +67,10 @@ pub(crate) fn enters(body: Body, event: Event) -> Move
     ensures { (p : Program) (s : Tables) → move_of p s result ≡ enters_by p body event }
 {
     match event {
-        Event::Call { f: _, this, args } => match body {
+        Event::Call { f, this, args } => match body {
             Body::Script(number) => Move::Acts(Due::Enter { number, this, args }),
             Body::Builtin(function) => Move::Acts(Due::EnterBuiltin {
+                f,
                 function,
                 this,
                 args,
@@ -74,20 +81,63 @@ pub(crate) fn enters(body: Body, event: Event) -> Move
     }
 }
 
+/// The event of a call's end.
+#[inline(always)]
+fn end_event(end: JobEnd) -> Event
+    ensures { event_term result ≡ end_line (job_end_of end) }
+{
+    match end {
+        JobEnd::Completed(Completion::Normal(_)) => Event::Ret(Value::Undefined),
+        JobEnd::Completed(Completion::Returned(value)) => Event::Ret(value),
+        JobEnd::Completed(Completion::Thrown(value)) => Event::Thr(value),
+        JobEnd::Talked(_) => Event::Ret(Value::Undefined),
+        JobEnd::Seen(_) => Event::Ret(Value::Undefined),
+    }
+}
+
 /// The line of a call's end.
 #[inline(always)]
-pub(crate) fn called(completion: Completion) -> Move
-    ensures { (p : Program) (s : Tables) → move_of p s result ≡ called completion }
+pub(crate) fn called(end: JobEnd) -> Move
+    ensures { (p : Program) (s : Tables) → move_of p s result ≡ called (job_end_of end) }
 {
-    let event = match completion {
-        Completion::Normal(_value) => Event::Ret(Value::Undefined),
-        Completion::Returned(value) => Event::Ret(value),
-        Completion::Thrown(value) => Event::Thr(value),
-    };
     Move::Pays(Charge::Line {
-        event,
+        event: end_event(end),
         then: AfterLine::Leaves,
     })
+}
+
+/// The line of the end of a call with this value.
+fn returns(value: Value) -> Move
+    ensures { (p : Program) (s : Tables) → move_of p s result ≡ called (Returned value) }
+{
+    called(JobEnd::Completed(Completion::Returned(value)))
+}
+
+/// What the conversation of a function has come to is what its call comes to.
+fn ends_talk(ending: Ending) -> Move
+    ensures { (p : Program) (s : Tables) → move_of p s result ≡ ends_talk (end_of ending) }
+{
+    match ending {
+        Ending::Done(Outcome::Script(value)) => returns(value),
+        Ending::Done(Outcome::Idl(_)) => returns(Value::Undefined),
+        Ending::Done(Outcome::Chosen { .. }) => returns(Value::Undefined),
+        Ending::Throw(reason) => Move::Steps(Frame::Called, Job::Fail(reason)),
+        Ending::Rethrow(value) => called(JobEnd::Completed(Completion::Thrown(value))),
+        Ending::Profile(end) => reaches(end),
+    }
+}
+
+/// The call of a function after the end of its conversation.
+pub(crate) fn talked(end: JobEnd) -> Move
+    ensures { (p : Program) (s : Tables) → move_of p s result ≡ talked (job_end_of end) }
+{
+    match end {
+        JobEnd::Talked(ending) => ends_talk(ending),
+        JobEnd::Completed(Completion::Normal(_)) => returns(Value::Undefined),
+        JobEnd::Completed(Completion::Returned(_)) => returns(Value::Undefined),
+        JobEnd::Completed(Completion::Thrown(_)) => returns(Value::Undefined),
+        JobEnd::Seen(_) => returns(Value::Undefined),
+    }
 }
 
 /// The end of a call, after its line.

@@ -1,8 +1,8 @@
 //! Actions that take units.
 
 use crate::due::Body;
-use widl_idl::Callee;
-use widl_runs::Completion;
+use crate::ends::JobEnd;
+use widl_convert::ScriptEntries;
 use widl_trace::{Code, Event};
 use widl_value::{ObjRef, Values};
 
@@ -19,13 +19,12 @@ pub enum Unit {
     Array(Values),
     /// The function of this number.
     Function(u32),
-    /// The first step of an operation.
-    Step {
-        /// The operation.
-        callee: Callee,
-        /// The arguments.
-        args: Values,
-    },
+    /// What a conversation asks it for.
+    Asked,
+    /// An object with these properties.
+    Entries(ScriptEntries),
+    /// An iterator over the elements of this object.
+    ArrayIterator(ObjRef),
     /// A TypeError with this code.
     Fail(Code),
 }
@@ -39,14 +38,18 @@ pub enum AfterLine {
     Enters(Body),
     /// What is constructed isn't there yet.
     Constructs,
-    /// The steps of the operation of the line.
-    Runs,
+    /// The property of the line is read.
+    Gets,
+    /// The keys of the line's object are listed.
+    Keys,
+    /// The own property of the line is looked at.
+    Own,
     /// The call that the line ends leaves its context.
     Leaves,
     /// The object of the line is thrown.
     Throws,
     /// The script ends so.
-    Ends(Completion),
+    Ends(JobEnd),
     /// The script ends with the thrown value of the line.
     EndsThrown,
 }

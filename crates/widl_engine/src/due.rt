@@ -1,8 +1,9 @@
 //! Actions that take no unit.
 
-use widl_runs::Completion;
+use crate::ends::Completion;
+use widl_convert::ScriptEntries;
 use widl_script_tree::Row;
-use widl_store::{Builtin, Prop};
+use widl_store::{Builtin, Prop, Turn};
 use widl_text::Key;
 use widl_trace::Code;
 use widl_value::{ObjRef, Value, Values};
@@ -29,6 +30,10 @@ pub enum New {
     Array(Values),
     /// A TypeError.
     Error,
+    /// An ordinary object with these properties.
+    Entries(ScriptEntries),
+    /// An iterator over the elements of this object.
+    ArrayIterator(ObjRef),
 }
 
 /// What a new object is for.
@@ -83,6 +88,8 @@ pub enum Due {
     },
     /// The context of a function that isn't written in the script.
     EnterBuiltin {
+        /// The function's object.
+        f: ObjRef,
         /// The function.
         function: Builtin,
         /// The value of `this`.
@@ -161,6 +168,28 @@ pub enum Due {
         obj: ObjRef,
         /// The property's key.
         key: Key,
+    },
+    /// The own keys of an object.
+    FindKeys(ObjRef),
+    /// The flags of an own property.
+    FindOwn {
+        /// The object.
+        obj: ObjRef,
+        /// The property's key.
+        key: Key,
+    },
+    /// The kind of an object.
+    FindKind(ObjRef),
+    /// How far an iterator has come.
+    FindCursor(ObjRef),
+    /// An Array Iterator is moved on.
+    MoveCursor {
+        /// The iterator.
+        obj: ObjRef,
+        /// The index of the next element.
+        next: u64,
+        /// How far it has come then.
+        turn: Turn,
     },
     /// An end of the profile, by its number.
     Reach(u8),

@@ -11,16 +11,16 @@ ghost use Rattle.widl_engine.specs.Place.{OtherContexts, Performed, context_of, 
 use crate::bindings::Bindings;
 use crate::contexts::{Context, Place};
 use crate::due::Due;
+use crate::ends::Completion;
 use crate::frames::Frame;
 use crate::jobs::Job;
-use crate::moves::Move;
+use crate::moves::{Move, completes};
 use std::alloc::{AllocError, Global};
 use std::mem;
-use widl_runs::Completion;
 use widl_script_tree::Script;
 use widl_script_tree::laws::parts_are_lower;
-use widl_store::Store;
-use widl_value::{Value, Values};
+use widl_store::{Builtin, Store};
+use widl_value::{ObjRef, Value, Values};
 
 /// Binds each parameter to its argument, as far as there are arguments.
 fn bind_parameters(
@@ -118,7 +118,7 @@ pub(crate) fn enter(
 }
 
 /// The context of a function that isn't written in the script.
-pub(crate) fn enter_plain(alloc: Global, place: &mut Place, this: Value) -> Result<(), AllocError>
+fn enter_plain(alloc: Global, place: &mut Place, this: Value) -> Result<(), AllocError>
     ensures { OnOk result ((s : Tables) → OtherContexts s place.old place.new (builtin_context this ∷ contexts_in s place.old)) }
 {
     let inner = Context {
@@ -127,6 +127,30 @@ pub(crate) fn enter_plain(alloc: Global, place: &mut Place, this: Value) -> Resu
         locals: Bindings::new(alloc),
     };
     enter_context(place, inner)
+}
+
+/// A function is entered that isn't written in the script.
+pub(crate) fn enter_builtin(
+    alloc: Global,
+    store: &Store,
+    place: &mut Place,
+    f: ObjRef,
+    function: Builtin,
+    this: Value,
+    args: Values,
+) -> Result<Move, AllocError>
+    ensures { IfOk result (λ m. (p : Program) (s : Tables) → Performed p s (Due.EnterBuiltin f function this args) store.now place.old store.now place.new m) }
+{
+    enter_plain(alloc, place, this.copy()?)?;
+    Ok(Move::Steps(
+        Frame::Talked,
+        Job::Function {
+            f,
+            what: function,
+            this,
+            args,
+        },
+    ))
 }
 
 /// A context is no longer used.
@@ -150,5 +174,5 @@ pub(crate) fn leave(store: &Store, place: &mut Place, completion: Completion) ->
     ensures { (p : Program) (s : Tables) → Performed p s (Due.Leave completion) store.now place.old store.now place.new result }
 {
     leave_context(place);
-    Move::Gives(completion)
+    completes(completion)
 }

@@ -1,6 +1,7 @@
 //! Frames: what a machine does with the end of a job.
 
 use crate::jobs::{KeyPart, MemberUse, RowUse};
+use crate::suspended::Suspended;
 use widl_script_tree::Row;
 use widl_value::{Value, Values};
 
@@ -142,6 +143,10 @@ pub enum Frame {
     },
     /// Ends a call.
     Called,
+    /// Ends the call of a function with what its conversation has come to.
+    Talked,
+    /// A conversation, which goes on.
+    Suspended(Box<Suspended>),
     /// Ends the script.
     Last,
 }

@@ -1,9 +1,10 @@
 //! Jobs: what a machine has still to begin.
 
-use widl_idl::Callee;
+use widl_convert::Ask;
 use widl_script_tree::Row;
+use widl_store::Builtin;
 use widl_trace::Code;
-use widl_value::{Value, Values};
+use widl_value::{ObjRef, Value, Values};
 
 /// The key of a member before it is tested.
 #[derive(Drop)]
@@ -136,13 +137,19 @@ pub enum Job {
         /// The arguments.
         args: Values,
     },
-    /// The steps of an operation.
-    Steps {
-        /// The operation.
-        callee: Callee,
+    /// The conversation of a function that isn't written in the script.
+    Function {
+        /// The function's object.
+        f: ObjRef,
+        /// Which it is.
+        what: Builtin,
+        /// The value of `this`.
+        this: Value,
         /// The arguments.
         args: Values,
     },
+    /// The work of an ask.
+    Asked(Ask),
     /// A TypeError is thrown.
     Fail(Code),
 }

@@ -12,11 +12,12 @@ ghost use Rattle.widl_engine.specs.Stepping.{SteppedFaults, Steps, stepped_of};
 use crate::bindings::Bindings;
 use crate::charges::{Charge, Unit};
 use crate::contexts::Place;
+use crate::ends::JobEnd;
 use crate::frames::Frame;
 use crate::moves::Move;
 use crate::paying::{emit, owed_for};
 use std::alloc::Global;
-use widl_runs::{Completion, Stop};
+use widl_runs::Stop;
 use widl_script_tree::Script;
 use widl_store::Store;
 use widl_tables::Tables;
@@ -45,7 +46,7 @@ pub enum Turn {
     /// To a charge.
     Rests,
     /// To the end of the script.
-    Ended(Completion),
+    Ended(JobEnd),
     /// To a stop.
     Stopped(Stop),
     /// To nothing: there was no memory.
@@ -58,7 +59,7 @@ pub enum Moved {
     /// To a charge.
     Going,
     /// To the end of the script.
-    Ended(Completion),
+    Ended(JobEnd),
     /// To a stop.
     Stopped(Stop),
     /// To nothing: there was no memory.
@@ -69,7 +70,7 @@ pub enum Moved {
 #[derive(Drop)]
 pub enum Way {
     /// The script has ended.
-    Ended(Completion),
+    Ended(JobEnd),
     /// The run was stopped.
     Stopped(Stop),
     /// The sink failed.
@@ -116,7 +117,7 @@ fn step_of(moved: Moved) -> Stepped
 {
     match moved {
         Moved::Going => Stepped::Going,
-        Moved::Ended(completion) => Stepped::Over(Way::Ended(completion)),
+        Moved::Ended(end) => Stepped::Over(Way::Ended(end)),
         Moved::Stopped(stop) => Stepped::Over(Way::Stopped(stop)),
         Moved::Memory => Stepped::Over(Way::Memory),
     }

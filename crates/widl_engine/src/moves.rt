@@ -2,22 +2,25 @@
 
 ghost use Rattle.std.specs.Prelude.{◌≡◌, [], IfOk};
 ghost use Rattle.widl_dialog.specs.Dialog.{End};
-ghost use Rattle.widl_script_tree.specs.Tables.{Tables};
-ghost use Rattle.widl_runs.specs.declared.completion.Completion.TheVariants.{Normal};
-ghost use Rattle.widl_runs.specs.Jobs.{Program, nothing, reaches};
+ghost use Rattle.widl_script_tree.specs.Tables.{Tables as ScriptTables, name_at, statements_tree};
+ghost use Rattle.widl_runs.specs.Ends.{Normal};
+ghost use Rattle.widl_runs.specs.Fitting.{FitsJob};
+ghost use Rattle.widl_runs.specs.Jobs.{Program, nothing, reaches, value as goes_on_with};
 ghost use Rattle.widl_runs.specs.Rules.{rule};
 ghost use Rattle.widl_runs.specs.Statements.{caught as the_caught};
 ghost use Rattle.widl_runs.specs.Traces.{last_line as the_last_line};
-ghost use Rattle.widl_engine.specs.Frames.{after_charge, after_line, after_unit, back_to, ends_by, job_of, move_of, throws_by, value_to};
+ghost use Rattle.widl_engine.specs.Frames.{LeadsTo, after_charge, after_line, after_unit, back_to, completion_end, ends_by, job_end_of, job_of, move_of, program_of, throws_by, value_to};
+ghost use Rattle.widl_engine.specs.ReadOver.{IsReadOver};
 
 use crate::charges::{AfterLine, Charge, Unit};
 use crate::due::{Due, Made, New, Then};
+use crate::ends::{Completion, JobEnd};
 use crate::frames::{Frame, ValueFrame};
 use crate::jobs::{Job, KeyPart, RowUse};
-use crate::{calls, errors, expressions, members, operations, rows, statements};
+use crate::{answering, asks, calls, errors, expressions, members, rows, statements};
 use std::alloc::{AllocError, Global};
-use widl_runs::Completion;
 use widl_script_tree::{Row, Script};
+use widl_tables::Tables;
 use widl_trace::Event;
 use widl_value::{Value, Values};
 
@@ -29,41 +32,55 @@ pub enum Move {
     /// An action that takes none.
     Acts(Due),
     /// A job has ended so.
-    Gives(Completion),
+    Gives(JobEnd),
     /// A job, whose end is for the frame.
     Steps(Frame, Job),
     /// A job, whose end is for the frame below.
     Goes(Job),
 }
 
+/// The end of a part of a script.
+#[inline(always)]
+pub(crate) fn completes(completion: Completion) -> Move
+    ensures { (p : Program) (s : ScriptTables) → move_of p s result ≡ End (completion_end completion) }
+{
+    Move::Gives(JobEnd::Completed(completion))
+}
+
 /// The end with a value.
 #[inline(always)]
 pub(crate) fn gives(value: Value) -> Move
-    ensures { (p : Program) (s : Tables) → move_of p s result ≡ End (Normal value) }
+    ensures { (p : Program) (s : ScriptTables) → move_of p s result ≡ End (Normal value) }
 {
-    Move::Gives(Completion::Normal(value))
+    completes(Completion::Normal(value))
 }
 
 /// The end without a value.
 #[inline(always)]
 pub(crate) fn ends() -> Move
-    ensures { (p : Program) (s : Tables) → move_of p s result ≡ nothing }
+    ensures { (p : Program) (s : ScriptTables) → move_of p s result ≡ nothing }
 {
-    Move::Gives(Completion::Normal(Value::Undefined))
+    completes(Completion::Normal(Value::Undefined))
 }
 
 /// An end of the profile.
 #[inline(always)]
 pub(crate) fn reaches(end: u8) -> Move
-    ensures { (p : Program) (s : Tables) → move_of p s result ≡ reaches end }
+    ensures { (p : Program) (s : ScriptTables) → move_of p s result ≡ reaches end }
 {
     Move::Acts(Due::Reach(end))
 }
 
 /// The first move of a job.
 #[inline(always)]
-pub(crate) fn begin(alloc: Global, script: &Script, job: Job) -> Result<Move, AllocError>
-    ensures { IfOk result (λ m. (p : Program) → move_of p script.now m ≡ rule p (job_of script.now job)) }
+pub(crate) fn begin(
+    alloc: Global,
+    tables: &Tables,
+    script: &Script,
+    job: Job,
+) -> Result<Move, AllocError>
+    requires { FitsJob (job_of script.now job) }
+    ensures { IfOk result (λ m. let p : Program = program_of tables.now script.now in IsReadOver p.list script.now → LeadsTo p script.now (rule p (job_of script.now job)) m) }
 {
     match job {
         Job::Statements(row) => Ok(statements::run_statements(script, row)),
@@ -87,7 +104,13 @@ pub(crate) fn begin(alloc: Global, script: &Script, job: Job) -> Result<Move, Al
         Job::Delete { of, key } => members::delete_member(alloc, script, of, key),
         Job::Call { f, this, args } => Ok(calls::call(f, this, args)),
         Job::Construct { f, args } => Ok(calls::construct(f, args)),
-        Job::Steps { callee, args } => Ok(operations::run_steps(script, callee, args)),
+        Job::Function {
+            f,
+            what,
+            this,
+            args,
+        } => answering::begins(alloc, tables, script, f, what, this, args),
+        Job::Asked(ask) => Ok(asks::asks(ask)),
         Job::Fail(code) => Ok(errors::fail(code)),
     }
 }
@@ -114,7 +137,9 @@ fn unit_paid(script: &Script, unit: Unit) -> Result<Move, AllocError>
             let name = script.function(number).name;
             Ok(adds(New::Function(number), Made::Bound(name)))
         }
-        Unit::Step { callee, args } => operations::first_step(script, callee, args),
+        Unit::Asked => Ok(ends()),
+        Unit::Entries(entries) => Ok(adds(New::Entries(entries), Made::Value)),
+        Unit::ArrayIterator(of) => Ok(adds(New::ArrayIterator(of), Made::Value)),
         Unit::Fail(code) => Ok(adds(New::Error, Made::Error(code))),
     }
 }
@@ -122,10 +147,10 @@ fn unit_paid(script: &Script, unit: Unit) -> Result<Move, AllocError>
 /// The object of an error's line is thrown.
 #[inline(always)]
 fn throws(event: Event) -> Move
-    ensures { (p : Program) (s : Tables) → move_of p s result ≡ throws_by event }
+    ensures { (p : Program) (s : ScriptTables) → move_of p s result ≡ throws_by event }
 {
     match event {
-        Event::Error { obj, code: _ } => Move::Gives(Completion::Thrown(Value::Obj(obj))),
+        Event::Error { obj, code: _ } => completes(Completion::Thrown(Value::Obj(obj))),
         _ => ends(),
     }
 }
@@ -133,10 +158,10 @@ fn throws(event: Event) -> Move
 /// The script ends with the value that its last line shows.
 #[inline(always)]
 fn ends_thrown(event: Event) -> Move
-    ensures { (p : Program) (s : Tables) → move_of p s result ≡ ends_by event }
+    ensures { (p : Program) (s : ScriptTables) → move_of p s result ≡ ends_by event }
 {
     match event {
-        Event::Uncaught(value) => Move::Gives(Completion::Thrown(value)),
+        Event::Uncaught(value) => completes(Completion::Thrown(value)),
         _ => ends(),
     }
 }
@@ -155,10 +180,12 @@ fn line_written(
         AfterLine::Shown => Ok(ends()),
         AfterLine::Enters(body) => Ok(calls::enters(body, event)),
         AfterLine::Constructs => Ok(reaches(calls::NOT_YET)),
-        AfterLine::Runs => operations::runs(alloc, script, event),
+        AfterLine::Gets => Ok(asks::gets(event)),
+        AfterLine::Keys => Ok(asks::finds_keys(event)),
+        AfterLine::Own => Ok(asks::finds_own(event)),
         AfterLine::Leaves => Ok(calls::leaves(event)),
         AfterLine::Throws => Ok(throws(event)),
-        AfterLine::Ends(completion) => Ok(Move::Gives(completion)),
+        AfterLine::Ends(end) => Ok(Move::Gives(end)),
         AfterLine::EndsThrown => Ok(ends_thrown(event)),
     }
 }
@@ -211,8 +238,8 @@ fn valued(
         ValueFrame::NextStatements(rest) => Ok(Move::Goes(Job::Statements(rest))),
         ValueFrame::Drops => Ok(ends()),
         ValueFrame::Binds(name) => Ok(binds(name, value)),
-        ValueFrame::Returns => Ok(Move::Gives(Completion::Returned(value))),
-        ValueFrame::Throws => Ok(Move::Gives(Completion::Thrown(value))),
+        ValueFrame::Returns => Ok(completes(Completion::Returned(value))),
+        ValueFrame::Throws => Ok(completes(Completion::Thrown(value))),
         ValueFrame::Shows => Ok(shows(value)),
         ValueFrame::Compares {
             right,
@@ -285,36 +312,55 @@ fn calls_with(alloc: Global, f: Value, this: Value, args: Row) -> Move
     })
 }
 
+/// A frame isn't needed any more. It is dropped here alone, since a function pays for the room of all that it may drop.
+fn let_go(_frame: ValueFrame) {}
+
 /// A frame goes on with a value, and passes any other end on.
 #[inline(always)]
 fn gone_on(
     alloc: Global,
     script: &Script,
     frame: ValueFrame,
-    completion: Completion,
+    end: JobEnd,
 ) -> Result<Move, AllocError>
-    ensures { IfOk result (λ m. (p : Program) → move_of p script.now m ≡ back_to script.now (Frame.Value frame) completion) }
+    ensures { IfOk result (λ m. (p : Program) → move_of p script.now m ≡ goes_on_with (value_to script.now frame) (job_end_of end)) }
 {
-    match completion {
-        Completion::Normal(value) => valued(alloc, script, frame, value),
-        Completion::Returned(value) => Ok(Move::Gives(Completion::Returned(value))),
-        Completion::Thrown(value) => Ok(Move::Gives(Completion::Thrown(value))),
+    match end {
+        JobEnd::Completed(Completion::Normal(value)) => valued(alloc, script, frame, value),
+        JobEnd::Completed(Completion::Returned(value)) => {
+            let_go(frame);
+            Ok(completes(Completion::Returned(value)))
+        }
+        JobEnd::Completed(Completion::Thrown(value)) => {
+            let_go(frame);
+            Ok(completes(Completion::Thrown(value)))
+        }
+        JobEnd::Talked(ending) => {
+            let_go(frame);
+            Ok(Move::Gives(JobEnd::Talked(ending)))
+        }
+        JobEnd::Seen(answer) => {
+            let_go(frame);
+            Ok(Move::Gives(JobEnd::Seen(answer)))
+        }
     }
 }
 
 /// A thrown value is bound for its handler.
 #[inline(always)]
-fn caught(script: &Script, name: u32, handler: Row, completion: Completion) -> Move
-    ensures { (p : Program) → move_of p script.now result ≡ back_to script.now (Frame.Catches name handler) completion }
+fn caught(script: &Script, name: u32, handler: Row, end: JobEnd) -> Move
+    ensures { (p : Program) → move_of p script.now result ≡ the_caught (name_at script.now name) (statements_tree script.now handler) (job_end_of end) }
 {
-    match completion {
-        Completion::Normal(value) => gives(value),
-        Completion::Returned(value) => Move::Gives(Completion::Returned(value)),
-        Completion::Thrown(value) => Move::Acts(Due::Bind {
+    match end {
+        JobEnd::Completed(Completion::Normal(value)) => gives(value),
+        JobEnd::Completed(Completion::Returned(value)) => completes(Completion::Returned(value)),
+        JobEnd::Completed(Completion::Thrown(value)) => Move::Acts(Due::Bind {
             name,
             value,
             then: Then::Handles(handler),
         }),
+        JobEnd::Talked(ending) => Move::Gives(JobEnd::Talked(ending)),
+        JobEnd::Seen(answer) => Move::Gives(JobEnd::Seen(answer)),
     }
 }
 
@@ -326,19 +372,31 @@ fn ends_script(event: Event, then: AfterLine) -> Move
     Move::Pays(Charge::Line { event, then })
 }
 
+/// The last line of a script that ends so.
+#[inline(always)]
+fn done(end: JobEnd) -> Move
+    ensures { result ≡ Move.Pays (Charge.Line Event.Done (AfterLine.Ends end)) }
+{
+    ends_script(Event::Done, AfterLine::Ends(end))
+}
+
 /// The last line.
 #[inline(always)]
-fn last_line(completion: Completion) -> Move
-    ensures { (p : Program) (s : Tables) → move_of p s result ≡ the_last_line completion }
+fn last_line(end: JobEnd) -> Move
+    ensures { (p : Program) (s : ScriptTables) → move_of p s result ≡ the_last_line (job_end_of end) }
 {
-    match completion {
-        Completion::Normal(value) => {
-            ends_script(Event::Done, AfterLine::Ends(Completion::Normal(value)))
+    match end {
+        JobEnd::Completed(Completion::Normal(value)) => {
+            done(JobEnd::Completed(Completion::Normal(value)))
         }
-        Completion::Returned(value) => {
-            ends_script(Event::Done, AfterLine::Ends(Completion::Returned(value)))
+        JobEnd::Completed(Completion::Returned(value)) => {
+            done(JobEnd::Completed(Completion::Returned(value)))
         }
-        Completion::Thrown(value) => ends_script(Event::Uncaught(value), AfterLine::EndsThrown),
+        JobEnd::Completed(Completion::Thrown(value)) => {
+            ends_script(Event::Uncaught(value), AfterLine::EndsThrown)
+        }
+        JobEnd::Talked(ending) => done(JobEnd::Talked(ending)),
+        JobEnd::Seen(answer) => done(JobEnd::Seen(answer)),
     }
 }
 
@@ -346,16 +404,19 @@ fn last_line(completion: Completion) -> Move
 #[inline(always)]
 pub(crate) fn returned(
     alloc: Global,
+    tables: &Tables,
     script: &Script,
     frame: Frame,
-    completion: Completion,
+    end: JobEnd,
 ) -> Result<Move, AllocError>
-    ensures { IfOk result (λ m. (p : Program) → move_of p script.now m ≡ back_to script.now frame completion) }
+    ensures { IfOk result (λ m. let p : Program = program_of tables.now script.now in IsReadOver p.list script.now → LeadsTo p script.now (back_to p script.now frame (job_end_of end)) m) }
 {
     match frame {
-        Frame::Value(frame) => gone_on(alloc, script, frame, completion),
-        Frame::Catches { name, handler } => Ok(caught(script, name, handler, completion)),
-        Frame::Called => Ok(calls::called(completion)),
-        Frame::Last => Ok(last_line(completion)),
+        Frame::Value(frame) => gone_on(alloc, script, frame, end),
+        Frame::Catches { name, handler } => Ok(caught(script, name, handler, end)),
+        Frame::Called => Ok(calls::called(end)),
+        Frame::Talked => Ok(calls::talked(end)),
+        Frame::Suspended(suspended) => answering::answered(alloc, tables, script, suspended, end),
+        Frame::Last => Ok(last_line(end)),
     }
 }

@@ -9,7 +9,7 @@ ghost use Rattle.widl_runs.specs.Jobs.{Program};
 ghost use Rattle.widl_runs.specs.Traces as traces;
 ghost use Rattle.widl_store.specs.Realm.{realm_of};
 ghost use Rattle.widl_trace.specs.EventTerms.{event_term};
-ghost use Rattle.widl_engine.specs.Frames.{list_of, move_of, program_of};
+ghost use Rattle.widl_engine.specs.Frames.{job_end_of, list_of, move_of, program_of};
 ghost use Rattle.widl_engine.specs.Outcomes.{FaultsOf, RanAs};
 ghost use Rattle.widl_engine.specs.Output.{output};
 ghost use Rattle.widl_engine.specs.ReadOver.{IsReadOver};
@@ -17,14 +17,15 @@ ghost use Rattle.widl_engine.specs.Running.{Became, IsFresh};
 ghost use Rattle.widl_engine.specs.Stepping.{Faults};
 ghost use Rattle.widl_engine.specs.Stops.{Said, ends_with};
 
+use crate::ends::{Completion, JobEnd};
 use crate::frames::Frame;
 use crate::jobs::Job;
 use crate::machine::{Machine, Moved, Stepped, Way, fresh};
 use crate::moves::Move;
 use crate::paying::count_of_lines;
 use std::alloc::Global;
+use widl_runs::Stop;
 use widl_runs::laws::runs_fit;
-use widl_runs::{Completion, Stop};
 use widl_script_tree::Script;
 use widl_script_tree::laws::parts_are_lower;
 use widl_store::Store;
@@ -102,7 +103,7 @@ fn take_charges<K: Sink>(
     let mut events = 0;
     match machine.advance(alloc, tables, script, store, first_move(script)) {
         Moved::Going => {}
-        Moved::Ended(completion) => return (Way::Ended(completion), NOTHING),
+        Moved::Ended(end) => return (Way::Ended(end), NOTHING),
         Moved::Stopped(stop) => return (Way::Stopped(stop), NOTHING),
         Moved::Memory => return (Way::Memory, NOTHING),
     }
@@ -153,13 +154,15 @@ fn drive<K: Sink>(
 }
 
 /// How a script ends that has ended.
-fn ended(completion: Completion) -> End
-    ensures { result ≡ ends_with completion }
+fn ended(end: JobEnd) -> End
+    ensures { result ≡ ends_with (job_end_of end) }
 {
-    match completion {
-        Completion::Normal(_) => End::Done,
-        Completion::Returned(_) => End::Done,
-        Completion::Thrown(_) => End::Uncaught,
+    match end {
+        JobEnd::Completed(Completion::Normal(_)) => End::Done,
+        JobEnd::Completed(Completion::Returned(_)) => End::Done,
+        JobEnd::Completed(Completion::Thrown(_)) => End::Uncaught,
+        JobEnd::Talked(_) => End::Done,
+        JobEnd::Seen(_) => End::Done,
     }
 }
 
@@ -221,7 +224,7 @@ pub fn run<K: Sink>(
     let mut store = store;
     let (way, counts) = drive(alloc, tables, &mut store, script, budget, writer, out);
     match way {
-        Way::Ended(completion) => (ended(completion), counts),
+        Way::Ended(end) => (ended(end), counts),
         Way::Stopped(stop) => {
             let end = say_stop(alloc, tables, stop, writer, out);
             let events = counts.events + 1;

@@ -80,6 +80,9 @@ d7 = one_digit 7 (omega arith)
 pub d8 : decimal 8 ≡ 56 ∷ []
 d8 = one_digit 8 (omega arith)
 
+pub d12 : decimal 12 ≡ 49 ∷ 50 ∷ []
+d12 = two_digits 12 (omega arith) (omega arith)
+
 pub d15 : decimal 15 ≡ 49 ∷ 53 ∷ []
 d15 = two_digits 15 (omega arith) (omega arith)
 
@@ -91,6 +94,9 @@ d19 = two_digits 19 (omega arith) (omega arith)
 
 pub d20 : decimal 20 ≡ 50 ∷ 48 ∷ []
 d20 = two_digits 20 (omega arith) (omega arith)
+
+pub d21 : decimal 21 ≡ 50 ∷ 49 ∷ []
+d21 = two_digits 21 (omega arith) (omega arith)
 
 pub d99 : decimal 99 ≡ 57 ∷ 57 ∷ []
 d99 = two_digits 99 (omega arith) (omega arith)

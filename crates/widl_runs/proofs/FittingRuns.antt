@@ -6,17 +6,19 @@ use Rattle.widl_dialog.specs.Runs.{Did, Went}
 use Rattle.widl_dialog.proofs.Crediting.{owes_bind}
 use Rattle.widl_store.specs.Objects.{Obj}
 use Rattle.widl_store.specs.Realm.{realm_of}
-use Rattle.widl_runs.specs.declared.completion.Completion.{Completion}
+use Rattle.widl_calls.specs.CallTasks.{CallTask, Of, Function, Lines}
+use Rattle.widl_runs.specs.Ends.{JobEnd}
 use Rattle.widl_runs.specs.declared.stop.Stop.{Stop}
 use Rattle.widl_runs.specs.Worlds.{World}
-use Rattle.widl_runs.specs.Actions.{Action, Pay, Write, TestDepth, Enter, Leave, FindBody, ReadThis, ReadName, BindName, TakeSymbol, AddObject, FindProperty, PutProperty, DefineProperty, DeleteProperty, Reach, Reply, act}
-use Rattle.widl_runs.specs.Jobs.{Program, Job, Doing}
+use Rattle.widl_runs.specs.Actions.{Action, Pay, Write, TestDepth, Enter, Leave, FindBody, ReadThis, ReadName, BindName, TakeSymbol, AddObject, FindProperty, PutProperty, DefineProperty, DeleteProperty, FindKeys, FindOwn, FindInner, MoveCursor, Reach, Reply, act}
+use Rattle.widl_runs.specs.Jobs.{Program, Job, RunStatements, RunStatement, Evaluate, EvaluateRow, ReadMember, SetMember, DefineMember, DefineAccessor, DeleteMember, CallValue, ConstructValue, Talk, Asked, Fail, Doing}
 use Rattle.widl_runs.specs.Rules.{rule}
 use Rattle.widl_runs.specs.Traces.{first_world}
-use Rattle.widl_runs.specs.Fitting.{IsRunnable, Comes, here, said, begun, HasPrototypes, FitsAction, FitsPlace}
+use Rattle.widl_runs.specs.Fitting.{IsRunnable, Comes, here, said, begun, HasPrototypes, FitsAction, FitsCall, FitsJob, FitsPlace}
 use Rattle.widl_runs.specs.Laws.{ScriptsFit}
 use Rattle.widl_runs.proofs.LiveParts.{Grows, more_reply}
-use Rattle.widl_runs.proofs.LiveSteps.{LiveAction, Safe, safe_bind, safe, safe_whole}
+use Rattle.widl_runs.proofs.LiveJobs.{LiveAction, LiveCall, LiveJob, Safe, safe_bind}
+use Rattle.widl_runs.proofs.LiveSteps.{safe, safe_whole}
 use Rattle.widl_runs.proofs.LiveWorlds.{LiveWorld, Lives, LivesOn, more_prototypes, lives}
 use Rattle.widl_runs.proofs.LiveRealm.{first_live}
 use Rattle.widl_runs.proofs.ObjectCredit.{gives, takes, made_level, moves_made, fair, fair_whole}
@@ -52,7 +54,7 @@ module _ (p : Program) (runnable : IsRunnable p.script) where
         holds = λ more g. (x.holds more (λ o l. g o (on.grows o l))).1 r (more_reply v.store.objects more g r on.reply);
       }
 
-  begun_fit : (j : Job) (k : Completion → Doing) (w : World) → Fit (Steps j k) w → Fit (bind (rule p j) k) w
+  begun_fit : (j : Job) (k : JobEnd → Doing) (w : World) → Fit (Steps j k) w → Fit (bind (rule p j) k) w
   begun_fit j k w x = record {
     credit = 0 + x.credit;
     owed = owes_bind (rule p) (act p.list) made_level gives takes (rule p j) k 0 x.credit (fair p j) x.owed;
@@ -84,12 +86,37 @@ module _ (p : Program) (runnable : IsRunnable p.script) where
   fits_action (PutProperty object key v) w n few room first a = a.0
   fits_action (DefineProperty object key prop) w n few room first a = a.0
   fits_action (DeleteProperty object key) w n few room first a = a
+  fits_action (FindKeys object) w n few room first a = a
+  fits_action (FindOwn object key) w n few room first a = a
+  fits_action (FindInner object) w n few room first a = a
+  fits_action (MoveCursor object next turn) w n few room first a = a
   fits_action (Reach end) w n few room first a = tt
 
   fits_place : (d : Doing) (w : World) → Fit d w → FitsPlace p d w
   fits_place (End c) w x = tt
   fits_place (Say q k) w x = fits_action q w x.credit x.owed.0 x.room x.live.prototypes (x.holds w.store.objects (λ o l. l)).0
-  fits_place (Steps j k) w x = tt
+  fits_place (Steps j k) w x = fits_job j (x.holds w.store.objects (λ o l. l)).0
+    where
+      fits_call : (t : CallTask) → LiveCall w.store.objects t → FitsCall t
+      fits_call (Of t) l = tt
+      fits_call (Function f what this args construct) l = l.2
+      fits_call (Lines t named ls) l = tt
+
+      fits_job : (j : Job) → LiveJob p w.store.objects j → FitsJob j
+      fits_job (RunStatements ss) l = tt
+      fits_job (RunStatement s) l = tt
+      fits_job (Evaluate e) l = tt
+      fits_job (EvaluateRow what vs es) l = tt
+      fits_job (ReadMember of key) l = tt
+      fits_job (SetMember of key v) l = tt
+      fits_job (DefineMember of key v hidden) l = tt
+      fits_job (DefineAccessor of key getter setter) l = tt
+      fits_job (DeleteMember of key) l = tt
+      fits_job (CallValue f this args) l = tt
+      fits_job (ConstructValue f args) l = tt
+      fits_job (Talk task) l = fits_call task l
+      fits_job (Asked ask) l = tt
+      fits_job (Fail why) l = tt
 
 pub scripts_fit : (p : Program) (budget : ℕ) → ScriptsFit p budget
 scripts_fit p budget runnable small = record {

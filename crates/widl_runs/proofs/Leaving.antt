@@ -12,10 +12,11 @@ use Rattle.widl_script_tree.specs.Trees.{Text}
 use Rattle.widl_runs.specs.declared.stop.Stop.{Stop}
 use Rattle.widl_runs.specs.declared.stop.Stop.TheVariants as stops
 use Rattle.widl_runs.specs.Worlds.{World, is_local, with_local, with_value}
-use Rattle.widl_runs.specs.Actions.{Action, Pay, Write, TestDepth, Enter, Leave, FindBody, ReadThis, ReadName, BindName, TakeSymbol, AddObject, FindProperty, PutProperty, DefineProperty, DeleteProperty, Reach, Reply, IsDone, event_cost, put_result, define_result, is_put, is_made, with_store, most_calls, act}
+use Rattle.widl_runs.specs.Actions.{Action, Pay, Write, TestDepth, Enter, Leave, FindBody, ReadThis, ReadName, BindName, TakeSymbol, AddObject, FindProperty, PutProperty, DefineProperty, DeleteProperty, FindKeys, FindOwn, FindInner, MoveCursor, Reach, Reply, IsDone, event_cost, put_result, define_result, is_put, is_made, with_store, most_calls, act}
 use Rattle.widl_runs.specs.Jobs.{Program}
 use Rattle.widl_runs.specs.Rules.{rule}
-use Rattle.widl_runs.proofs.Ranks.{pays, ranks, calm, spend}
+use Rattle.widl_runs.proofs.Ranks.{pays, ranks}
+use Rattle.widl_runs.proofs.CalmJobs.{calm, spend}
 
 abbrev pub units_of : World → ℕ
 units_of w = w.units
@@ -52,7 +53,11 @@ leaves list (FindProperty object key) w = omega arith
 leaves list (PutProperty object key v) w = made_leaves (is_put (put_result w.store.objects object key v)) w (put_in w.store.objects object.id key v)
 leaves list (DefineProperty object key prop) w = made_leaves (is_made (define_result w.store.objects object key)) w (defined w.store.objects object.id key prop)
 leaves list (DeleteProperty object key) w = made_leaves (is_made (delete_of (own_at w.store.objects object.id key))) w (deleted w.store.objects object.id key)
+leaves list (FindKeys object) w = omega arith
+leaves list (FindOwn object key) w = omega arith
+leaves list (FindInner object) w = omega arith
+leaves list (MoveCursor object next turn) w = omega arith
 leaves list (Reach end) w = tt
 
-pub calming : (p : Program) → Calming (rule p) (act p.list) units_of ranks
+pub calming : (p : Program) → Calming (rule p) (act p.list) units_of (ranks p.list)
 calming p = record { leaves = leaves p.list; calm = calm p; spends = spend p }

@@ -1,9 +1,13 @@
 pub mod Ranks
+mod CalmTalks
+mod CalmJobs
 pub mod Leaving
 pub mod Outcomes
 pub mod LineCosts
 pub mod ObjectCredit
 pub mod LiveParts
+pub mod LiveJobs
+mod LiveTalks
 pub mod LiveSteps
 pub mod LiveStores
 pub mod LiveWorlds
@@ -12,3 +16,4 @@ pub mod FittingRuns
 mod ShortLines
 mod Examples
 mod MoreExamples
+mod ConversionExamples

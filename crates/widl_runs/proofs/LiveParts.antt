@@ -11,11 +11,16 @@ use Rattle.widl_store.specs.declared.effects.Put.TheVariants as puts
 use Rattle.widl_store.specs.declared.effects.PutFault.{PutFault}
 use Rattle.widl_store.specs.declared.property.Prop.{Prop}
 use Rattle.widl_store.specs.declared.property.Prop.TheVariants as props
+use Rattle.widl_value.specs.IdlTerms.{IdlTerm, IdlTerms, EntryTerms, MemberTerms, no_values, more_values as next_value, no_entries, more_entries, no_members, more_members, UndefinedValue, NullValue, MissingValue, BooleanValue, IntegerValue, StringValue, EnumerationValue, ObjectValue, AnyValue, SequenceValue, RecordValue, DictionaryValue, PromiseValue}
+use Rattle.widl_store.specs.Inners.{InnerTerm, PlainPart, ArrayPart, ErrorPart, ScriptPart, BuiltinPart, InterfacePart, PlatformPart, SpacePart, PairIteratorPart, ArrayIteratorPart, PromisePart}
 use Rattle.widl_store.specs.Objects.{Obj, IsLive}
-use Rattle.widl_runs.specs.declared.completion.Completion.{Completion}
-use Rattle.widl_runs.specs.declared.completion.Completion.TheVariants.{Normal, Returned, Thrown}
+use Rattle.widl_convert.specs.declared.answer.CursorState.{CursorState}
+use Rattle.widl_convert.specs.declared.answer.CursorState.TheVariants as cursors
+use Rattle.widl_convert.specs.AskTerms.{AnswerTerm, BeginAnswer, DoneAnswer, NormalAnswer, ThrownAnswer, KindAnswer, KeysAnswer, OwnAnswer, CursorAnswer}
+use Rattle.widl_convert.specs.Tasks.{TaskEnd, Gives, Plain, Picks, Throw, Rethrow, Profile}
+use Rattle.widl_runs.specs.Ends.{JobEnd, Normal, Returned, Thrown, Talked, Seen}
 use Rattle.widl_runs.specs.Worlds.{Bindings, Context}
-use Rattle.widl_runs.specs.Actions.{Reply, value_in, object_in, property_in, put_result_in}
+use Rattle.widl_runs.specs.Actions.{Reply, value_in, object_in, property_in, put_result_in, inner_in}
 
 module _ (objects : List Obj) where
   -- 1. Values
@@ -36,10 +41,69 @@ module _ (objects : List Obj) where
   LiveValues [] = Unit {0}
   LiveValues (v ∷ vs) = LiveValue v × LiveValues vs
 
-  abbrev pub LiveCompletion : Completion → Type 0
-  LiveCompletion (Normal v) = LiveValue v
-  LiveCompletion (Returned v) = LiveValue v
-  LiveCompletion (Thrown v) = LiveValue v
+  -- IDL values
+  abbrev mutual
+    pub LiveTerm : IdlTerm → Type 0
+    LiveTerm UndefinedValue = Unit {0}
+    LiveTerm NullValue = Unit {0}
+    LiveTerm MissingValue = Unit {0}
+    LiveTerm (BooleanValue b) = Unit {0}
+    LiveTerm (IntegerValue n) = Unit {0}
+    LiveTerm (StringValue text) = Unit {0}
+    LiveTerm (EnumerationValue n place) = Unit {0}
+    LiveTerm (ObjectValue o) = IsLive objects o
+    LiveTerm (AnyValue v) = LiveValue v
+    LiveTerm (SequenceValue ws) = LiveTerms ws
+    LiveTerm (RecordValue entries) = LiveEntries entries
+    LiveTerm (DictionaryValue n members) = LiveMembers members
+    LiveTerm (PromiseValue o) = IsLive objects o
+
+    pub LiveTerms : IdlTerms → Type 0
+    LiveTerms no_values = Unit {0}
+    LiveTerms (next_value w ws) = LiveTerm w × LiveTerms ws
+
+    pub LiveEntries : EntryTerms → Type 0
+    LiveEntries no_entries = Unit {0}
+    LiveEntries (more_entries name w entries) = LiveTerm w × LiveEntries entries
+
+    pub LiveMembers : MemberTerms → Type 0
+    LiveMembers no_members = Unit {0}
+    LiveMembers (more_members n place w members) = LiveTerm w × LiveMembers members
+
+  abbrev pub LiveTermList : List IdlTerm → Type 0
+  LiveTermList [] = Unit {0}
+  LiveTermList (w ∷ ws) = LiveTerm w × LiveTermList ws
+
+  -- ends of tasks, and answers
+  abbrev pub LiveTaskEnd : TaskEnd → Type 0
+  LiveTaskEnd (Gives w) = LiveTerm w
+  LiveTaskEnd (Plain v) = LiveValue v
+  LiveTaskEnd (Picks overload ws) = LiveTermList ws
+  LiveTaskEnd (Throw why) = Unit {0}
+  LiveTaskEnd (Rethrow v) = LiveValue v
+  LiveTaskEnd (Profile end) = Unit {0}
+
+  -- of an Array Iterator the object is read on
+  abbrev pub LiveCursor : CursorState → Type 0
+  LiveCursor (cursors.Pairs of kind next) = Unit {0}
+  LiveCursor (cursors.Array of next turn) = IsLive objects of
+
+  abbrev pub LiveAnswer : AnswerTerm → Type 0
+  LiveAnswer BeginAnswer = Unit {0}
+  LiveAnswer DoneAnswer = Unit {0}
+  LiveAnswer (NormalAnswer v) = LiveValue v
+  LiveAnswer (ThrownAnswer v) = LiveValue v
+  LiveAnswer (KindAnswer kind) = Unit {0}
+  LiveAnswer (KeysAnswer keys) = Unit {0}
+  LiveAnswer (OwnAnswer flags) = Unit {0}
+  LiveAnswer (CursorAnswer state) = IfSome state LiveCursor
+
+  abbrev pub LiveEnd : JobEnd → Type 0
+  LiveEnd (Normal v) = LiveValue v
+  LiveEnd (Returned v) = LiveValue v
+  LiveEnd (Thrown v) = LiveValue v
+  LiveEnd (Talked end) = LiveTaskEnd end
+  LiveEnd (Seen answer) = LiveAnswer answer
 
   -- 2. Properties
 
@@ -57,9 +121,29 @@ module _ (objects : List Obj) where
   LiveProps [] = Unit {0}
   LiveProps (e ∷ es) = LiveProp e.1 × LiveProps es
 
+  -- an Array Iterator holds the object whose elements it gives; what the other inner parts hold is not read yet
+  abbrev pub LiveInner : InnerTerm → Type 0
+  LiveInner PlainPart = Unit {0}
+  LiveInner ArrayPart = Unit {0}
+  LiveInner ErrorPart = Unit {0}
+  LiveInner (ScriptPart f) = Unit {0}
+  LiveInner (BuiltinPart f) = Unit {0}
+  LiveInner (InterfacePart iface slots) = Unit {0}
+  LiveInner (PlatformPart slots pairs) = Unit {0}
+  LiveInner (SpacePart slots) = Unit {0}
+  LiveInner (PairIteratorPart of kind next) = Unit {0}
+  LiveInner (ArrayIteratorPart of next turn) = IsLive objects of
+  LiveInner (PromisePart state) = Unit {0}
+
+  abbrev pub LiveSeen : Option InnerTerm → Type 0
+  LiveSeen inner = IfSome inner LiveInner
+
+  abbrev pub LiveObject : Obj → Type 0
+  LiveObject o = LiveProps o.props × LiveInner o.inner
+
   abbrev pub LiveObjects : List Obj → Type 0
   LiveObjects [] = Unit {0}
-  LiveObjects (o ∷ os) = LiveProps o.props × LiveObjects os
+  LiveObjects (o ∷ os) = LiveObject o × LiveObjects os
 
   -- 3. Bindings and contexts
 
@@ -86,6 +170,7 @@ module _ (objects : List Obj) where
     pub object : IsLive objects (object_in r)
     pub property : LiveFound (property_in r)
     pub put : LivePut (put_result_in r)
+    pub inner : LiveSeen (inner_in r)
 
 -- what is live among the one objects is live among the others
 abbrev pub Grows : List Obj → List Obj → Type 0
@@ -117,9 +202,26 @@ module _ (objects more : List Obj) (grows : Grows objects more) where
   more_props [] l = tt
   more_props (e ∷ es) l = (more_prop e.1 l.0, more_props es l.1)
 
+  pub more_inner : (inner : InnerTerm) → LiveInner objects inner → LiveInner more inner
+  more_inner PlainPart l = tt
+  more_inner ArrayPart l = tt
+  more_inner ErrorPart l = tt
+  more_inner (ScriptPart f) l = tt
+  more_inner (BuiltinPart f) l = tt
+  more_inner (InterfacePart iface slots) l = tt
+  more_inner (PlatformPart slots pairs) l = tt
+  more_inner (SpacePart slots) l = tt
+  more_inner (PairIteratorPart of kind next) l = tt
+  more_inner (ArrayIteratorPart of next turn) l = grows of l
+  more_inner (PromisePart state) l = tt
+
+  more_seen : (inner : Option InnerTerm) → LiveSeen objects inner → LiveSeen more inner
+  more_seen None l = tt
+  more_seen (Some inner) l = more_inner inner l
+
   pub more_objects : (os : List Obj) → LiveObjects objects os → LiveObjects more os
   more_objects [] l = tt
-  more_objects (o ∷ os) l = (more_props o.props l.0, more_objects os l.1)
+  more_objects (o ∷ os) l = ((more_props o.props l.0.0, more_inner o.inner l.0.1), more_objects os l.1)
 
   pub more_values : (vs : List Value) → LiveValues objects vs → LiveValues more vs
   more_values [] l = tt
@@ -144,4 +246,5 @@ module _ (objects more : List Obj) (grows : Grows objects more) where
     object = grows (object_in r) l.object;
     property = more_found (property_in r) l.property;
     put = more_put (put_result_in r) l.put;
+    inner = more_seen (inner_in r) l.inner;
   }

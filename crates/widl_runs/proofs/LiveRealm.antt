@@ -20,7 +20,7 @@ use Rattle.widl_store.proofs.PlanObjects.{intrinsics_are_18}
 use Rattle.widl_store.proofs.RealmSteps.{longer}
 use Rattle.widl_runs.specs.Fitting.{HasPrototypes}
 use Rattle.widl_runs.specs.Traces.{first_world}
-use Rattle.widl_runs.proofs.LiveParts.{LiveProps, LiveObjects}
+use Rattle.widl_runs.proofs.LiveParts.{LiveProps, LiveInner, LiveObjects}
 use Rattle.widl_runs.proofs.LiveStores.{last_shape, live_with}
 use Rattle.widl_runs.proofs.LiveWorlds.{LiveWorld}
 
@@ -32,7 +32,7 @@ shape_at objects id = option_map (λ o. o.shape) (slice_get objects id)
 module _ (all : List Obj) where
   abbrev LivePlans : List Plan → Type 0
   LivePlans [] = Unit {0}
-  LivePlans (plan ∷ plans) = LiveProps all plan.entries × LivePlans plans
+  LivePlans (plan ∷ plans) = (LiveProps all plan.entries × LiveInner all plan.inner) × LivePlans plans
 
   live_entries : (held entries : List (Key × Prop)) → LiveProps all held → LiveProps all entries → LiveProps all (with_entries held entries)
   live_entries held [] l x = l
@@ -43,7 +43,7 @@ module _ (all : List Obj) where
 
   live_plans : (plans : List Plan) → LivePlans plans → LiveObjects all (map object_of plans)
   live_plans [] l = tt
-  live_plans (plan ∷ plans) l = (live_entries (first_props plan.inner) plan.entries (live_first plan.inner) l.0, live_plans plans l.1)
+  live_plans (plan ∷ plans) l = ((live_entries (first_props plan.inner) plan.entries (live_first plan.inner) l.0.0, l.0.1), live_plans plans l.1)
 
   plans_append : (plans more : List Plan) → LivePlans plans → LivePlans more → LivePlans (plans ++ more)
   plans_append [] more l x = x
@@ -57,7 +57,7 @@ module _ (all : List Obj) where
 
   live_functions : (space place : ℕ) (ops : List OpNameTerm) → LivePlans (functions_from space place ops)
   live_functions space place [] = tt
-  live_functions space place (op ∷ ops) = ((tt, (tt, tt)), live_functions space (place + 1) ops)
+  live_functions space place (op ∷ ops) = (((tt, (tt, tt)), tt), live_functions space (place + 1) ops)
 
   live_operations : (before rest : List Obj) (space place id : ℕ) (ops : List OpNameTerm) → id ≡ length before → all ≡ before ++ (map object_of (functions_from space place ops) ++ rest) → LiveProps all (operations_from id ops)
   live_operations before rest space place id [] at is = tt
@@ -82,7 +82,7 @@ module _ (all : List Obj) where
       is ∙ ap (λ l. before ++ l) (map-append object_of (namespace_plans id space n) rest) ∙ sym (append_assoc before (map object_of (namespace_plans id space n)) (map object_of rest)) in
       let grown : after id n ≡ length next =
       ap (λ m. after m n) at ∙ sym (longer before space n) ∙ ap (λ m. length (before ++ map object_of (namespace_plans m space n))) (sym at) in (
-        live_tagged (operations_from (id + 1) n.members.ops) n.name (live_operations (before ++ o ∷ []) (map object_of rest) space 0 (id + 1) n.members.ops (omega (arith, at, long)) whole),
+        (live_tagged (operations_from (id + 1) n.members.ops) n.name (live_operations (before ++ o ∷ []) (map object_of rest) space 0 (id + 1) n.members.ops (omega (arith, at, long)) whole), tt),
         plans_append functions rest (live_functions space 0 n.members.ops) (live_spaces next (space + 1) (after id n) spaces grown further),
       )
 
@@ -106,17 +106,35 @@ has_functions more = record { eight = refl; nine = refl; ten = refl; eleven = re
 
 has_prototypes : (more : List Plan) → HasPrototypes (map object_of (intrinsics ++ more))
 unfolding intrinsics
-has_prototypes more = record { object = refl; function = refl; array = refl; error = refl }
+has_prototypes more = record { object = refl; function = refl; array = refl; error = refl; iterator = refl }
 
 live_intrinsics : (all : List Obj) → HasFunctions all → LivePlans all intrinsics
 unfolding intrinsics
 live_intrinsics all f = (
-  (f.eight, (f.nine, tt)),
+  ((f.eight, (f.nine, tt)), tt),
   (
-    (f.fifteen, tt),
+    ((f.fifteen, tt), tt),
     (
-      (f.ten, (f.eleven, (f.twelve, (f.twelve, tt)))),
-      ((f.sixteen, tt), (tt, ((f.seventeen, (tt, tt)), ((f.fourteen, tt), ((f.thirteen, (tt, tt)), ((tt, (tt, tt)), ((tt, (tt, tt)), ((tt, (tt, tt)), ((tt, (tt, tt)), ((tt, (tt, tt)), ((tt, (tt, tt)), ((tt, (tt, tt)), ((tt, (tt, tt)), ((tt, (tt, tt)), ((tt, (tt, tt)), tt))))))))))))))),
+      ((f.ten, (f.eleven, (f.twelve, (f.twelve, tt)))), tt),
+      (
+        ((f.sixteen, tt), tt),
+        (
+          (tt, tt),
+          (
+            ((f.seventeen, (tt, tt)), tt),
+            (
+              ((f.fourteen, tt), tt),
+              (
+                ((f.thirteen, (tt, tt)), tt),
+                (
+                  ((tt, (tt, tt)), tt),
+                  (((tt, (tt, tt)), tt), (((tt, (tt, tt)), tt), (((tt, (tt, tt)), tt), (((tt, (tt, tt)), tt), (((tt, (tt, tt)), tt), (((tt, (tt, tt)), tt), (((tt, (tt, tt)), tt), (((tt, (tt, tt)), tt), (((tt, (tt, tt)), tt), tt))))))))),
+                ),
+              ),
+            ),
+          ),
+        ),
+      ),
     ),
   ),
 )

@@ -1,14 +1,13 @@
 -- For proofs alone. The steps of each job hold live references alone, where the job and all replies do.
-use Rattle.std.proofs.Common.{ℕ, zero, suc, Bool, true, false, List, [], ◌∷◌, ◌++◌, Option, Some, None, length, arith, if◌then◌else◌}
+use Rattle.std.proofs.Common.{ℕ, ◌+◌, ◌<◌, ◌^◌, length-append, zero, suc, Bool, true, false, List, [], ◌∷◌, Option, Some, None, length, arith, if◌then◌else◌}
 use Rattle.std.proofs.lemmas.Bool.{cond_both}
-use Rattle.std.specs.Prelude.{nat_lt, bytes_eq, All, slice_index_or, take}
+use Rattle.std.specs.Prelude.{All, IfSome, slice_index_or}
+use Rattle.std.specs.Option.{option_and_then, option_map_or}
 use Rattle.std.specs.declared.result.Result.{Result}
 use Rattle.std.specs.declared.result.Result.TheVariants as results
-use Rattle.widl_dialog.specs.Dialog.{End, Say, Steps, bind}
+use Rattle.widl_dialog.specs.Dialog.{End, Say, Steps}
 use Rattle.widl_text.specs.declared.key.Key.{Key}
 use Rattle.widl_idl.specs.declared.callee.Callee.{Callee}
-use Rattle.widl_idl.specs.declared.literal.Literal.{Literal}
-use Rattle.widl_idl.specs.declared.literal.Literal.TheVariants as literals
 use Rattle.widl_value.specs.declared.object.ObjRef.{ObjRef}
 use Rattle.widl_value.specs.declared.object.Shape.{Shape}
 use Rattle.widl_value.specs.declared.object.Shape.TheVariants as shapes
@@ -25,130 +24,31 @@ use Rattle.widl_store.specs.declared.inner.Builtin.{Builtin}
 use Rattle.widl_store.specs.declared.inner.Builtin.TheVariants as builtins
 use Rattle.widl_store.specs.declared.property.Prop.{Prop}
 use Rattle.widl_store.specs.declared.property.Prop.TheVariants as props
+use Rattle.widl_store.specs.Inners.{InnerTerm, PlainPart, ArrayPart, ErrorPart, ScriptPart, BuiltinPart, InterfacePart, PlatformPart, SpacePart, PairIteratorPart, ArrayIteratorPart, PromisePart}
 use Rattle.widl_store.specs.Objects.{Obj, IsLive}
-use Rattle.widl_script_tree.specs.declared.steps.Source.{Source}
-use Rattle.widl_script_tree.specs.declared.steps.Source.TheVariants as sources
-use Rattle.widl_script_tree.specs.declared.steps.StepLine.{StepLine}
-use Rattle.widl_script_tree.specs.declared.steps.StepLine.TheVariants as steps
 use Rattle.widl_script_tree.specs.Trees.{Text, ExpressionTree, UndefinedT, NullT, ThisT, NewSymbolT, NewObjectT, BoolT, NumberT, TextT, NameT, SymbolT, ObjectOfT, NewArrayT, MemberT, IndexT, CallT, NewT, CallWithT, ExpressionTrees, none, more, MemberTree, NamedT, ComputedT, StatementTree, LetT, DoT, ReturnT, ThrowT, ShowT, SetT, DefineT, DefineAccessorT, DeleteT, TryT, IfT, FunctionT, StepsT, StatementTrees, no_statements, then_more, FunctionTree}
 use Rattle.widl_trace.specs.declared.code.Code.{Code}
 use Rattle.widl_trace.specs.declared.code.Code.TheVariants as code
-use Rattle.widl_runs.specs.declared.completion.Completion.{Completion}
-use Rattle.widl_runs.specs.declared.completion.Completion.TheVariants.{Normal, Returned, Thrown}
-use Rattle.widl_runs.specs.Worlds.{Bindings, with_value, bound_parameters}
-use Rattle.widl_runs.specs.Actions.{Action, Pay, Write, TestDepth, Enter, Leave, FindBody, ReadThis, ReadName, BindName, TakeSymbol, AddObject, FindProperty, PutProperty, DefineProperty, DeleteProperty, Reach, Reply, NewObject, Ordinary, ScriptFunction, ArrayOf, TypeErrorObject, body_in, property_in, put_result_in, define_result_in, delete_result_in, Body, ScriptBody, BuiltinBody, NoBody, object_prototype}
-use Rattle.widl_runs.specs.Jobs.{Program, KeyPart, Named, Computed, MemberUse, ForRead, ForCall, ForSet, ForDefine, ForAccessor, ForDelete, RowUse, ForArguments, ForNew, ForItems, Job, RunStatements, RunStatement, Evaluate, EvaluateRow, ReadMember, SetMember, DefineMember, DefineAccessor, DeleteMember, CallValue, ConstructValue, RunSteps, Fail, Doing, value, fails, reaches}
-use Rattle.widl_runs.specs.Operations.{Operation, operation_of, operation_line, operation, is_target, lines_for, argument_at, literal_value, step, return_step, run_steps}
-use Rattle.widl_runs.specs.Calls.{call_result, called, function_in, built_in, body, if_callable, callable, call, construct_body, construct}
+use Rattle.widl_convert.specs.AskTerms.{AskTerm, GetAsk, CallAsk, KindAsk, UnitAsk, NoteAsk, OwnKeysAsk, OwnAsk, NewArrayAsk, NewObjectAsk, NewArrayIteratorAsk, CursorAsk, SetCursorAsk}
+use Rattle.widl_convert.specs.Tasks.{TaskEnd, Gives, Plain, Picks, Throw, Rethrow, Profile}
+use Rattle.widl_calls.specs.BuiltCalls.{calls_built_today}
+use Rattle.widl_calls.specs.CallRules.{call_rule}
+use Rattle.widl_calls.specs.Operations.{lines_of, operation_in}
+use Rattle.widl_calls.specs.StepLines.{Operation, is_target, lines_for}
+use Rattle.widl_runs.specs.Ends.{JobEnd, Normal, Returned, Thrown, Talked, Seen, task_end_in}
+use Rattle.widl_runs.specs.Asks.{asks}
+use Rattle.widl_runs.specs.Actions.{Pay, Reply, NewObject, Ordinary, ArrayOf, ObjectOf, ArrayIteratorOf, cursor_of, cursor_seen, inner_in, body_in, property_in, put_result_in, define_result_in, delete_result_in, Body, ScriptBody, BuiltinBody, NoBody, object_prototype}
+use Rattle.widl_runs.specs.Jobs.{Program, KeyPart, Named, Computed, MemberUse, ForRead, ForCall, ForSet, ForDefine, ForAccessor, ForDelete, RowUse, ForArguments, ForNew, ForItems, Job, RunStatements, RunStatement, Evaluate, EvaluateRow, ReadMember, SetMember, DefineMember, DefineAccessor, DeleteMember, CallValue, ConstructValue, Talk, Asked, Fail, Doing, value, fails, reaches}
+use Rattle.widl_runs.specs.Calls.{call_result, called, ends_talk, function_in, body, if_callable, callable, call, construct_body, construct}
 use Rattle.widl_runs.specs.Members.{accessor_flags, with_getter, uses, member, key_of, if_key, tested, read_value, put_done, define_done, defines_parts, tests_setter, delete_done}
 use Rattle.widl_runs.specs.Expressions.{adds, object_of, row_done, evaluate_row, call_tree, evaluate}
 use Rattle.widl_runs.specs.Statements.{same_value, caught, performs, run_statement, run_statements}
 use Rattle.widl_runs.specs.Rules.{rule}
 use Rattle.widl_runs.specs.Traces.{whole}
-use Rattle.widl_runs.specs.Fitting.{HasFunctions, HasFunction, IsPlain, ThrowsPlain, HasPlainSteps, IsRunnable, HasPrototypes, CanBeMade}
-use Rattle.widl_runs.proofs.LiveParts.{LiveValue, LiveOption, LiveValues, LiveCompletion, LiveProp, LiveFound, LiveBindings, LiveContext, LivePut, LiveReply}
-
--- 1. What actions and jobs hold
-
--- an array is made of live items
-abbrev pub LiveItems : List Obj → NewObject → Type 0
-LiveItems objects (Ordinary proto) = Unit {0}
-LiveItems objects (ScriptFunction number name count) = Unit {0}
-LiveItems objects (ArrayOf items) = LiveValues objects items
-LiveItems objects TypeErrorObject = Unit {0}
-
-abbrev pub LiveAction : Program → List Obj → Action → Type 0
-LiveAction p objects Pay = Unit {0}
-LiveAction p objects (Write event) = Unit {0}
-LiveAction p objects TestDepth = Unit {0}
-LiveAction p objects (Enter context) = LiveContext objects context
-LiveAction p objects Leave = Unit {0}
-LiveAction p objects (FindBody o) = IsLive objects o
-LiveAction p objects ReadThis = Unit {0}
-LiveAction p objects (ReadName name) = Unit {0}
-LiveAction p objects (BindName name v) = LiveValue objects v
-LiveAction p objects TakeSymbol = Unit {0}
-LiveAction p objects (AddObject new) = CanBeMade p objects new × LiveItems objects new
-LiveAction p objects (FindProperty o key) = IsLive objects o
-LiveAction p objects (PutProperty o key v) = IsLive objects o × LiveValue objects v
-LiveAction p objects (DefineProperty o key prop) = IsLive objects o × LiveProp objects prop
-LiveAction p objects (DeleteProperty o key) = IsLive objects o
-LiveAction p objects (Reach end) = Unit {0}
-
-abbrev LiveUse : List Obj → RowUse → Type 0
-LiveUse objects (ForArguments f this) = LiveValue objects f × LiveValue objects this
-LiveUse objects (ForNew f) = LiveValue objects f
-LiveUse objects ForItems = Unit {0}
-
-abbrev pub LiveJob : Program → List Obj → Job → Type 0
-LiveJob p objects (RunStatements ss) = HasFunctions (length p.script.functions) ss
-LiveJob p objects (RunStatement s) = HasFunction (length p.script.functions) s
-LiveJob p objects (Evaluate e) = Unit {0}
-LiveJob p objects (EvaluateRow what vs es) = LiveUse objects what × LiveValues objects vs
-LiveJob p objects (ReadMember of key) = LiveValue objects of
-LiveJob p objects (SetMember of key v) = LiveValue objects of × LiveValue objects v
-LiveJob p objects (DefineMember of key v hidden) = LiveValue objects of × LiveValue objects v
-LiveJob p objects (DefineAccessor of key getter setter) = LiveValue objects of × LiveValue objects getter × LiveOption objects setter
-LiveJob p objects (DeleteMember of key) = LiveValue objects of
-LiveJob p objects (CallValue f this args) = LiveValue objects f × LiveValue objects this × LiveValues objects args
-LiveJob p objects (ConstructValue f args) = LiveValue objects f
-LiveJob p objects (RunSteps args lines) = LiveValues objects args × All ThrowsPlain lines
-LiveJob p objects (Fail code) = Unit {0}
-
--- where each reply and each completion of a job is live, so is all that the steps do, and their own completion
-abbrev pub Safe : Program → List Obj → Doing → Type 0
-Safe p objects (End c) = LiveCompletion objects c
-Safe p objects (Say q k) = LiveAction p objects q × ((r : Reply) → LiveReply objects r → Safe p objects (k r))
-Safe p objects (Steps j k) = LiveJob p objects j × ((c : Completion) → LiveCompletion objects c → Safe p objects (k c))
-
-pub safe_bind : (p : Program) (objects : List Obj) (d : Doing) (k : Completion → Doing) → Safe p objects d → ((c : Completion) → LiveCompletion objects c → Safe p objects (k c)) → Safe p objects (bind d k)
-safe_bind p objects (End c) k x y = y c x
-safe_bind p objects (Say q f) k x y = (x.0, λ r l. safe_bind p objects (f r) k (x.1 r l) y)
-safe_bind p objects (Steps j f) k x y = (x.0, λ c l. safe_bind p objects (f c) k (x.1 c l) y)
-
--- 2. The values of rows, parameters and steps
-
-module _ (objects : List Obj) where
-  abbrev Alive : Value → Type 0
-  Alive v = LiveValue objects v
-
-  live_append : (vs : List Value) (v : Value) → LiveValues objects vs → Alive v → LiveValues objects (vs ++ v ∷ [])
-  live_append [] v ls l = (l, tt)
-  live_append (x ∷ vs) v ls l = (ls.0, live_append vs v ls.1 l)
-
-  live_take : (n : ℕ) (vs : List Value) → LiveValues objects vs → LiveValues objects (take n vs)
-  live_take zero vs ls = tt
-  live_take (suc n) [] ls = tt
-  live_take (suc n) (v ∷ vs) ls = (ls.0, live_take n vs ls.1)
-
-  live_argument : (vs : List Value) (number : ℕ) → LiveValues objects vs → Alive (argument_at vs number)
-  live_argument [] number ls = tt
-  live_argument (v ∷ vs) zero ls = ls.0
-  live_argument (v ∷ vs) (suc number) ls = live_argument vs number ls.1
-
-  pub live_bound : (bs : Bindings) (name : Text) (v : Value) → LiveBindings objects bs → Alive v → LiveBindings objects (with_value bs name v)
-  live_bound [] name v ls l = (l, tt)
-  live_bound (b ∷ bs) name v ls l = cond_both (bytes_eq name b.0) ((b.0, v) ∷ bs) (b ∷ with_value bs name v) (LiveBindings objects) (λ e. (l, ls.1)) (λ e. (ls.0, live_bound bs name v ls.1 l))
-
-  live_parameters : (bs : Bindings) (params : List Text) (args : List Value) → LiveBindings objects bs → LiveValues objects args → LiveBindings objects (bound_parameters bs params args)
-  live_parameters bs [] args ls l = ls
-  live_parameters bs (name ∷ params) [] ls l = ls
-  live_parameters bs (name ∷ params) (v ∷ args) ls l = live_parameters (with_value bs name v) params args (live_bound bs name v ls l.0) l.1
-
-  live_plain : (v : Value) → IsPlain v → Alive v
-  live_plain values.Undefined x = tt
-  live_plain values.Null x = tt
-  live_plain (values.Bool b) x = tt
-  live_plain (values.Num n) x = tt
-  live_plain (values.Str text) x = tt
-  live_plain (values.Sym id) x = tt
-  live_plain (values.Obj o) x = absurd x
-
-  live_literal : (l : Literal) → Alive (literal_value l)
-  live_literal literals.Null = tt
-  live_literal _ = tt
-
--- 3. Each rule
+use Rattle.widl_runs.specs.Fitting.{AreFew, count_of, HasShortRows, HaveShortRows, HasShortMember, HasShortOption, HasFunctions, HasFunction, ThrowsPlain, HasPlainSteps, IsRunnable, HasPrototypes, CanBeMade}
+use Rattle.widl_runs.proofs.LiveParts.{LiveTaskEnd, LiveAnswer, LiveCursor, LiveInner, LiveSeen, LiveValue, LiveOption, LiveValues, LiveEnd, LiveProp, LiveFound, LivePut, LiveReply}
+use Rattle.widl_runs.proofs.LiveJobs.{LiveItems, LiveUse, LiveAsk, LiveJob, Safe, live_append, live_parameters}
+use Rattle.widl_runs.proofs.LiveTalks.{live_task_end, safe_in_world, safe_call_task}
 
 plain_lines : (o : Operation) (ss : StatementTrees) → HasPlainSteps ss → All ThrowsPlain (lines_for o ss)
 plain_lines o no_statements h = λ k d less. absurd (omega (arith, less))
@@ -185,10 +85,12 @@ module _ (p : Program) (runnable : IsRunnable p.script) (objects : List Obj) (fi
   abbrev Has : ObjRef → Type 0
   Has o = IsLive objects o
 
-  safe_value : (k : Value → Doing) → ((v : Value) → Live v → IsSafe (k v)) → (c : Completion) → LiveCompletion objects c → IsSafe (value k c)
+  safe_value : (k : Value → Doing) → ((v : Value) → Live v → IsSafe (k v)) → (c : JobEnd) → LiveEnd objects c → IsSafe (value k c)
   safe_value k each (Normal v) l = each v l
   safe_value k each (Returned v) l = l
   safe_value k each (Thrown v) l = l
+  safe_value k each (Talked end) l = l
+  safe_value k each (Seen answer) l = l
 
   safe_fails : (why : Code) → IsSafe (fails why)
   safe_fails why = (tt, λ c l. l)
@@ -199,12 +101,14 @@ module _ (p : Program) (runnable : IsRunnable p.script) (objects : List Obj) (fi
   safe_adds : (new : NewObject) → CanBeMade p objects new → LiveItems objects new → IsSafe (adds new)
   safe_adds new can items = ((can, items), λ r l. l.object)
 
-  live_result : (c : Completion) → LiveCompletion objects c → LiveCompletion objects (call_result c)
+  live_result : (c : JobEnd) → LiveEnd objects c → LiveEnd objects (call_result c)
   live_result (Normal v) l = tt
   live_result (Returned v) l = l
   live_result (Thrown v) l = l
+  live_result (Talked end) l = tt
+  live_result (Seen answer) l = tt
 
-  safe_called : (c : Completion) → LiveCompletion objects c → IsSafe (called c)
+  safe_called : (c : JobEnd) → LiveEnd objects c → IsSafe (called c)
   safe_called c l = (tt, λ r x. (tt, λ s y. live_result c l))
 
   safe_shape : (k : ObjRef → Doing) → ((o : ObjRef) → Has o → IsSafe (k o)) → (o : ObjRef) (s : Shape) → Has o → IsSafe (if_callable k o s)
@@ -221,30 +125,25 @@ module _ (p : Program) (runnable : IsRunnable p.script) (objects : List Obj) (fi
   safe_callable k each (values.Sym id) l = safe_fails code.NotCallable
   safe_callable k each (values.Obj o) l = safe_shape k each o o.shape l
 
-  safe_few : (b : Bool) (callee : Callee) (args : List Value) (lines : List StepLine) → Lives args → All ThrowsPlain lines → IsSafe (if b then Steps (Fail code.NoOverload) called else operation_line called callee args lines)
-  safe_few true callee args lines l plain = (tt, safe_called)
-  safe_few false callee args lines l plain = (tt, λ r x. ((l, plain), safe_called))
+  -- what a conversation comes to
+  safe_ends : (r : TaskEnd) → LiveTaskEnd objects r → IsSafe (ends_talk r)
+  safe_ends (Gives w) l = safe_called (Returned values.Undefined) tt
+  safe_ends (Plain v) l = safe_called (Returned v) l
+  safe_ends (Picks overload ws) l = safe_called (Returned values.Undefined) tt
+  safe_ends (Throw why) l = (tt, safe_called)
+  safe_ends (Rethrow v) l = safe_called (Thrown v) l
+  safe_ends (Profile end) l = safe_reaches end
 
-  safe_operation : (callee : Callee) (args : List Value) (o : Option Operation) → Lives args → IsSafe (operation called p callee args o)
-  safe_operation callee args None l = safe_reaches 99
-  safe_operation callee args (Some o) l = let declared : ℕ = length o.signature.args in safe_few (nat_lt (length args) declared) callee (take declared args) (lines_for o p.script.top) (live_take objects declared args l) (plain_lines o p.script.top runnable.steps)
-
-  safe_built : (args : List Value) (b : Builtin) → Lives args → IsSafe (built_in p args b)
-  safe_built args (builtins.Intrinsic number) l = (tt, λ r x. tt)
-  safe_built args (builtins.Callee callee) l = safe_operation callee args (operation_of p.list callee) l
-  safe_built args (builtins.InterfaceObject iface) l = safe_reaches 99
-  safe_built args (builtins.Pairs iface what) l = safe_reaches 99
-
-  safe_body : (this : Value) (args : List Value) (b : Body) → Live this → Lives args → IsSafe (body p this args b)
-  safe_body this args (ScriptBody number) l ls = (
+  safe_body : (f : ObjRef) (this : Value) (args : List Value) (b : Body) → Live this → Lives args → AreFew args → IsSafe (body p f this args b)
+  safe_body f this args (ScriptBody number) l ls few = (
     (l, live_parameters objects [] (function_in p.script number).params args tt ls),
     λ r x. (has_body (length p.script.functions) p.script.functions number runnable.bodies, safe_called),
   )
-  safe_body this args (BuiltinBody b) l ls = ((l, tt), λ r x. safe_built args b ls)
-  safe_body this args NoBody l ls = safe_reaches 99
+  safe_body f this args (BuiltinBody b) l ls few = ((l, tt), λ r x. ((l, ls, few), λ c y. safe_ends (task_end_in c) (live_task_end objects c y)))
+  safe_body f this args NoBody l ls few = safe_reaches 99
 
-  safe_call : (f this : Value) (args : List Value) → Live f → Live this → Lives args → IsSafe (call p f this args)
-  safe_call f this args lf l ls = safe_callable _ (λ o lo. (lo, λ r x. (tt, λ s y. (tt, λ t z. safe_body this args (body_in r) l ls)))) f lf
+  safe_call : (f this : Value) (args : List Value) → Live f → Live this → Lives args → AreFew args → IsSafe (call p f this args)
+  safe_call f this args lf l ls few = safe_callable _ (λ o lo. (lo, λ r x. (tt, λ s y. (tt, λ t z. safe_body o this args (body_in r) l ls few)))) f lf
 
   safe_new : (f : ObjRef) (args : List Value) (b : Builtin) → IsSafe (construct_body f args (BuiltinBody b))
   safe_new f args (builtins.Intrinsic number) = safe_fails code.NoConstructor
@@ -283,11 +182,11 @@ module _ (p : Program) (runnable : IsRunnable p.script) (objects : List Obj) (fi
   safe_read o None lo l = tt
   safe_read o (Some (props.Plain v flags)) lo l = l
   safe_read o (Some (props.Accessor None setter flags)) lo l = tt
-  safe_read o (Some (props.Accessor (Some getter) setter flags)) lo l = ((l.0, lo, tt), λ c x. x)
+  safe_read o (Some (props.Accessor (Some getter) setter flags)) lo l = ((l.0, lo, tt, omega arith), λ c x. x)
 
   safe_put : (o : ObjRef) (answer : Result Put PutFault) → Has o → LivePut objects answer → IsSafe (put_done o answer)
   safe_put o (results.Ok puts.Done) lo l = tt
-  safe_put o (results.Ok (puts.Setter setter v)) lo l = ((l.0, lo, (l.1, tt)), λ c x. safe_value _ (λ w y. tt) c x)
+  safe_put o (results.Ok (puts.Setter setter v)) lo l = ((l.0, lo, (l.1, tt), omega arith), λ c x. safe_value _ (λ w y. tt) c x)
   safe_put o (results.Err (putting.ReadOnly flags)) lo l = safe_fails code.ReadOnly
   safe_put o (results.Err putting.NoSetter) lo l = safe_fails code.ReadOnly
   safe_put o (results.Err putting.Length) lo l = safe_reaches 2
@@ -310,21 +209,29 @@ module _ (p : Program) (runnable : IsRunnable p.script) (objects : List Obj) (fi
   safe_setter o key None getter lo ls lg = safe_parts o key getter None lo (lg, tt)
   safe_setter o key (Some setter) getter lo ls lg = safe_callable _ (λ s l. safe_parts o key getter (Some s) lo (lg, l)) setter ls
 
-  safe_getter : (v : Value) (key : KeyPart) (setter : Option ExpressionTree) (g : Value) → Live v → Live g → IsSafe (with_getter v key setter g)
-  safe_getter v key None g l lg = ((l, lg, tt), λ c x. x)
-  safe_getter v key (Some setter) g l lg = (tt, λ c x. safe_value _ (λ s ls. ((l, lg, ls), λ d y. y)) c x)
+  safe_getter : (v : Value) (key : KeyPart) (setter : Option ExpressionTree) (g : Value) → Live v → Live g → HasShortOption setter → IsSafe (with_getter v key setter g)
+  safe_getter v key None g l lg short = ((l, lg, tt), λ c x. x)
+  safe_getter v key (Some setter) g l lg short = (short, λ c x. safe_value _ (λ s ls. ((l, lg, ls), λ d y. y)) c x)
 
-  safe_used : (what : MemberUse) (v : Value) (key : KeyPart) → Live v → IsSafe (uses what v key)
-  safe_used ForRead v key l = (l, λ c x. x)
-  safe_used (ForCall args) v key l = (l, λ c x. safe_value _ (λ f lf. (((lf, l), tt), λ d y. y)) c x)
-  safe_used (ForSet e) v key l = (tt, λ c x. safe_value _ (λ w lw. ((l, lw), λ d y. y)) c x)
-  safe_used (ForDefine e hidden) v key l = (tt, λ c x. safe_value _ (λ w lw. ((l, lw), λ d y. y)) c x)
-  safe_used (ForAccessor getter setter) v key l = (tt, λ c x. safe_value _ (λ g lg. safe_getter v key setter g l lg) c x)
-  safe_used ForDelete v key l = (l, λ c x. x)
+  abbrev HasShortUse : MemberUse → Type 0
+  HasShortUse ForRead = Unit {0}
+  HasShortUse (ForCall args) = (count_of args < 2 ^ 32) × HaveShortRows args
+  HasShortUse (ForSet e) = HasShortRows e
+  HasShortUse (ForDefine e hidden) = HasShortRows e
+  HasShortUse (ForAccessor getter setter) = HasShortRows getter × HasShortOption setter
+  HasShortUse ForDelete = Unit {0}
 
-  safe_member : (what : MemberUse) (m : MemberTree) → IsSafe (member what m)
-  safe_member what (NamedT of name) = (tt, λ c x. safe_value _ (λ v l. safe_used what v (Named name) l) c x)
-  safe_member what (ComputedT of key) = (tt, λ c x. safe_value _ (λ v l. (tt, λ d y. safe_value _ (λ k lk. safe_used what v (Computed k) l) d y)) c x)
+  safe_used : (what : MemberUse) (v : Value) (key : KeyPart) → Live v → HasShortUse what → IsSafe (uses what v key)
+  safe_used ForRead v key l short = (l, λ c x. x)
+  safe_used (ForCall args) v key l short = (l, λ c x. safe_value _ (λ f lf. (((lf, l), tt, (let few = short.0 in omega (arith, few)), short.1), λ d y. y)) c x)
+  safe_used (ForSet e) v key l short = (short, λ c x. safe_value _ (λ w lw. ((l, lw), λ d y. y)) c x)
+  safe_used (ForDefine e hidden) v key l short = (short, λ c x. safe_value _ (λ w lw. ((l, lw), λ d y. y)) c x)
+  safe_used (ForAccessor getter setter) v key l short = (short.0, λ c x. safe_value _ (λ g lg. safe_getter v key setter g l lg short.1) c x)
+  safe_used ForDelete v key l short = (l, λ c x. x)
+
+  safe_member : (what : MemberUse) (m : MemberTree) → HasShortUse what → HasShortMember m → IsSafe (member what m)
+  safe_member what (NamedT of name) short h = (h, λ c x. safe_value _ (λ v l. safe_used what v (Named name) l short) c x)
+  safe_member what (ComputedT of key) short h = (h.0, λ c x. safe_value _ (λ v l. (h.1, λ d y. safe_value _ (λ k lk. safe_used what v (Computed k) l short) d y)) c x)
 
   safe_object : (v : Value) → Live v → IsSafe (object_of v)
   safe_object values.Undefined l = safe_fails code.NotObject
@@ -335,38 +242,58 @@ module _ (p : Program) (runnable : IsRunnable p.script) (objects : List Obj) (fi
   safe_object (values.Sym id) l = safe_fails code.NotObject
   safe_object (values.Obj o) l = (tt, λ r x. safe_adds (Ordinary (Some o)) l tt)
 
-  safe_done : (what : RowUse) (vs : List Value) → LiveUse objects what → Lives vs → IsSafe (row_done what vs)
-  safe_done (ForArguments f this) vs l ls = ((l.0, l.1, ls), λ c x. x)
-  safe_done (ForNew f) vs l ls = (l, λ c x. x)
-  safe_done ForItems vs l ls = (tt, λ r x. safe_adds (ArrayOf vs) tt ls)
+  safe_done : (what : RowUse) (vs : List Value) → LiveUse objects what → Lives vs → AreFew vs → IsSafe (row_done what vs)
+  safe_done (ForArguments f this) vs l ls few = ((l.0, l.1, ls, few), λ c x. x)
+  safe_done (ForNew f) vs l ls few = (l, λ c x. x)
+  safe_done ForItems vs l ls few = (tt, λ r x. safe_adds (ArrayOf vs) tt ls)
 
-  safe_row : (what : RowUse) (vs : List Value) (es : ExpressionTrees) → LiveUse objects what → Lives vs → IsSafe (evaluate_row what vs es)
-  safe_row what vs none l ls = safe_done what vs l ls
-  safe_row what vs (more e es) l ls = (tt, λ c x. safe_value _ (λ v lv. ((l, live_append objects vs v ls lv), λ d y. y)) c x)
+  safe_row : (what : RowUse) (vs : List Value) (es : ExpressionTrees) → LiveUse objects what → Lives vs → length vs + count_of es < 2 ^ 32 → HaveShortRows es → IsSafe (evaluate_row what vs es)
+  safe_row what vs none l ls few short = safe_done what vs l ls (omega (arith, few))
+  safe_row what vs (more e es) l ls few short =
+      (short.0, λ c x. safe_value _ (λ v lv. ((l, live_append objects vs v ls lv, (let long = length-append vs (v ∷ []) in omega (arith, few, long)), short.1), λ d y. y)) c x)
 
-  safe_tree : (f : ExpressionTree) (args : ExpressionTrees) → IsSafe (call_tree f args)
-  safe_tree (MemberT of name) args = safe_member (ForCall args) (NamedT of name)
-  safe_tree (IndexT of key) args = safe_member (ForCall args) (ComputedT of key)
-  safe_tree _ args = (tt, λ c x. safe_value _ (λ v l. (((l, tt), tt), λ d y. y)) c x)
+  -- the function's expression, and then the arguments
+  safe_plain : (f : ExpressionTree) (args : ExpressionTrees) → HasShortRows f → count_of args < 2 ^ 32 → HaveShortRows args → IsSafe (Steps (Evaluate f) (value (λ v. Steps (EvaluateRow (ForArguments v values.Undefined) [] args) End)))
+  safe_plain f args h few short = (h, λ c x. safe_value _ (λ v l. (((l, tt), tt, omega (arith, few), short), λ d y. y)) c x)
 
-  safe_evaluate : (e : ExpressionTree) → IsSafe (evaluate e)
-  safe_evaluate UndefinedT = tt
-  safe_evaluate NullT = tt
-  safe_evaluate ThisT = (tt, λ r l. l.value)
-  safe_evaluate NewSymbolT = (tt, λ r l. (tt, λ s m. m.value))
-  safe_evaluate NewObjectT = (tt, λ r l. safe_adds (Ordinary (Some object_prototype)) first.object tt)
-  safe_evaluate (BoolT b) = tt
-  safe_evaluate (NumberT x) = tt
-  safe_evaluate (TextT text) = tt
-  safe_evaluate (NameT name) = (tt, λ r l. l.value)
-  safe_evaluate (SymbolT id) = tt
-  safe_evaluate (ObjectOfT proto) = (tt, λ c x. safe_value _ safe_object c x)
-  safe_evaluate (NewArrayT es) = ((tt, tt), λ c x. x)
-  safe_evaluate (MemberT of name) = safe_member ForRead (NamedT of name)
-  safe_evaluate (IndexT of key) = safe_member ForRead (ComputedT of key)
-  safe_evaluate (CallT f args) = safe_tree f args
-  safe_evaluate (NewT f args) = (tt, λ c x. safe_value _ (λ v l. ((l, tt), λ d y. y)) c x)
-  safe_evaluate (CallWithT f t args) = (tt, λ c x. safe_value _ (λ v l. (tt, λ d y. safe_value _ (λ w m. (((l, m), tt), λ e z. z)) d y)) c x)
+  safe_tree : (f : ExpressionTree) (args : ExpressionTrees) → HasShortRows f → count_of args < 2 ^ 32 → HaveShortRows args → IsSafe (call_tree f args)
+  safe_tree (MemberT of name) args h few short = safe_member (ForCall args) (NamedT of name) (few, short) h
+  safe_tree (IndexT of key) args h few short = safe_member (ForCall args) (ComputedT of key) (few, short) h
+  safe_tree UndefinedT args h few short = safe_plain UndefinedT args h few short
+  safe_tree NullT args h few short = safe_plain NullT args h few short
+  safe_tree ThisT args h few short = safe_plain ThisT args h few short
+  safe_tree NewSymbolT args h few short = safe_plain NewSymbolT args h few short
+  safe_tree NewObjectT args h few short = safe_plain NewObjectT args h few short
+  safe_tree (BoolT b) args h few short = safe_plain (BoolT b) args h few short
+  safe_tree (NumberT n) args h few short = safe_plain (NumberT n) args h few short
+  safe_tree (TextT text) args h few short = safe_plain (TextT text) args h few short
+  safe_tree (NameT name) args h few short = safe_plain (NameT name) args h few short
+  safe_tree (SymbolT id) args h few short = safe_plain (SymbolT id) args h few short
+  safe_tree (ObjectOfT proto) args h few short = safe_plain (ObjectOfT proto) args h few short
+  safe_tree (NewArrayT es) args h few short = safe_plain (NewArrayT es) args h few short
+  safe_tree (CallT g es) args h few short = safe_plain (CallT g es) args h few short
+  safe_tree (NewT g es) args h few short = safe_plain (NewT g es) args h few short
+  safe_tree (CallWithT g this es) args h few short = safe_plain (CallWithT g this es) args h few short
+
+  safe_evaluate : (e : ExpressionTree) → HasShortRows e → IsSafe (evaluate e)
+  safe_evaluate UndefinedT short = tt
+  safe_evaluate NullT short = tt
+  safe_evaluate ThisT short = (tt, λ r l. l.value)
+  safe_evaluate NewSymbolT short = (tt, λ r l. (tt, λ s m. m.value))
+  safe_evaluate NewObjectT short = (tt, λ r l. safe_adds (Ordinary (Some object_prototype)) first.object tt)
+  safe_evaluate (BoolT b) short = tt
+  safe_evaluate (NumberT x) short = tt
+  safe_evaluate (TextT text) short = tt
+  safe_evaluate (NameT name) short = (tt, λ r l. l.value)
+  safe_evaluate (SymbolT id) short = tt
+  safe_evaluate (ObjectOfT proto) short = (short, λ c x. safe_value _ safe_object c x)
+  safe_evaluate (NewArrayT es) short = ((tt, tt, (let few = short.0 in omega (arith, few)), short.1), λ c x. x)
+  safe_evaluate (MemberT of name) short = safe_member ForRead (NamedT of name) tt short
+  safe_evaluate (IndexT of key) short = safe_member ForRead (ComputedT of key) tt short
+  safe_evaluate (CallT f args) short = safe_tree f args short.0 short.1 short.2
+  safe_evaluate (NewT f args) short = (short.0, λ c x. safe_value _ (λ v l. ((l, tt, (let few = short.1 in omega (arith, few)), short.2), λ d y. y)) c x)
+  safe_evaluate (CallWithT f t args) short =
+      (short.0, λ c x. safe_value _ (λ v l. (short.1, λ d y. safe_value _ (λ w m. (((l, m), tt, (let few = short.2 in omega (arith, few)), short.3), λ e z. z)) d y)) c x)
 
   abbrev Numbered : StatementTrees → Type 0
   Numbered ss = HasFunctions (length p.script.functions) ss
@@ -375,23 +302,25 @@ module _ (p : Program) (runnable : IsRunnable p.script) (objects : List Obj) (fi
   safe_chooses true met unmet m u = (m, λ c x. x)
   safe_chooses false met unmet m u = (u, λ c x. x)
 
-  safe_caught : (name : Text) (handler : StatementTrees) → Numbered handler → (c : Completion) → LiveCompletion objects c → IsSafe (caught name handler c)
+  safe_caught : (name : Text) (handler : StatementTrees) → Numbered handler → (c : JobEnd) → LiveEnd objects c → IsSafe (caught name handler c)
   safe_caught name handler h (Normal v) l = l
   safe_caught name handler h (Returned v) l = l
   safe_caught name handler h (Thrown v) l = (l, λ r x. (h, λ c y. y))
+  safe_caught name handler h (Talked end) l = l
+  safe_caught name handler h (Seen answer) l = l
 
   safe_performs : (s : StatementTree) → HasFunction (length p.script.functions) s → IsSafe (performs s)
-  safe_performs (LetT name e) h = (tt, λ c x. safe_value _ (λ v l. (l, λ r y. tt)) c x)
-  safe_performs (DoT e) h = (tt, λ c x. safe_value _ (λ v l. tt) c x)
-  safe_performs (ReturnT e) h = (tt, λ c x. safe_value _ (λ v l. l) c x)
-  safe_performs (ThrowT e) h = (tt, λ c x. safe_value _ (λ v l. l) c x)
-  safe_performs (ShowT e) h = (tt, λ c x. safe_value _ (λ v l. (tt, λ r y. tt)) c x)
-  safe_performs (SetT m e) h = safe_member (ForSet e) m
-  safe_performs (DefineT m e hidden) h = safe_member (ForDefine e hidden) m
-  safe_performs (DefineAccessorT m getter setter) h = safe_member (ForAccessor getter setter) m
-  safe_performs (DeleteT m) h = safe_member ForDelete m
+  safe_performs (LetT name e) h = (h, λ c x. safe_value _ (λ v l. (l, λ r y. tt)) c x)
+  safe_performs (DoT e) h = (h, λ c x. safe_value _ (λ v l. tt) c x)
+  safe_performs (ReturnT e) h = (h, λ c x. safe_value _ (λ v l. l) c x)
+  safe_performs (ThrowT e) h = (h, λ c x. safe_value _ (λ v l. l) c x)
+  safe_performs (ShowT e) h = (h, λ c x. safe_value _ (λ v l. (tt, λ r y. tt)) c x)
+  safe_performs (SetT m e) h = safe_member (ForSet e) m h.1 h.0
+  safe_performs (DefineT m e hidden) h = safe_member (ForDefine e hidden) m h.1 h.0
+  safe_performs (DefineAccessorT m getter setter) h = safe_member (ForAccessor getter setter) m (h.1, h.2) h.0
+  safe_performs (DeleteT m) h = safe_member ForDelete m tt h
   safe_performs (TryT body name handler) h = (h.0, safe_caught name handler h.1)
-  safe_performs (IfT left right met unmet) h = (tt, λ c x. safe_value _ (λ v l. (tt, λ d y. safe_value _ (λ w m. safe_chooses (same_value v w) met unmet h.0 h.1) d y)) c x)
+  safe_performs (IfT left right met unmet) h = (h.0, λ c x. safe_value _ (λ v l. (h.1, λ d y. safe_value _ (λ w m. safe_chooses (same_value v w) met unmet h.2 h.3) d y)) c x)
   safe_performs (FunctionT number name params body) h = (tt, λ r x. ((h, tt), λ s y. (y.object, λ t z. tt)))
   safe_performs (StepsT target lines) h = tt
 
@@ -417,38 +346,62 @@ module _ (p : Program) (runnable : IsRunnable p.script) (objects : List Obj) (fi
   safe_statements no_statements h = tt
   safe_statements (then_more s ss) h = (h.0, λ c x. safe_value _ (λ v l. (h.1, λ d y. y)) c x)
 
-  safe_return : (args : List Value) (source : Source) → Lives args → IsSafe (return_step args source)
-  safe_return args (sources.Arg number) l = live_argument objects args number l
-  safe_return args sources.This l = safe_reaches 99
-  safe_return args (sources.Slot slot) l = safe_reaches 99
-  safe_return args (sources.Literal literal) l = live_literal objects literal
+  -- a look at an object shows what is live
+  live_cursor : (r : Reply) → LiveReply objects r → LiveAnswer objects (cursor_seen r)
+  live_cursor r l = at (inner_in r) l.inner
+    where
+      of : (inner : InnerTerm) → LiveInner objects inner → IfSome (cursor_of inner) (LiveCursor objects)
+      of PlainPart x = tt
+      of ArrayPart x = tt
+      of ErrorPart x = tt
+      of (ScriptPart f) x = tt
+      of (BuiltinPart f) x = tt
+      of (InterfacePart iface slots) x = tt
+      of (PlatformPart slots pairs) x = tt
+      of (SpacePart slots) x = tt
+      of (PairIteratorPart o kind next) x = tt
+      of (ArrayIteratorPart o next turn) x = x
+      of (PromisePart state) x = tt
 
-  safe_step : (args : List Value) (line : StepLine) → Lives args → ThrowsPlain line → IsSafe (step args line)
-  safe_step args (steps.Return source) l plain = safe_return args source l
-  safe_step args (steps.ReturnInvoke invoke) l plain = safe_reaches 99
-  safe_step args (steps.SetSlot slot source) l plain = safe_reaches 99
-  safe_step args (steps.Append key v) l plain = safe_reaches 99
-  safe_step args steps.Clear l plain = safe_reaches 99
-  safe_step args (steps.Throw v) l plain = live_plain objects v plain
-  safe_step args (steps.Invoke invoke) l plain = safe_reaches 99
+      at : (inner : Option InnerTerm) → LiveSeen objects inner → IfSome (option_and_then cursor_of inner) (LiveCursor objects)
+      at None x = tt
+      at (Some inner) x = of inner x
 
-  safe_steps : (args : List Value) (lines : List StepLine) → Lives args → All ThrowsPlain lines → IsSafe (run_steps args lines)
-  safe_steps args [] l plain = tt
-  safe_steps args (line ∷ lines) l plain = (tt, λ r x. safe_step args line l (plain 0 line (omega arith)))
+  safe_ask : (ask : AskTerm) → LiveAsk objects ask → IsSafe (asks ask)
+  safe_ask (GetAsk o key) l = (tt, λ r x. (l, λ s y. safe_read o (property_in s) l y.property))
+  safe_ask (CallAsk f this args) l = (l, λ c x. x)
+  safe_ask (KindAsk o) l = (l, λ r x. tt)
+  safe_ask UnitAsk l = (tt, λ r x. tt)
+  safe_ask (NoteAsk event) l = (tt, λ r x. tt)
+  safe_ask (OwnKeysAsk o) l = (tt, λ r x. (l, λ s y. tt))
+  safe_ask (OwnAsk o key) l = (tt, λ r x. (l, λ s y. tt))
+  safe_ask (NewArrayAsk items) l = (tt, λ r x. safe_adds (ArrayOf items) tt l)
+  safe_ask (NewObjectAsk entries) l = (tt, λ r x. safe_adds (ObjectOf entries) tt l)
+  safe_ask (NewArrayIteratorAsk o) l = (tt, λ r x. safe_adds (ArrayIteratorOf o) tt l)
+  safe_ask (CursorAsk o) l = (l, live_cursor)
+  safe_ask (SetCursorAsk o next turn) l = (l, λ r x. tt)
+
+  plain_steps : (callee : Callee) (overload : ℕ) → All ThrowsPlain (lines_of p.list p.script callee overload)
+  plain_steps callee overload = at (operation_in p.list callee.part overload callee.owner)
+    where
+      at : (o : Option Operation) → All ThrowsPlain (option_map_or (λ (x : Operation). lines_for x p.script.top) o [])
+      at None = λ k d less. absurd (omega (arith, less))
+      at (Some o) = plain_lines o p.script.top runnable.steps
 
   pub safe : (j : Job) → LiveJob p objects j → IsSafe (rule p j)
   safe (RunStatements ss) l = safe_statements ss l
   safe (RunStatement s) l = safe_statement s l
-  safe (Evaluate e) l = safe_evaluate e
-  safe (EvaluateRow what vs es) l = safe_row what vs es l.0 l.1
+  safe (Evaluate e) l = safe_evaluate e l
+  safe (EvaluateRow what vs es) l = safe_row what vs es l.0 l.1 l.2 l.3
   safe (ReadMember of key) l = safe_tested _ (λ o k lo. (lo, λ r x. safe_read o (property_in r) lo x.property)) of key l
   safe (SetMember of key v) l = safe_tested _ (λ o k lo. ((lo, l.1), λ r x. safe_put o (put_result_in r) lo x.put)) of key l.0
   safe (DefineMember of key v hidden) l = safe_tested _ (λ o k lo. ((lo, l.1), λ r x. safe_defined (define_result_in r))) of key l.0
   safe (DefineAccessor of key getter setter) l = safe_tested _ (λ o k lo. safe_callable _ (λ g lg. safe_setter o k setter g lo l.2 lg) getter l.1) of key l.0
   safe (DeleteMember of key) l = safe_tested _ (λ o k lo. (lo, λ r x. safe_deleted (delete_result_in r))) of key l
-  safe (CallValue f this args) l = safe_call f this args l.0 l.1 l.2
+  safe (CallValue f this args) l = safe_call f this args l.0 l.1 l.2 l.3
   safe (ConstructValue f args) l = safe_construct f args l
-  safe (RunSteps args lines) l = safe_steps args lines l.0 l.1
+  safe (Talk task) l = safe_in_world p objects first (call_rule calls_built_today p.list (lines_of p.list p.script) task) (safe_call_task p.list (lines_of p.list p.script) plain_steps objects task l)
+  safe (Asked ask) l = safe_ask ask l
   safe (Fail why) l = (tt, λ r x. ((tt, tt), λ s y. (tt, λ t z. y.object)))
 
   pub safe_whole : IsSafe (whole p)

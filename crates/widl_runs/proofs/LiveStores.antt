@@ -12,15 +12,17 @@ use Rattle.widl_value.specs.declared.object.Shape.TheVariants as shapes
 use Rattle.widl_value.specs.declared.value.Value.{Value}
 use Rattle.widl_store.specs.declared.property.Prop.{Prop}
 use Rattle.widl_store.specs.declared.property.Prop.TheVariants as props
-use Rattle.widl_store.specs.Inners.{PlainPart, ArrayPart, ErrorPart, ScriptPart, is_array}
-use Rattle.widl_store.specs.Objects.{Obj, IsLive, same_key, prop_at, replaced, with_prop, is_other, without_prop, all_flags, length_key, length_prop}
-use Rattle.widl_store.specs.Effects.{with_props, changed, is_above, raised_from, raised, placed, plain_with, put_in, defined, deleted, new_object, added}
+use Rattle.widl_store.specs.declared.inner.Turn.{Turn}
+use Rattle.widl_store.specs.declared.inner.Turn.TheVariants.{Idle}
+use Rattle.widl_store.specs.Inners.{InnerTerm, PlainPart, ArrayPart, ErrorPart, ScriptPart, BuiltinPart, InterfacePart, PlatformPart, SpacePart, PairIteratorPart, ArrayIteratorPart, PromisePart, is_array}
+use Rattle.widl_store.specs.Objects.{Obj, IsLive, own_at, same_key, prop_at, replaced, with_prop, is_other, without_prop, all_flags, length_key, length_prop}
+use Rattle.widl_store.specs.Effects.{with_props, changed, is_above, raised_from, raised, placed, plain_with, put_in, defined, deleted, new_object, added, with_inner, with_part}
 use Rattle.widl_store.specs.Found.{own_or, first_along, found_at}
 use Rattle.widl_store.specs.Plans.{function_entries}
-use Rattle.widl_store.proofs.Living.{live_changed, live_more}
-use Rattle.widl_runs.specs.Actions.{NewObject, Ordinary, ScriptFunction, ArrayOf, TypeErrorObject, with_properties, with_function, with_items, with_new, new_reference, function_prototype, array_prototype, type_error_prototype}
-use Rattle.widl_runs.proofs.LiveParts.{Grows, LiveValue, LiveValues, LiveProp, LiveFound, LiveProps, LiveObjects, more_values, more_props, more_objects}
-use Rattle.widl_runs.proofs.LiveSteps.{LiveItems}
+use Rattle.widl_store.proofs.Living.{live_changed, live_inner, live_more}
+use Rattle.widl_runs.specs.Actions.{NewObject, Ordinary, ScriptFunction, ArrayOf, TypeErrorObject, ObjectOf, ArrayIteratorOf, with_properties, with_function, with_items, with_new, with_cursor, moved_part, data_properties, inner_at, new_reference, object_prototype, function_prototype, array_prototype, type_error_prototype, array_iterator_prototype}
+use Rattle.widl_runs.proofs.LiveParts.{Grows, LiveValue, LiveValues, LiveProp, LiveFound, LiveProps, LiveInner, LiveSeen, LiveObject, LiveObjects, more_values, more_props, more_objects}
+use Rattle.widl_runs.proofs.LiveJobs.{LiveData, LiveItems}
 
 -- 1. The properties of one object
 
@@ -64,17 +66,17 @@ module _ (objects : List Obj) where
 
   -- 2. The objects
 
-  pub live_object : (os : List Obj) (id : ℕ) (o : Obj) → slice_get os id ≡ Some o → LiveObjects objects os → LiveProps objects o.props
+  pub live_object : (os : List Obj) (id : ℕ) (o : Obj) → slice_get os id ≡ Some o → LiveObjects objects os → LiveObject objects o
   live_object [] id o at l = absurd (let bad : None ≡ Some o = at in cc)
-  live_object (a ∷ os) zero o at l = let same : a ≡ o = let f : Some a ≡ Some o = at in cc in subst (λ (x : Obj). LiveProps objects x.props) same l.0
+  live_object (a ∷ os) zero o at l = let same : a ≡ o = let f : Some a ≡ Some o = at in cc in subst (λ (x : Obj). LiveObject objects x) same l.0
   live_object (a ∷ os) (suc id) o at l = live_object os id o at l.1
 
-  live_set : (os : List Obj) (id : ℕ) (o : Obj) → LiveObjects objects os → LiveProps objects o.props → LiveObjects objects (slice_set os id o)
+  live_set : (os : List Obj) (id : ℕ) (o : Obj) → LiveObjects objects os → LiveObject objects o → LiveObjects objects (slice_set os id o)
   live_set [] id o l x = tt
   live_set (a ∷ os) zero o l x = (x, l.1)
   live_set (a ∷ os) (suc id) o l x = (l.0, live_set os id o l.1 x)
 
-  live_appended : (os : List Obj) (o : Obj) → LiveObjects objects os → LiveProps objects o.props → LiveObjects objects (os ++ o ∷ [])
+  live_appended : (os : List Obj) (o : Obj) → LiveObjects objects os → LiveObject objects o → LiveObjects objects (os ++ o ∷ [])
   live_appended [] o l x = (x, tt)
   live_appended (a ∷ os) o l x = (l.0, live_appended os o l.1 x)
 
@@ -83,7 +85,7 @@ module _ (objects : List Obj) where
     where
       at : (o : Option Obj) → slice_get os id ≡ o → LiveObjects objects (option_map_or (λ x. slice_set os id (with_props x (change x))) o os)
       at None is = l
-      at (Some o) is = live_set os id (with_props o (change o)) l (keeps o (live_object os id o is l))
+      at (Some o) is = let held = live_object os id o is l in live_set os id (with_props o (change o)) l (keeps o held.0, held.1)
 
   -- what a search finds
   live_own : (own : Option Prop) (proto : Option ObjRef) (further : ℕ → Option Prop) → LiveFound objects own → ((id : ℕ) → LiveFound objects (further id)) → LiveFound objects (own_or own proto further)
@@ -93,7 +95,7 @@ module _ (objects : List Obj) where
 
   live_one : (os : List Obj) (id : ℕ) (key : Key) (further : ℕ → Option Prop) (o : Option Obj) → slice_get os id ≡ o → LiveObjects objects os → ((i : ℕ) → LiveFound objects (further i)) → LiveFound objects (option_and_then (λ x. own_or (prop_at x.props key) x.proto further) o)
   live_one os id key further None is l each = tt
-  live_one os id key further (Some o) is l each = live_own (prop_at o.props key) o.proto further (live_at o.props key (live_object os id o is l)) each
+  live_one os id key further (Some o) is l each = live_own (prop_at o.props key) o.proto further (live_at o.props key (live_object os id o is l).0) each
 
   live_along : (n : ℕ) (os : List Obj) (id : ℕ) (key : Key) → LiveObjects objects os → LiveFound objects (first_along n os id key)
   live_along zero os id key l = tt
@@ -102,6 +104,21 @@ module _ (objects : List Obj) where
   pub live_found : (os : List Obj) (id : ℕ) (key : Key) → LiveObjects objects os → LiveFound objects (found_at os id key)
   unfolding found_at
   live_found os id key l = live_along (suc id) os id key l
+
+  -- what is seen of an object itself
+  pub live_own_at : (os : List Obj) (id : ℕ) (key : Key) → LiveObjects objects os → LiveFound objects (own_at os id key)
+  live_own_at os id key l = at (slice_get os id) refl
+    where
+      at : (o : Option Obj) → slice_get os id ≡ o → LiveFound objects (option_and_then (λ x. prop_at x.props key) o)
+      at None is = tt
+      at (Some o) is = live_at o.props key (live_object os id o is l).0
+
+  pub live_inner_at : (os : List Obj) (o : ObjRef) → LiveObjects objects os → LiveSeen objects (inner_at os o)
+  live_inner_at os r l = at (slice_get os r.id) refl
+    where
+      at : (o : Option Obj) → slice_get os r.id ≡ o → LiveSeen objects (option_map (λ x. x.inner) o)
+      at None is = tt
+      at (Some o) is = (live_object os r.id o is l).1
 
 -- 3. The changes
 
@@ -134,6 +151,44 @@ kept_properties objects id (e ∷ es) l x =
     let next : List Obj = defined objects id e.0 e.1 in
     kept_then objects next (with_properties next id es) one (kept_properties next id es one.live (more_props objects next one.grows es x.1))
 
+-- an iterator is moved on
+live_part : (objects os : List Obj) (id : ℕ) (inner : InnerTerm) → LiveObjects objects os → LiveInner objects inner → LiveObjects objects (with_inner os id inner)
+live_part objects os id inner l x = at (slice_get os id) refl
+  where
+    at : (o : Option Obj) → slice_get os id ≡ o → LiveObjects objects (option_map_or (λ y. slice_set os id (with_part y inner)) o os)
+    at None is = l
+    at (Some o) is = live_set objects os id (with_part o inner) l ((live_object objects os id o is l).0, x)
+
+kept_inner : (objects : List Obj) (id : ℕ) (inner : InnerTerm) → LiveObjects objects objects → LiveInner objects inner → Kept objects (with_inner objects id inner)
+kept_inner objects id inner l x =
+    let more : List Obj = with_inner objects id inner in
+    let grows : Grows objects more = λ r y. live_inner objects id inner r y in
+    record { grows = grows; live = more_objects objects more grows more (live_part objects objects id inner l x) }
+
+live_moved : (objects : List Obj) (next : ℕ) (turn : Turn) (inner : InnerTerm) → LiveInner objects inner → LiveInner objects (moved_part next turn inner)
+live_moved objects next turn PlainPart l = tt
+live_moved objects next turn ArrayPart l = tt
+live_moved objects next turn ErrorPart l = tt
+live_moved objects next turn (ScriptPart f) l = tt
+live_moved objects next turn (BuiltinPart f) l = tt
+live_moved objects next turn (InterfacePart iface slots) l = tt
+live_moved objects next turn (PlatformPart slots pairs) l = tt
+live_moved objects next turn (SpacePart slots) l = tt
+live_moved objects next turn (PairIteratorPart of kind n) l = tt
+live_moved objects next turn (ArrayIteratorPart of n last) l = l
+live_moved objects next turn (PromisePart state) l = tt
+
+pub kept_moved : (objects : List Obj) (o : ObjRef) (next : ℕ) (turn : Turn) → LiveObjects objects objects → Kept objects (with_cursor objects o next turn)
+kept_moved objects o next turn l = at (inner_at objects o) (live_inner_at objects objects o l)
+  where
+    at : (inner : Option InnerTerm) → LiveSeen objects inner → Kept objects (option_map_or (λ x. with_inner objects o.id (moved_part next turn x)) inner objects)
+    at None x = record { grows = λ r y. y; live = l }
+    at (Some inner) x = kept_inner objects o.id (moved_part next turn inner) l (live_moved objects next turn inner x)
+
+live_data : (objects : List Obj) (entries : List (Key × Value)) → LiveData objects entries → LiveProps objects (data_properties entries)
+live_data objects [] l = tt
+live_data objects (e ∷ es) l = (l.0, live_data objects es l.1)
+
 kept_items : (objects : List Obj) (id index : ℕ) (items : List Value) → LiveObjects objects objects → LiveValues objects items → Kept objects (with_items objects id index items)
 kept_items objects id index [] l x = record { grows = λ o y. y; live = l }
 kept_items objects id index (v ∷ vs) l x =
@@ -151,12 +206,12 @@ pub last_shape : (os rest : List Obj) (o : Obj) → option_map (λ x. x.shape) (
 last_shape [] rest o = refl
 last_shape (a ∷ os) rest o = last_shape os rest o
 
-made_object : (objects : List Obj) (o : Obj) (r : ObjRef) → r.id ≡ length objects → r.shape ≡ o.shape → ((more : List Obj) → LiveProps more o.props) → LiveObjects objects objects → Made objects (objects ++ o ∷ []) r
+made_object : (objects : List Obj) (o : Obj) (r : ObjRef) → r.id ≡ length objects → r.shape ≡ o.shape → ((more : List Obj) → Grows objects more → LiveObject more o) → LiveObjects objects objects → Made objects (objects ++ o ∷ []) r
 made_object objects o r id shape bare l =
     let more : List Obj = objects ++ o ∷ [] in
     let grows : Grows objects more = λ p x. live_more objects o p x in
     record {
-      kept = record { grows = grows; live = live_appended more objects o (more_objects objects more grows objects l) (bare more) };
+      kept = record { grows = grows; live = live_appended more objects o (more_objects objects more grows objects l) (bare more grows) };
       live = ap (λ n. option_map (λ x. x.shape) (slice_get more n)) id ∙ last_shape objects [] o ∙ ap Some (sym shape);
     }
 
@@ -164,13 +219,18 @@ made_then : (objects more last : List Obj) (o : ObjRef) → Made objects more o 
 made_then objects more last o x y = record { kept = kept_then objects more last x.kept y; live = y.grows o x.live }
 
 pub made_new : (objects : List Obj) (new : NewObject) → LiveObjects objects objects → LiveItems objects new → Made objects (with_new objects new) (new_reference (length objects) new)
-made_new objects (Ordinary proto) l items = made_object objects (new_object proto shapes.Plain PlainPart) (new_reference (length objects) (Ordinary proto)) refl refl (λ more. tt) l
+made_new objects (Ordinary proto) l items = made_object objects (new_object proto shapes.Plain PlainPart) (new_reference (length objects) (Ordinary proto)) refl refl (λ more g. (tt, tt)) l
 made_new objects (ScriptFunction number name count) l items =
     let more : List Obj = added objects (Some function_prototype) shapes.Callable (ScriptPart number) in
-    let one = made_object objects (new_object (Some function_prototype) shapes.Callable (ScriptPart number)) (new_reference (length objects) (ScriptFunction number name count)) refl refl (λ us. tt) l in
+    let one = made_object objects (new_object (Some function_prototype) shapes.Callable (ScriptPart number)) (new_reference (length objects) (ScriptFunction number name count)) refl refl (λ us g. (tt, tt)) l in
     made_then objects more (with_function more (length objects) name count) (new_reference (length objects) (ScriptFunction number name count)) one (kept_properties more (length objects) (function_entries count name) one.kept.live (tt, (tt, tt)))
 made_new objects (ArrayOf vs) l items =
     let more : List Obj = added objects (Some array_prototype) shapes.Plain ArrayPart in
-    let one = made_object objects (new_object (Some array_prototype) shapes.Plain ArrayPart) (new_reference (length objects) (ArrayOf vs)) refl refl (λ us. (tt, tt)) l in
+    let one = made_object objects (new_object (Some array_prototype) shapes.Plain ArrayPart) (new_reference (length objects) (ArrayOf vs)) refl refl (λ us g. ((tt, tt), tt)) l in
     made_then objects more (with_items more (length objects) 0 vs) (new_reference (length objects) (ArrayOf vs)) one (kept_items more (length objects) 0 vs one.kept.live (more_values objects more one.kept.grows vs items))
-made_new objects TypeErrorObject l items = made_object objects (new_object (Some type_error_prototype) shapes.Plain ErrorPart) (new_reference (length objects) TypeErrorObject) refl refl (λ more. tt) l
+made_new objects TypeErrorObject l items = made_object objects (new_object (Some type_error_prototype) shapes.Plain ErrorPart) (new_reference (length objects) TypeErrorObject) refl refl (λ more g. (tt, tt)) l
+made_new objects (ObjectOf entries) l items =
+    let more : List Obj = added objects (Some object_prototype) shapes.Plain PlainPart in
+    let one = made_object objects (new_object (Some object_prototype) shapes.Plain PlainPart) (new_reference (length objects) (ObjectOf entries)) refl refl (λ us g. (tt, tt)) l in
+    made_then objects more (with_properties more (length objects) (data_properties entries)) (new_reference (length objects) (ObjectOf entries)) one (kept_properties more (length objects) (data_properties entries) one.kept.live (more_props objects more one.kept.grows (data_properties entries) (live_data objects entries items)))
+made_new objects (ArrayIteratorOf o) l items = made_object objects (new_object (Some array_iterator_prototype) shapes.Plain (ArrayIteratorPart o 0 Idle)) (new_reference (length objects) (ArrayIteratorOf o)) refl refl (λ more g. (tt, g o items)) l

@@ -19,6 +19,9 @@ use Rattle.widl_store.specs.declared.homes.Home.{Home}
 use Rattle.widl_store.specs.declared.homes.Home.TheVariants as homes
 use Rattle.widl_store.specs.declared.property.Prop.{Prop}
 use Rattle.widl_store.specs.declared.property.Prop.TheVariants as props
+use Rattle.widl_text.specs.declared.key.Key.{Key}
+use Rattle.widl_store.specs.Inners.{InnerTerm}
+use Rattle.widl_store.specs.OwnKeys.{keys_at}
 use Rattle.widl_store.specs.Objects.{Obj, StoreState, IsLive, home_of, own_at}
 use Rattle.widl_store.specs.Effects.{is_fixed, put_answer, put_of, put_in, defined, delete_of, deleted}
 use Rattle.widl_store.specs.Found.{found_at}
@@ -26,12 +29,12 @@ use Rattle.widl_script_tree.specs.Trees.{Text}
 use Rattle.widl_runs.specs.declared.stop.Stop.{Stop}
 use Rattle.widl_runs.specs.declared.stop.Stop.TheVariants as stops
 use Rattle.widl_runs.specs.Worlds.{Bindings, Context, World, value_of, with_value, value_or_undefined, is_local, local_value, with_local, owner_named, owner_object, global_value, named_value, this_value, outer_contexts}
-use Rattle.widl_runs.specs.Actions.{Action, Pay, Write, TestDepth, Enter, Leave, FindBody, ReadThis, ReadName, BindName, TakeSymbol, AddObject, FindProperty, PutProperty, DefineProperty, DeleteProperty, Reach, Reply, IsDone, IsValue, IsObject, IsProperty, IsPut, IsDefined, IsDeleted, event_cost, put_result, define_result, is_put, is_made, with_store, with_new, new_reference, most_calls, act}
+use Rattle.widl_runs.specs.Actions.{Action, Pay, Write, TestDepth, Enter, Leave, FindBody, ReadThis, ReadName, BindName, TakeSymbol, AddObject, FindProperty, PutProperty, DefineProperty, DeleteProperty, FindKeys, FindOwn, FindInner, MoveCursor, Reach, Reply, IsDone, IsValue, IsObject, IsProperty, IsPut, IsDefined, IsDeleted, AreKeys, IsInner, own_keys_of, inner_at, with_cursor, event_cost, put_result, define_result, is_put, is_made, with_store, with_new, new_reference, most_calls, act}
 use Rattle.widl_runs.specs.Jobs.{Program}
 use Rattle.widl_runs.specs.Fitting.{HasPrototypes}
-use Rattle.widl_runs.proofs.LiveParts.{Grows, LiveValue, LiveFound, LiveObjects, LiveBindings, LiveContexts, LivePut, LiveReply, more_bindings, more_contexts, more_put}
-use Rattle.widl_runs.proofs.LiveSteps.{LiveAction, live_bound}
-use Rattle.widl_runs.proofs.LiveStores.{live_found, Kept, kept_defined, kept_put, kept_deleted, made_new}
+use Rattle.widl_runs.proofs.LiveParts.{Grows, LiveValue, LiveFound, LiveSeen, LiveObjects, LiveBindings, LiveContexts, LivePut, LiveReply, more_bindings, more_contexts, more_put}
+use Rattle.widl_runs.proofs.LiveJobs.{LiveAction, live_bound}
+use Rattle.widl_runs.proofs.LiveStores.{live_found, live_own_at, live_inner_at, Kept, kept_defined, kept_put, kept_deleted, kept_moved, made_new}
 
 -- all that a world holds is live
 pub record LiveWorld (w : World) : Type 0 where
@@ -55,19 +58,25 @@ LivesOn w (Stops s) = Unit {0}
 
 module _ (objects : List Obj) (first : HasPrototypes objects) where
   live_done : LiveReply objects IsDone
-  live_done = record { value = tt; object = first.object; property = tt; put = tt }
+  live_done = record { value = tt; object = first.object; property = tt; put = tt; inner = tt }
 
   live_value : (v : Value) → LiveValue objects v → LiveReply objects (IsValue v)
-  live_value v l = record { value = l; object = first.object; property = tt; put = tt }
+  live_value v l = record { value = l; object = first.object; property = tt; put = tt; inner = tt }
 
   live_object : (o : ObjRef) → IsLive objects o → LiveReply objects (IsObject o)
-  live_object o l = record { value = tt; object = l; property = tt; put = tt }
+  live_object o l = record { value = tt; object = l; property = tt; put = tt; inner = tt }
 
   live_property : (found : Option Prop) → LiveFound objects found → LiveReply objects (IsProperty found)
-  live_property found l = record { value = tt; object = first.object; property = l; put = tt }
+  live_property found l = record { value = tt; object = first.object; property = l; put = tt; inner = tt }
 
   live_put : (answer : Result Put PutFault) → LivePut objects answer → LiveReply objects (IsPut answer)
-  live_put answer l = record { value = tt; object = first.object; property = tt; put = l }
+  live_put answer l = record { value = tt; object = first.object; property = tt; put = l; inner = tt }
+
+  live_seen : (inner : Option InnerTerm) → LiveSeen objects inner → LiveReply objects (IsInner inner)
+  live_seen inner l = record { value = tt; object = first.object; property = tt; put = tt; inner = l }
+
+  live_keys : (keys : List Key) → LiveReply objects (AreKeys keys)
+  live_keys keys = record { value = tt; object = first.object; property = tt; put = tt; inner = tt }
 
 -- 2. Names
 
@@ -155,6 +164,7 @@ more_prototypes objects more grows first = record {
   function = grows _ first.function;
   array = grows _ first.array;
   error = grows _ first.error;
+  iterator = grows _ first.iterator;
 }
 
 stored : (w : World) (more : List Obj) → LiveWorld w → Kept w.store.objects more → LiveWorld (with_store w more)
@@ -213,7 +223,7 @@ lives p Leave w l a = record {
 lives p (FindBody object) w l a = record {
   grows = same_grows w.store.objects;
   world = l;
-  reply = record { value = tt; object = l.prototypes.object; property = tt; put = tt };
+  reply = record { value = tt; object = l.prototypes.object; property = tt; put = tt; inner = tt };
 }
 lives p ReadThis w l a = record {
   grows = same_grows w.store.objects;
@@ -247,8 +257,28 @@ lives p (PutProperty object key v) w l a =
     put_lives (is_put answer) w (put_in os object.id key v) answer l (kept_put os object.id key v l.objects a.1) (live_put_of (is_fixed os object.id key) os (found_at os object.id key) v (live_found os os object.id key l.objects) a.1)
 lives p (DefineProperty object key prop) w l a =
     let os : List Obj = w.store.objects in
-    made_lives (is_made (define_result os object key)) w (defined os object.id key prop) (IsDefined (define_result os object key)) l (kept_defined os object.id key prop l.objects a.1) (record { each = λ objects first. record { value = tt; object = first.object; property = tt; put = tt } })
+    made_lives (is_made (define_result os object key)) w (defined os object.id key prop) (IsDefined (define_result os object key)) l (kept_defined os object.id key prop l.objects a.1) (record { each = λ objects first. record { value = tt; object = first.object; property = tt; put = tt; inner = tt } })
 lives p (DeleteProperty object key) w l a =
     let os : List Obj = w.store.objects in
-    made_lives (is_made (delete_of (own_at os object.id key))) w (deleted os object.id key) (IsDeleted (delete_of (own_at os object.id key))) l (kept_deleted os object.id key l.objects) (record { each = λ objects first. record { value = tt; object = first.object; property = tt; put = tt } })
+    made_lives (is_made (delete_of (own_at os object.id key))) w (deleted os object.id key) (IsDeleted (delete_of (own_at os object.id key))) l (kept_deleted os object.id key l.objects) (record { each = λ objects first. record { value = tt; object = first.object; property = tt; put = tt; inner = tt } })
+lives p (FindKeys o) w l a = record {
+  grows = same_grows w.store.objects;
+  world = l;
+  reply = live_keys w.store.objects l.prototypes (own_keys_of (keys_at w.store.objects o.id));
+}
+lives p (FindOwn o key) w l a = record {
+  grows = same_grows w.store.objects;
+  world = l;
+  reply = live_property w.store.objects l.prototypes (own_at w.store.objects o.id key) (live_own_at w.store.objects w.store.objects o.id key l.objects);
+}
+lives p (FindInner o) w l a = record {
+  grows = same_grows w.store.objects;
+  world = l;
+  reply = live_seen w.store.objects l.prototypes (inner_at w.store.objects o) (live_inner_at w.store.objects w.store.objects o l.objects);
+}
+lives p (MoveCursor o next turn) w l a =
+    let kept = kept_moved w.store.objects o next turn l.objects in
+    let more : List Obj = with_cursor w.store.objects o next turn in
+    let world = stored w more l kept in
+    record { grows = kept.grows; world = world; reply = live_done more world.prototypes }
 lives p (Reach end) w l a = tt

@@ -9,30 +9,31 @@ use Rattle.widl_store.specs.Objects.{length_key}
 use Rattle.widl_script_tree.specs.declared.steps.StepLine.TheVariants as steps
 use Rattle.widl_script_tree.specs.declared.steps.Target.TheVariants as targets
 use Rattle.widl_script_tree.specs.Trees.{Text, ExpressionTree, ExpressionTrees, UndefinedT, BoolT, ThisT, TextT, NewObjectT, ObjectOfT, NewArrayT, MemberT, IndexT, CallT, CallWithT, NewT, none, more, NamedT, StatementTree, StatementTrees, no_statements, then_more, LetT, DoT, ReturnT, ShowT, SetT, DefineT, DefineAccessorT, DeleteT, TryT, FunctionT, StepsT, ScriptTree}
+use Rattle.widl_text.specs.declared.key.Key.TheVariants as keys
 use Rattle.widl_value.specs.declared.number.Number.TheVariants.{Whole}
 use Rattle.widl_value.specs.declared.value.Value.TheVariants.{Num}
 use Rattle.widl_trace.specs.EventLines.{line_of}
 use Rattle.widl_runs.specs.declared.stop.Stop.TheVariants as stops
 use Rattle.widl_runs.specs.Traces.{IsTrace, EndsDone, EndsUncaught, EndsStopped}
 use Rattle.widl_runs.proofs.ShortLines.{worked, Every, IsShort}
-use Rattle.widl_runs.proofs.Examples.{the_operation, nothing_defined, one_operation, number, name, only, d0, d1, d2, d5, d7, d15, d18, d19, d20, d99, d8, d3, d4}
+use Rattle.widl_runs.proofs.Examples.{the_operation, nothing_defined, one_operation, number, name, only, d0, d1, d2, d5, d7, d12, d15, d18, d19, d20, d99, d8, d3, d4}
 use Rattle.widl_value.specs.declared.value.Value.TheVariants as values
 use Rattle.widl_value.specs.IdlTerms.{AnyValue}
 use Rattle.widl_store.specs.Objects.{plain_object, function_object}
 use Rattle.widl_trace.specs.declared.code.Code.TheVariants as code
-use Rattle.widl_trace.specs.EventTerms.{EventTerm, CallEvent, OperationEvent, ReturnEvent, ThrowEvent, ShowEvent, ErrorEvent, DoneEvent, UncaughtEvent, DepthStop, ProfileStop}
+use Rattle.widl_trace.specs.EventTerms.{EventTerm, GetEvent, CallEvent, OperationEvent, ReturnEvent, ThrowEvent, ShowEvent, ErrorEvent, DoneEvent, UncaughtEvent, DepthStop, ProfileStop}
 
 -- a list of statements, and of expressions
-abbrev in_order : List StatementTree → StatementTrees
+abbrev pub in_order : List StatementTree → StatementTrees
 in_order [] = no_statements
 in_order (s ∷ ss) = then_more s (in_order ss)
 
-abbrev row : List ExpressionTree → ExpressionTrees
+abbrev pub row : List ExpressionTree → ExpressionTrees
 row [] = none
 row (e ∷ es) = more e (row es)
 
 -- a script with one function
-abbrev with_one : Text → List Text → List Text → List StatementTree → List StatementTree → List StatementTree → ScriptTree
+abbrev pub with_one : Text → List Text → List Text → List StatementTree → List StatementTree → List StatementTree → ScriptTree
 with_one f params names body before after = record {
   functions = record { name = f; params = params; names = names; body = in_order body } ∷ [];
   top = in_order (before ++ FunctionT 0 f params (in_order body) ∷ after);
@@ -117,16 +118,28 @@ step_throws : IsTrace one_operation (only (in_order (StepsT (targets.Operation (
 unfolding found_at is_fixed length_key realm_over intrinsics
 step_throws = worked _ _ 80 (refl, refl) step_throws_told refl (refl, (refl, (refl, (refl, tt))))
 
--- 6. Functions that aren't there yet, and one that never is: `do object().toString()`, `do call(N.f.toString, 1)`.
+-- 6. A function that is there before the script, one that isn't built yet, and one that is never run: `do object().toString()`,
+-- `do array().values()`, `do call(N.f.toString, 1)`.
+
+abbrev built_in_lines : List (List ℕ)
+built_in_lines = codes "call #8 this #18 ()" ∷ codes "get #18 @toStringTag" ∷ codes "ret \"[object Object]\"" ∷ codes "done" ∷ []
+
+built_in_told : built_in_lines ≡ map (line_of nothing_defined) (CallEvent (function_object 8) (values.Obj (plain_object 18)) [] ∷ GetEvent (plain_object 18) (keys.Sym 2) ∷ ReturnEvent (values.Str (codes "[object Object]")) ∷ DoneEvent ∷ [])
+unfolding line_of
+built_in_told = simp (d8, d18) refl
+
+built_in : IsTrace nothing_defined (only (in_order (DoT (CallT (MemberT NewObjectT (codes "toString")) none) ∷ []))) 6 built_in_lines EndsDone
+unfolding found_at is_fixed length_key realm_over intrinsics
+built_in = worked _ _ 80 (refl, refl) built_in_told refl (refl, (refl, (refl, (refl, tt))))
 
 abbrev not_yet_lines : List (List ℕ)
-not_yet_lines = codes "call #8 this #18 ()" ∷ codes "stop profile 99" ∷ []
+not_yet_lines = codes "call #12 this #18 ()" ∷ codes "stop profile 99" ∷ []
 
-not_yet_told : not_yet_lines ≡ map (line_of nothing_defined) (CallEvent (function_object 8) (values.Obj (plain_object 18)) [] ∷ ProfileStop 99 ∷ [])
+not_yet_told : not_yet_lines ≡ map (line_of nothing_defined) (CallEvent (function_object 12) (values.Obj (plain_object 18)) [] ∷ ProfileStop 99 ∷ [])
 unfolding line_of
-not_yet_told = simp (d8, d18, d99) refl
+not_yet_told = simp (d12, d18, d99) refl
 
-not_yet : IsTrace nothing_defined (only (in_order (DoT (CallT (MemberT NewObjectT (codes "toString")) none) ∷ []))) 100 not_yet_lines (EndsStopped (stops.Profile 99))
+not_yet : IsTrace nothing_defined (only (in_order (DoT (CallT (MemberT (NewArrayT none) (codes "values")) none) ∷ []))) 100 not_yet_lines (EndsStopped (stops.Profile 99))
 unfolding found_at is_fixed length_key realm_over intrinsics
 not_yet = worked _ _ 60 (refl, refl) not_yet_told refl (refl, (refl, tt))
 

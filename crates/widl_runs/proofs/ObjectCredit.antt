@@ -20,19 +20,23 @@ use Rattle.widl_store.specs.declared.inner.Builtin.{Builtin}
 use Rattle.widl_store.specs.declared.inner.Builtin.TheVariants as builtins
 use Rattle.widl_store.specs.declared.property.Prop.{Prop}
 use Rattle.widl_store.specs.declared.property.Prop.TheVariants as props
-use Rattle.widl_script_tree.specs.declared.steps.StepLine.{StepLine}
 use Rattle.widl_script_tree.specs.Trees.{Text, ExpressionTree, UndefinedT, NullT, ThisT, NewSymbolT, NewObjectT, BoolT, NumberT, TextT, NameT, SymbolT, ObjectOfT, NewArrayT, MemberT, IndexT, CallT, NewT, CallWithT, ExpressionTrees, none, more, MemberTree, NamedT, ComputedT, StatementTree, LetT, DoT, ReturnT, ThrowT, ShowT, SetT, DefineT, DefineAccessorT, DeleteT, TryT, IfT, FunctionT, StepsT, StatementTrees, no_statements, then_more}
-use Rattle.widl_runs.specs.declared.completion.Completion.{Completion}
-use Rattle.widl_runs.specs.declared.completion.Completion.TheVariants.{Normal, Returned, Thrown}
-use Rattle.widl_runs.specs.Actions.{Action, Pay, Write, TestDepth, Enter, Leave, FindBody, ReadThis, ReadName, BindName, TakeSymbol, AddObject, FindProperty, PutProperty, DefineProperty, DeleteProperty, Reach, Reply, body_in, property_in, put_result_in, define_result_in, delete_result_in, Body, ScriptBody, BuiltinBody, NoBody}
-use Rattle.widl_runs.specs.Jobs.{Program, KeyPart, Named, Computed, MemberUse, ForRead, ForCall, RowUse, ForArguments, ForNew, ForItems, Job, RunStatements, RunStatement, Evaluate, EvaluateRow, ReadMember, SetMember, DefineMember, DefineAccessor, DeleteMember, CallValue, ConstructValue, RunSteps, Fail, Doing, value}
-use Rattle.widl_runs.specs.Operations.{run_steps}
+use Rattle.widl_convert.specs.AskTerms.{AskTerm, GetAsk, CallAsk, KindAsk, UnitAsk, NoteAsk, OwnKeysAsk, OwnAsk, NewArrayAsk, NewObjectAsk, NewArrayIteratorAsk, CursorAsk, SetCursorAsk}
+use Rattle.widl_convert.specs.Tasks.{TaskEnd, Gives, Plain, Picks, Throw, Rethrow, Profile}
+use Rattle.widl_calls.specs.BuiltCalls.{calls_built_today}
+use Rattle.widl_calls.specs.CallRules.{call_rule}
+use Rattle.widl_calls.specs.CallTasks.{CallTalk}
+use Rattle.widl_calls.specs.Operations.{lines_of}
+use Rattle.widl_runs.specs.Ends.{JobEnd, Normal, Returned, Thrown, Talked, Seen, answer_of, task_end_in}
+use Rattle.widl_runs.specs.Asks.{asks, in_world}
+use Rattle.widl_runs.specs.Actions.{Action, Pay, Write, TestDepth, Enter, Leave, FindBody, ReadThis, ReadName, BindName, TakeSymbol, AddObject, FindProperty, PutProperty, DefineProperty, DeleteProperty, FindKeys, FindOwn, FindInner, MoveCursor, Reach, Reply, body_in, property_in, put_result_in, define_result_in, delete_result_in, Body, ScriptBody, BuiltinBody, NoBody}
+use Rattle.widl_runs.specs.Jobs.{Program, KeyPart, Named, Computed, MemberUse, ForRead, ForCall, RowUse, ForArguments, ForNew, ForItems, Job, RunStatements, RunStatement, Evaluate, EvaluateRow, ReadMember, SetMember, DefineMember, DefineAccessor, DeleteMember, CallValue, ConstructValue, Talk, Asked, Fail, Doing, value}
 use Rattle.widl_runs.specs.Calls.{if_callable, callable, call, construct_body, construct}
 use Rattle.widl_runs.specs.Members.{uses, member, key_of, if_key, tested, read_value, put_done, define_done, defines_parts, tests_setter, delete_done}
 use Rattle.widl_runs.specs.Expressions.{object_of, row_done, evaluate_row, call_tree, evaluate}
 use Rattle.widl_runs.specs.Statements.{run_statement, run_statements}
 use Rattle.widl_runs.specs.Rules.{rule}
-use Rattle.std.specs.Prelude.{nat_lt, slice_get, slice_set, take, decimal}
+use Rattle.std.specs.Prelude.{nat_lt, slice_get, slice_set, decimal}
 use Rattle.std.specs.Option.{option_map_or}
 use Rattle.std.proofs.lemmas.Bool.{ltb-false}
 use Rattle.std.proofs.lemmas.List.Sums.{sum_by-append}
@@ -41,24 +45,19 @@ use Rattle.widl_dialog.specs.Credit.{MovesLevel, Owes, Balanced}
 use Rattle.widl_dialog.specs.Runs.{Did, Went, Stops, Finish, Ended, Halted}
 use Rattle.widl_dialog.proofs.Crediting.{more_credit, level_kept, none_rises}
 use Rattle.widl_text.specs.declared.key.Key.TheVariants as keys
-use Rattle.widl_idl.specs.declared.callee.Callee.{Callee}
 use Rattle.widl_idl.specs.DefinitionTerms.{DefsTerm}
-use Rattle.widl_store.specs.Inners.{ArrayPart, ScriptPart}
+use Rattle.widl_store.specs.declared.inner.Turn.{Turn}
+use Rattle.widl_store.specs.Inners.{InnerTerm, PlainPart, ArrayPart, ScriptPart}
 use Rattle.widl_store.specs.Objects.{Obj, all_flags, own_at, prop_at, without_prop}
 use Rattle.widl_store.specs.Plans.{function_entries}
-use Rattle.widl_store.specs.Effects.{with_props, placed, plain_with, put_in, defined, delete_of, deleted, added}
-use Rattle.widl_script_tree.specs.declared.steps.Source.{Source}
-use Rattle.widl_script_tree.specs.declared.steps.Source.TheVariants as sources
-use Rattle.widl_script_tree.specs.declared.steps.StepLine.TheVariants as steps
+use Rattle.widl_store.specs.Effects.{with_props, placed, plain_with, put_in, defined, delete_of, deleted, added, with_part, with_inner}
 use Rattle.widl_script_tree.specs.Trees.{ScriptTree}
-use Rattle.widl_trace.specs.declared.code.Code.TheVariants as code
 use Rattle.widl_runs.specs.declared.stop.Stop.{Stop}
 use Rattle.widl_runs.specs.declared.stop.Stop.TheVariants as stops
 use Rattle.widl_runs.specs.Worlds.{World, is_local, with_local, with_value}
-use Rattle.widl_runs.specs.Actions.{IsDone, NewObject, Ordinary, ScriptFunction, ArrayOf, TypeErrorObject, event_cost, put_result, define_result, is_put, is_made, with_store, most_calls, act, with_items, with_properties, with_function, with_new, object_prototype, function_prototype, array_prototype}
+use Rattle.widl_runs.specs.Actions.{IsDone, NewObject, Ordinary, ScriptFunction, ArrayOf, TypeErrorObject, ObjectOf, ArrayIteratorOf, inner_at, moved_part, data_properties, event_cost, put_result, define_result, is_put, is_made, with_store, most_calls, act, with_items, with_properties, with_function, with_new, object_prototype, function_prototype, array_prototype}
 use Rattle.widl_runs.specs.Jobs.{ForSet, ForDefine, ForAccessor, ForDelete, reaches}
-use Rattle.widl_runs.specs.Operations.{Operation, operation_of, operation_line, operation, lines_for, step, return_step}
-use Rattle.widl_runs.specs.Calls.{called, built_in, body}
+use Rattle.widl_runs.specs.Calls.{called, ends_talk, body}
 use Rattle.widl_runs.specs.Members.{with_getter}
 use Rattle.widl_runs.specs.Expressions.{adds}
 use Rattle.widl_runs.specs.Statements.{caught, performs, same_value}
@@ -125,6 +124,16 @@ new_length objects (Ordinary proto) = length-append objects _
 new_length objects (ScriptFunction number name params) = function_length (added objects (Some function_prototype) shapes.Callable (ScriptPart number)) (length objects) name params ∙ length-append objects _
 new_length objects (ArrayOf items) = items_length (added objects (Some array_prototype) shapes.Plain ArrayPart) (length objects) 0 items ∙ length-append objects _
 new_length objects TypeErrorObject = length-append objects _
+new_length objects (ObjectOf entries) = properties_length (added objects (Some object_prototype) shapes.Plain PlainPart) (length objects) (data_properties entries) ∙ length-append objects _
+new_length objects (ArrayIteratorOf object) = length-append objects _
+
+inner_length : (objects : List Obj) (id : ℕ) (inner : InnerTerm) (o : Option Obj) → length (option_map_or (λ x. slice_set objects id (with_part x inner)) o objects) ≡ length objects
+inner_length objects id inner None = refl
+inner_length objects id inner (Some o) = length-set objects id (with_part o inner)
+
+moved_length : (objects : List Obj) (object : ObjRef) (next : ℕ) (turn : Turn) (inner : Option InnerTerm) → length (option_map_or (λ x. with_inner objects object.id (moved_part next turn x)) inner objects) ≡ length objects
+moved_length objects object next turn None = refl
+moved_length objects object next turn (Some inner) = inner_length objects object.id (moved_part next turn inner) (slice_get objects object.id)
 
 pay_counts : (b : Bool) (w : World) → nat_lt w.units 1 ≡ b → Counted Pay w (if b then Stops stops.Budget else Went (record w { units = w.units - 1 }) IsDone)
 pay_counts true w test = tt
@@ -163,6 +172,10 @@ counts list (FindProperty object key) w = record { objects = omega arith; symbol
 counts list (PutProperty object key v) w = made_counts (is_put (put_result w.store.objects object key v)) (PutProperty object key v) w (put_in w.store.objects object.id key v) (put_length w.store.objects object.id key v) refl refl refl
 counts list (DefineProperty object key prop) w = made_counts (is_made (define_result w.store.objects object key)) (DefineProperty object key prop) w (defined w.store.objects object.id key prop) (defined_length w.store.objects object.id key prop) refl refl refl
 counts list (DeleteProperty object key) w = made_counts (is_made (delete_of (own_at w.store.objects object.id key))) (DeleteProperty object key) w (deleted w.store.objects object.id key) (deleted_length w.store.objects object.id key) refl refl refl
+counts list (FindKeys object) w = record { objects = omega arith; symbols = omega arith; units = omega arith }
+counts list (FindOwn object key) w = record { objects = omega arith; symbols = omega arith; units = omega arith }
+counts list (FindInner object) w = record { objects = omega arith; symbols = omega arith; units = omega arith }
+counts list (MoveCursor object next turn) w = let e = moved_length w.store.objects object next turn (inner_at w.store.objects object) in record { objects = omega (arith, e); symbols = omega arith; units = omega arith }
 counts list (Reach end) w = tt
 
 -- the objects with the units that are left, and both with the symbols
@@ -195,10 +208,12 @@ IsFair n d = Owes gives takes n d
 credited : (p : Program) (d : Doing) → IsFair 0 d → IsFair 1 d
 credited p d x = more_credit (rule p) (act p.list) level gives takes d 0 1 (omega arith) x
 
-fair_value : (k : Value → Doing) → ((v : Value) → IsFair 0 (k v)) → (c : Completion) → IsFair 0 (value k c)
+fair_value : (k : Value → Doing) → ((v : Value) → IsFair 0 (k v)) → (c : JobEnd) → IsFair 0 (value k c)
 fair_value k each (Normal v) = each v
 fair_value k each (Returned v) = tt
 fair_value k each (Thrown v) = tt
+fair_value k each (Talked end) = tt
+fair_value k each (Seen answer) = tt
 
 fair_reaches : (end : ℕ) → IsFair 0 (reaches end)
 fair_reaches end = (omega arith, λ r. tt)
@@ -207,7 +222,7 @@ fair_reaches end = (omega arith, λ r. tt)
 fair_adds : (new : NewObject) → IsFair 1 (adds new)
 fair_adds new = (omega arith, λ r. tt)
 
-fair_called : (c : Completion) → IsFair 0 (called c)
+fair_called : (c : JobEnd) → IsFair 0 (called c)
 fair_called c = (omega arith, λ a. (omega arith, λ b. tt))
 
 fair_shape : (k : ObjRef → Doing) → ((o : ObjRef) → IsFair 0 (k o)) → (o : ObjRef) (s : Shape) → IsFair 0 (if_callable k o s)
@@ -224,27 +239,27 @@ fair_callable k each (values.Str text) = λ r. tt
 fair_callable k each (values.Sym id) = λ r. tt
 fair_callable k each (values.Obj o) = fair_shape k each o o.shape
 
-fair_few : (b : Bool) (callee : Callee) (args : List Value) (lines : List StepLine) → IsFair 0 (if b then Steps (Fail code.NoOverload) called else operation_line called callee args lines)
-fair_few true callee args lines = fair_called
-fair_few false callee args lines = (omega arith, λ r. fair_called)
+fair_ends : (r : TaskEnd) → IsFair 0 (ends_talk r)
+fair_ends (Gives w) = fair_called (Returned values.Undefined)
+fair_ends (Plain v) = fair_called (Returned v)
+fair_ends (Picks overload ws) = fair_called (Returned values.Undefined)
+fair_ends (Throw why) = fair_called
+fair_ends (Rethrow v) = fair_called (Thrown v)
+fair_ends (Profile end) = fair_reaches end
 
-fair_operation : (p : Program) (callee : Callee) (args : List Value) (o : Option Operation) → IsFair 0 (operation called p callee args o)
-fair_operation p callee args None = fair_reaches 99
-fair_operation p callee args (Some o) = let declared : ℕ = length o.signature.args in fair_few (nat_lt (length args) declared) callee (take declared args) (lines_for o p.script.top)
+-- a conversation adds nothing but by its asks
+fair_talk : (d : CallTalk) → IsFair 0 (in_world d)
+fair_talk (End r) = tt
+fair_talk (Say ask k) = λ end. fair_talk (k (answer_of ask end))
+fair_talk (Steps t k) = λ end. fair_talk (k (task_end_in end))
 
-fair_built : (p : Program) (args : List Value) (b : Builtin) → IsFair 0 (built_in p args b)
-fair_built p args (builtins.Intrinsic number) = (omega arith, λ r. tt)
-fair_built p args (builtins.Callee callee) = fair_operation p callee args (operation_of p.list callee)
-fair_built p args (builtins.InterfaceObject iface) = fair_reaches 99
-fair_built p args (builtins.Pairs iface what) = fair_reaches 99
-
-fair_body : (p : Program) (this : Value) (args : List Value) (b : Body) → IsFair 0 (body p this args b)
-fair_body p this args (ScriptBody number) = (omega arith, λ r. fair_called)
-fair_body p this args (BuiltinBody b) = (omega arith, λ r. fair_built p args b)
-fair_body p this args NoBody = fair_reaches 99
+fair_body : (p : Program) (f : ObjRef) (this : Value) (args : List Value) (b : Body) → IsFair 0 (body p f this args b)
+fair_body p f this args (ScriptBody number) = (omega arith, λ r. fair_called)
+fair_body p f this args (BuiltinBody b) = (omega arith, λ r c. fair_ends (task_end_in c))
+fair_body p f this args NoBody = fair_reaches 99
 
 fair_call : (p : Program) (f this : Value) (args : List Value) → IsFair 0 (call p f this args)
-fair_call p f this args = fair_callable _ (λ o. (omega arith, λ r. (omega arith, λ a. (omega arith, λ b. fair_body p this args (body_in r))))) f
+fair_call p f this args = fair_callable _ (λ o. (omega arith, λ r. (omega arith, λ a. (omega arith, λ b. fair_body p o this args (body_in r))))) f
 
 fair_new : (f : ObjRef) (args : List Value) (b : Builtin) → IsFair 0 (construct_body f args (BuiltinBody b))
 fair_new f args (builtins.Intrinsic number) = λ r. tt
@@ -372,10 +387,12 @@ fair_chooses : (b : Bool) (met unmet : StatementTrees) → IsFair 0 (if b then S
 fair_chooses true met unmet = λ r. tt
 fair_chooses false met unmet = λ r. tt
 
-fair_caught : (name : Text) (handler : StatementTrees) (c : Completion) → IsFair 0 (caught name handler c)
+fair_caught : (name : Text) (handler : StatementTrees) (c : JobEnd) → IsFair 0 (caught name handler c)
 fair_caught name handler (Normal v) = tt
 fair_caught name handler (Returned v) = tt
 fair_caught name handler (Thrown v) = (omega arith, λ a r. tt)
+fair_caught name handler (Talked end) = tt
+fair_caught name handler (Seen answer) = tt
 
 fair_performs : (s : StatementTree) → IsFair 0 (performs s)
 fair_performs (LetT name e) = λ c. fair_value _ (λ v. (omega arith, λ r. tt)) c
@@ -414,24 +431,19 @@ fair_statements : (ss : StatementTrees) → IsFair 0 (run_statements ss)
 fair_statements no_statements = tt
 fair_statements (then_more s ss) = λ c. fair_value _ (λ v r. tt) c
 
-fair_return : (args : List Value) (source : Source) → IsFair 0 (return_step args source)
-fair_return args (sources.Arg number) = tt
-fair_return args sources.This = fair_reaches 99
-fair_return args (sources.Slot slot) = fair_reaches 99
-fair_return args (sources.Literal literal) = tt
-
-fair_step : (args : List Value) (line : StepLine) → IsFair 0 (step args line)
-fair_step args (steps.Return source) = fair_return args source
-fair_step args (steps.ReturnInvoke invoke) = fair_reaches 99
-fair_step args (steps.SetSlot slot source) = fair_reaches 99
-fair_step args (steps.Append key v) = fair_reaches 99
-fair_step args steps.Clear = fair_reaches 99
-fair_step args (steps.Throw v) = tt
-fair_step args (steps.Invoke invoke) = fair_reaches 99
-
-fair_steps : (p : Program) (args : List Value) (lines : List StepLine) → IsFair 0 (run_steps args lines)
-fair_steps p args [] = tt
-fair_steps p args (line ∷ lines) = (omega arith, λ r. credited p (step args line) (fair_step args line))
+fair_ask : (ask : AskTerm) → IsFair 0 (asks ask)
+fair_ask (GetAsk o key) = (omega arith, λ r. (omega arith, λ a. fair_read o (property_in a)))
+fair_ask (CallAsk f this args) = λ c. tt
+fair_ask (KindAsk o) = (omega arith, λ r. tt)
+fair_ask UnitAsk = (omega arith, λ r. tt)
+fair_ask (NoteAsk event) = (omega arith, λ r. tt)
+fair_ask (OwnKeysAsk o) = (omega arith, λ r. (omega arith, λ a. tt))
+fair_ask (OwnAsk o key) = (omega arith, λ r. (omega arith, λ a. tt))
+fair_ask (NewArrayAsk items) = (omega arith, λ r. fair_adds (ArrayOf items))
+fair_ask (NewObjectAsk entries) = (omega arith, λ r. fair_adds (ObjectOf entries))
+fair_ask (NewArrayIteratorAsk o) = (omega arith, λ r. fair_adds (ArrayIteratorOf o))
+fair_ask (CursorAsk o) = (omega arith, λ r. tt)
+fair_ask (SetCursorAsk o next turn) = (omega arith, λ r. tt)
 
 pub fair : (p : Program) (j : Job) → IsFair 0 (rule p j)
 fair p (RunStatements ss) = fair_statements ss
@@ -445,7 +457,8 @@ fair p (DefineAccessor of key getter setter) = fair_tested _ (λ o k. fair_calla
 fair p (DeleteMember of key) = fair_tested _ (λ o k. (omega arith, λ r. fair_deleted (delete_result_in r))) of key
 fair p (CallValue f this args) = fair_call p f this args
 fair p (ConstructValue f args) = fair_construct f args
-fair p (RunSteps args lines) = fair_steps p args lines
+fair p (Talk task) = fair_talk (call_rule calls_built_today p.list (lines_of p.list p.script) task)
+fair p (Asked ask) = fair_ask ask
 fair p (Fail code) = (omega arith, λ a. (omega arith, λ b. (omega arith, λ c. tt)))
 
 balanced : (p : Program) → Balanced (rule p) (act p.list) level gives takes
@@ -473,7 +486,7 @@ few_events list (e ∷ events) =
     let step : sum_by (event_cost list) (e ∷ events) ≡ sum_by (event_cost list) (e ∷ []) + sum_by (event_cost list) events = sum_by-append (event_cost list) (e ∷ []) events in
     omega (arith, more, step)
 
-one_stop : (f : Finish Completion Stop) → length (stop_events f) ≤ 1
+one_stop : (f : Finish JobEnd Stop) → length (stop_events f) ≤ 1
 one_stop (Ended c) = omega arith
 one_stop (Halted s) = omega arith
 

@@ -7,7 +7,7 @@ use Rattle.widl_idl.specs.DefinitionTerms.{DefsTerm}
 use Rattle.widl_store.specs.Realm.{realm_of}
 use Rattle.widl_script_tree.specs.Trees.{ScriptTree}
 use Rattle.widl_trace.specs.EventLines.{line_of}
-use Rattle.widl_runs.specs.declared.completion.Completion.{Completion}
+use Rattle.widl_runs.specs.Ends.{JobEnd}
 use Rattle.widl_runs.specs.declared.stop.Stop.{Stop}
 use Rattle.widl_runs.specs.Worlds.{World}
 use Rattle.widl_runs.specs.Actions.{act}
@@ -19,14 +19,14 @@ use Rattle.widl_runs.proofs.Ranks.{ranks}
 use Rattle.widl_runs.proofs.Leaving.{units_of, calming}
 
 pub some_outcome : (p : Program) (d : Doing) (w : World) → Outcome (rule p) (act p.list) d w
-some_outcome p d w = ends (rule p) (act p.list) units_of ranks (calming p) d w
+some_outcome p d w = ends (rule p) (act p.list) units_of (ranks p.list) (calming p) d w
 
 pub has_one_outcome : (p : Program) (d : Doing) (w : World) → HasOneOutcome p d w
 has_one_outcome p d w = record { some = some_outcome p d w; one = λ v v' f f' x y. one_outcome (rule p) (act p.list) x y }
 
 -- the lines and the end, by where the run ends and how it finishes
-same_lines : (list : DefsTerm) (v v' : World) (f f' : Finish Completion Stop) → v ≡ v' → f ≡ f' → map (line_of list) (v.lines ++ stop_events f) ≡ map (line_of list) (v'.lines ++ stop_events f')
-same_lines list v v' f f' e g = ap (λ (u : World). map (line_of list) (u.lines ++ stop_events f)) e ∙ ap (λ (h : Finish Completion Stop). map (line_of list) (v'.lines ++ stop_events h)) g
+same_lines : (list : DefsTerm) (v v' : World) (f f' : Finish JobEnd Stop) → v ≡ v' → f ≡ f' → map (line_of list) (v.lines ++ stop_events f) ≡ map (line_of list) (v'.lines ++ stop_events f')
+same_lines list v v' f f' e g = ap (λ (u : World). map (line_of list) (u.lines ++ stop_events f)) e ∙ ap (λ (h : Finish JobEnd Stop). map (line_of list) (v'.lines ++ stop_events h)) g
 
 traced : (list : DefsTerm) (script : ScriptTree) (budget : ℕ) → Traced list script budget
 traced list script budget =

@@ -13,11 +13,11 @@ use Rattle.widl_script_tree.specs.Trees.{ScriptTree}
 use Rattle.widl_sink.specs.Lines.{line_cost}
 use Rattle.widl_trace.specs.EventTerms.{EventTerm}
 use Rattle.widl_trace.specs.EventLines.{line_of}
-use Rattle.widl_runs.specs.declared.completion.Completion.{Completion}
+use Rattle.widl_runs.specs.Ends.{JobEnd}
 use Rattle.widl_runs.specs.declared.stop.Stop.{Stop}
 use Rattle.widl_runs.specs.declared.stop.Stop.TheVariants as stops
 use Rattle.widl_runs.specs.Worlds.{World}
-use Rattle.widl_runs.specs.Actions.{Action, Pay, Write, TestDepth, Enter, Leave, FindBody, ReadThis, ReadName, BindName, TakeSymbol, AddObject, FindProperty, PutProperty, DefineProperty, DeleteProperty, Reach, Reply, IsDone, event_cost, paid, act}
+use Rattle.widl_runs.specs.Actions.{Action, Pay, Write, TestDepth, Enter, Leave, FindBody, ReadThis, ReadName, BindName, TakeSymbol, AddObject, FindProperty, PutProperty, DefineProperty, DeleteProperty, FindKeys, FindOwn, FindInner, MoveCursor, Reach, Reply, IsDone, event_cost, paid, act}
 use Rattle.widl_runs.specs.Jobs.{Program, Doing}
 use Rattle.widl_runs.specs.Rules.{rule}
 use Rattle.widl_runs.specs.Traces.{whole, first_world, stop_events, Ending, ending_of, IsTrace}
@@ -59,24 +59,28 @@ short_grows list (FindProperty object key) w = adds_lines list (FindProperty obj
 short_grows list (PutProperty object key v) w = adds_lines list (PutProperty object key v) w
 short_grows list (DefineProperty object key prop) w = adds_lines list (DefineProperty object key prop) w
 short_grows list (DeleteProperty object key) w = adds_lines list (DeleteProperty object key) w
+short_grows list (FindKeys object) w = adds_lines list (FindKeys object) w
+short_grows list (FindOwn object key) w = adds_lines list (FindOwn object key) w
+short_grows list (FindInner object) w = adds_lines list (FindInner object) w
+short_grows list (MoveCursor object next turn) w = adds_lines list (MoveCursor object next turn) w
 short_grows list (Reach end) w = adds_lines list (Reach end) w
 short_grows list TestDepth w = adds_lines list TestDepth w
 
 module _ (p : Program) where
-  abbrev Short : ℕ → Doing → World → World → Finish Completion Stop → Type 0
+  abbrev Short : ℕ → Doing → World → World → Finish JobEnd Stop → Type 0
   Short n d w v f = Runs (rule p) (short_act p.list) n d w v f
 
-  abbrev Real : ℕ → Doing → World → World → Finish Completion Stop → Type 0
+  abbrev Real : ℕ → Doing → World → World → Finish JobEnd Stop → Type 0
   Real n d w v f = Runs (rule p) (act p.list) n d w v f
 
   abbrev written : World → EventTerm → ℕ → World
   written w event cost = record w { units = w.units - cost; lines = w.lines ++ event ∷ [] }
 
   -- what comes after a line that costs this, where the test says whether too few units are left
-  abbrev After : (ℕ → Doing → World → World → Finish Completion Stop → Type 0) → ℕ → (Reply → Doing) → (w v : World) → Finish Completion Stop → EventTerm → Bool → ℕ → Type 0
+  abbrev After : (ℕ → Doing → World → World → Finish JobEnd Stop → Type 0) → ℕ → (Reply → Doing) → (w v : World) → Finish JobEnd Stop → EventTerm → Bool → ℕ → Type 0
   After Go n k w v f event test cost = on_did {W = World} {A = Reply} {S = Stop} (if test then Stops stops.Budget else Went (written w event cost) IsDone) (λ u a. Go n (k a) u v f) (λ s. (v ≡ w) × (f ≡ Halted s))
 
-  write_real : (n : ℕ) (event : EventTerm) (k : Reply → Doing) (w v : World) (f : Finish Completion Stop) → Every (CostsOne p.list) v.lines → ((a : Reply) (u : World) → Short n (k a) u v f → Real n (k a) u v f) → (b : Bool) → nat_lt w.units 1 ≡ b → After Short n k w v f event b 1 → After Real n k w v f event (nat_lt w.units (event_cost p.list event)) (event_cost p.list event)
+  write_real : (n : ℕ) (event : EventTerm) (k : Reply → Doing) (w v : World) (f : Finish JobEnd Stop) → Every (CostsOne p.list) v.lines → ((a : Reply) (u : World) → Short n (k a) u v f → Real n (k a) u v f) → (b : Bool) → nat_lt w.units 1 ≡ b → After Short n k w v f event b 1 → After Real n k w v f event (nat_lt w.units (event_cost p.list event)) (event_cost p.list event)
   write_real n event k w v f all go true test x =
       let none = ltb-true w.units 1 test in
       let cost : ℕ = event_cost p.list event in
@@ -87,11 +91,11 @@ module _ (p : Program) where
       let one = all_in p.list w.lines event grown.0 v.lines grown.1 all in
       subst (λ (c : ℕ). After Real n k w v f event (nat_lt w.units c) c) (sym one) (subst (λ (t : Bool). After Real n k w v f event t 1) (sym test) (go IsDone (written w event 1) x))
 
-  did_real : (n : ℕ) (did : Did World Reply Stop) (k : Reply → Doing) (w v : World) (f : Finish Completion Stop) → ((a : Reply) (u : World) → Short n (k a) u v f → Real n (k a) u v f) → on_did did (λ u a. Short n (k a) u v f) (λ s. (v ≡ w) × (f ≡ Halted s)) → on_did did (λ u a. Real n (k a) u v f) (λ s. (v ≡ w) × (f ≡ Halted s))
+  did_real : (n : ℕ) (did : Did World Reply Stop) (k : Reply → Doing) (w v : World) (f : Finish JobEnd Stop) → ((a : Reply) (u : World) → Short n (k a) u v f → Real n (k a) u v f) → on_did did (λ u a. Short n (k a) u v f) (λ s. (v ≡ w) × (f ≡ Halted s)) → on_did did (λ u a. Real n (k a) u v f) (λ s. (v ≡ w) × (f ≡ Halted s))
   did_real n (Went u a) k w v f go x = go a u x
   did_real n (Stops s) k w v f go x = x
 
-  said_real : (n : ℕ) (q : Action) (k : Reply → Doing) (w v : World) (f : Finish Completion Stop) → Every (CostsOne p.list) v.lines → ((a : Reply) (u : World) → Short n (k a) u v f → Real n (k a) u v f) → on_did (short_act p.list q w) (λ u a. Short n (k a) u v f) (λ s. (v ≡ w) × (f ≡ Halted s)) → on_did (act p.list q w) (λ u a. Real n (k a) u v f) (λ s. (v ≡ w) × (f ≡ Halted s))
+  said_real : (n : ℕ) (q : Action) (k : Reply → Doing) (w v : World) (f : Finish JobEnd Stop) → Every (CostsOne p.list) v.lines → ((a : Reply) (u : World) → Short n (k a) u v f → Real n (k a) u v f) → on_did (short_act p.list q w) (λ u a. Short n (k a) u v f) (λ s. (v ≡ w) × (f ≡ Halted s)) → on_did (act p.list q w) (λ u a. Real n (k a) u v f) (λ s. (v ≡ w) × (f ≡ Halted s))
   said_real n (Write event) k w v f all go x = write_real n event k w v f all go (nat_lt w.units 1) refl x
   said_real n Pay k w v f all go x = did_real n (act p.list Pay w) k w v f go x
   said_real n (Enter context) k w v f all go x = did_real n (act p.list (Enter context) w) k w v f go x
@@ -106,11 +110,15 @@ module _ (p : Program) where
   said_real n (PutProperty object key y) k w v f all go x = did_real n (act p.list (PutProperty object key y) w) k w v f go x
   said_real n (DefineProperty object key prop) k w v f all go x = did_real n (act p.list (DefineProperty object key prop) w) k w v f go x
   said_real n (DeleteProperty object key) k w v f all go x = did_real n (act p.list (DeleteProperty object key) w) k w v f go x
+  said_real n (FindKeys object) k w v f all go x = did_real n (act p.list (FindKeys object) w) k w v f go x
+  said_real n (FindOwn object key) k w v f all go x = did_real n (act p.list (FindOwn object key) w) k w v f go x
+  said_real n (FindInner object) k w v f all go x = did_real n (act p.list (FindInner object) w) k w v f go x
+  said_real n (MoveCursor object next turn) k w v f all go x = did_real n (act p.list (MoveCursor object next turn) w) k w v f go x
   said_real n (Reach end) k w v f all go x = did_real n (act p.list (Reach end) w) k w v f go x
   said_real n TestDepth k w v f all go x = did_real n (act p.list TestDepth w) k w v f go x
 
   -- a run that is computed so is one, where each line that it writes costs one unit
-  pub real_run : (n : ℕ) (d : Doing) (w v : World) (f : Finish Completion Stop) → Every (CostsOne p.list) v.lines → Short n d w v f → Real n d w v f
+  pub real_run : (n : ℕ) (d : Doing) (w v : World) (f : Finish JobEnd Stop) → Every (CostsOne p.list) v.lines → Short n d w v f → Real n d w v f
   real_run zero d w v f all x = absurd x
   real_run (suc n) (End r) w v f all x = x
   real_run (suc n) (Say q k) w v f all x = said_real n q k w v f all (λ a u. real_run n (k a) u v f all) x
@@ -127,7 +135,7 @@ costs_one list (event ∷ events) stop lines e all =
     (whole_list.0, costs_one list events stop (map (line_of list) (events ++ stop)) refl whole_list.1)
 
 -- a trace that is computed with lines of one unit
-pub worked : {list : DefsTerm} {script : ScriptTree} {budget : ℕ} {lines : List (List ℕ)} {end : Ending} (v : World) (f : Finish Completion Stop) (n : ℕ) → (let p : Program = record { list = list; script = script } in Runs (rule p) (short_act list) n (whole p) (first_world (realm_of list) budget) v f) → lines ≡ map (line_of list) (v.lines ++ stop_events f) → end ≡ ending_of f → Every IsShort lines → IsTrace list script budget lines end
+pub worked : {list : DefsTerm} {script : ScriptTree} {budget : ℕ} {lines : List (List ℕ)} {end : Ending} (v : World) (f : Finish JobEnd Stop) (n : ℕ) → (let p : Program = record { list = list; script = script } in Runs (rule p) (short_act list) n (whole p) (first_world (realm_of list) budget) v f) → lines ≡ map (line_of list) (v.lines ++ stop_events f) → end ≡ ending_of f → Every IsShort lines → IsTrace list script budget lines end
 worked {list = list} {script = script} {budget = budget} {lines = lines} v f n runs told ended short =
     let p : Program = record { list = list; script = script } in
     record {

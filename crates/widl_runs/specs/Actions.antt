@@ -1,7 +1,7 @@
 -- Actions: the smallest things that a step of a script does to a world, or sees of it. A run is stopped here and nowhere else.
 -- Source: ECMA-262, the internal methods of objects and the operations on environment records; units, lines and stops are this program's own.
-use Rattle.std.specs.Prelude.{ℕ, ◌+◌, ◌-◌, nat_lt, Bool, true, false, if◌then◌else◌, decimal, List, [], ◌∷◌, ◌++◌, length, Option, None, Some, slice_get}
-use Rattle.std.specs.Option.{option_map_or}
+use Rattle.std.specs.Prelude.{ℕ, ◌+◌, ◌-◌, nat_lt, Bool, true, false, if◌then◌else◌, decimal, List, [], ◌∷◌, ◌++◌, length, map, filter, Option, None, Some, option_map, slice_get}
+use Rattle.std.specs.Option.{option_and_then, option_map_or}
 use Rattle.std.specs.declared.result.Result.{Result}
 use Rattle.std.specs.declared.result.Result.TheVariants as results
 use Rattle.widl_dialog.specs.Runs.{Did, Went, Stops}
@@ -19,17 +19,25 @@ use Rattle.widl_store.specs.declared.effects.Put.TheVariants as puts
 use Rattle.widl_store.specs.declared.effects.PutFault.{PutFault}
 use Rattle.widl_store.specs.declared.inner.Builtin.{Builtin}
 use Rattle.widl_store.specs.declared.inner.Builtin.TheVariants as builtins
+use Rattle.widl_store.specs.declared.inner.Turn.{Turn}
+use Rattle.widl_store.specs.declared.inner.Turn.TheVariants.{Idle}
 use Rattle.widl_store.specs.declared.property.Prop.{Prop}
 use Rattle.widl_store.specs.declared.property.Prop.TheVariants as props
-use Rattle.widl_store.specs.Inners.{InnerTerm, PlainPart, ArrayPart, ErrorPart, ScriptPart, BuiltinPart, InterfacePart}
-use Rattle.widl_store.specs.Objects.{Obj, with_objects, all_flags, own_at, plain_object, function_object}
+use Rattle.widl_store.specs.Inners.{InnerTerm, PlainPart, ArrayPart, ErrorPart, ScriptPart, BuiltinPart, InterfacePart, PairIteratorPart, ArrayIteratorPart, PromisePart}
+use Rattle.widl_store.specs.Objects.{Obj, with_objects, all_flags, flags_of, own_at, plain_object, function_object}
+use Rattle.widl_store.specs.OwnKeys.{is_index, is_name, is_symbol, number_of, keys_at}
 use Rattle.widl_store.specs.Found.{found_at}
 use Rattle.widl_store.specs.Plans.{function_entries}
-use Rattle.widl_store.specs.Effects.{is_fixed, put_of, put_in, define_of, defined, delete_of, deleted, added}
+use Rattle.widl_store.specs.Effects.{is_fixed, put_of, put_in, define_of, defined, delete_of, deleted, added, with_inner}
 use Rattle.widl_script_tree.specs.Trees.{Text}
 use Rattle.widl_trace.specs.EventTerms.{EventTerm}
 use Rattle.widl_sink.specs.Lines.{line_cost}
 use Rattle.widl_trace.specs.EventLines.{line_of}
+use Rattle.widl_convert.specs.declared.answer.CursorState.{CursorState}
+use Rattle.widl_convert.specs.declared.answer.CursorState.TheVariants as cursors
+use Rattle.widl_convert.specs.declared.answer.KindName.{KindName}
+use Rattle.widl_convert.specs.declared.answer.KindName.TheVariants as kinds
+use Rattle.widl_convert.specs.AskTerms.{AnswerTerm, KindAnswer, KeysAnswer, OwnAnswer, CursorAnswer}
 use Rattle.widl_runs.specs.declared.stop.Stop.{Stop}
 use Rattle.widl_runs.specs.declared.stop.Stop.TheVariants as stops
 use Rattle.widl_runs.specs.Worlds.{Context, World, named_value, bound_world, this_value, outer_contexts}
@@ -44,6 +52,10 @@ pub data NewObject : Type 0 where
   ArrayOf : List Value → NewObject
   -- a TypeError
   TypeErrorObject : NewObject
+  -- an ordinary object with these properties
+  ObjectOf : List (Key × Value) → NewObject
+  -- an iterator over the elements of this object
+  ArrayIteratorOf : ObjRef → NewObject
 
 -- what a call of an object does
 pub data Body : Type 0 where
@@ -74,6 +86,12 @@ pub data Action : Type 0 where
   PutProperty : ObjRef → Key → Value → Action
   DefineProperty : ObjRef → Key → Prop → Action
   DeleteProperty : ObjRef → Key → Action
+  -- the own keys of an object, and an own property of it
+  FindKeys : ObjRef → Action
+  FindOwn : ObjRef → Key → Action
+  -- the inner part of an object; an iterator over an array is moved on
+  FindInner : ObjRef → Action
+  MoveCursor : ObjRef → ℕ → Turn → Action
   -- an end of the profile, by its number
   Reach : ℕ → Action
 
@@ -86,6 +104,8 @@ pub data Reply : Type 0 where
   IsPut : Result Put PutFault → Reply
   IsDefined : Result (Unit {0}) DefineFault → Reply
   IsDeleted : Result (Unit {0}) refusal.NotConfigurable → Reply
+  AreKeys : List Key → Reply
+  IsInner : Option InnerTerm → Reply
 
 -- 1. What is in a reply. No other reply comes than the action gives; the last case of each is only there so that each reply has one
 
@@ -117,9 +137,18 @@ abbrev pub delete_result_in : Reply → Result (Unit {0}) refusal.NotConfigurabl
 delete_result_in (IsDeleted answer) = answer
 delete_result_in _ = results.Ok tt
 
+abbrev pub keys_in : Reply → List Key
+keys_in (AreKeys keys) = keys
+keys_in _ = []
+
+abbrev pub inner_in : Reply → Option InnerTerm
+inner_in (IsInner inner) = inner
+inner_in _ = None
+
 -- 2. New objects
 
--- the numbers that the initial store gives to Object.prototype, Function.prototype, Array.prototype and TypeError.prototype
+-- the numbers that the initial store gives to Object.prototype, Function.prototype, Array.prototype, TypeError.prototype and
+-- %ArrayIteratorPrototype%
 abbrev pub object_prototype : ObjRef
 object_prototype = plain_object 0
 
@@ -131,6 +160,9 @@ array_prototype = plain_object 2
 
 abbrev pub type_error_prototype : ObjRef
 type_error_prototype = plain_object 4
+
+abbrev pub array_iterator_prototype : ObjRef
+array_iterator_prototype = plain_object 7
 
 -- with these properties, defined one after another
 abbrev pub with_properties : List Obj → ℕ → List (Key × Prop) → List Obj
@@ -146,18 +178,26 @@ abbrev pub with_items : List Obj → ℕ → ℕ → List Value → List Obj
 with_items objects id index [] = objects
 with_items objects id index (item ∷ items) = with_items (defined objects id (keys.Name (decimal index)) (props.Plain item all_flags)) id (index + 1) items
 
+-- properties with all flags (ECMA-262, CreateDataProperty)
+abbrev pub data_properties : List (Key × Value) → List (Key × Prop)
+data_properties entries = map (λ (entry : Key × Value). (entry.0, props.Plain entry.1 all_flags)) entries
+
 -- the objects with a new one, whose number is the next
 abbrev pub with_new : List Obj → NewObject → List Obj
 with_new objects (Ordinary proto) = added objects proto shapes.Plain PlainPart
 with_new objects (ScriptFunction number name count) = with_function (added objects (Some function_prototype) shapes.Callable (ScriptPart number)) (length objects) name count
 with_new objects (ArrayOf items) = with_items (added objects (Some array_prototype) shapes.Plain ArrayPart) (length objects) 0 items
 with_new objects TypeErrorObject = added objects (Some type_error_prototype) shapes.Plain ErrorPart
+with_new objects (ObjectOf entries) = with_properties (added objects (Some object_prototype) shapes.Plain PlainPart) (length objects) (data_properties entries)
+with_new objects (ArrayIteratorOf object) = added objects (Some array_iterator_prototype) shapes.Plain (ArrayIteratorPart object 0 Idle)
 
 abbrev pub new_reference : ℕ → NewObject → ObjRef
 new_reference id (Ordinary proto) = plain_object id
 new_reference id (ScriptFunction number name count) = function_object id
 new_reference id (ArrayOf items) = plain_object id
 new_reference id TypeErrorObject = plain_object id
+new_reference id (ObjectOf entries) = plain_object id
+new_reference id (ArrayIteratorOf object) = plain_object id
 
 -- 3. What is seen of an object
 
@@ -185,6 +225,59 @@ abbrev pub is_put : Result Put PutFault → Bool
 is_put (results.Ok puts.Done) = true
 is_put (results.Ok (puts.Setter setter value)) = false
 is_put (results.Err fault) = false
+
+abbrev pub inner_at : List Obj → ObjRef → Option InnerTerm
+inner_at objects object = option_map (λ o. o.inner) (slice_get objects object.id)
+
+-- the keys that are indices rise, and then come the names and the symbols, each in the order of creation (ECMA-262, OrdinaryOwnPropertyKeys)
+abbrev pub with_index : Key → List Key → List Key
+with_index key [] = key ∷ []
+with_index key (other ∷ keys) = if nat_lt (number_of other) (number_of key) then other ∷ with_index key keys else key ∷ other ∷ keys
+
+abbrev pub by_index : List Key → List Key
+by_index [] = []
+by_index (key ∷ keys) = with_index key (by_index keys)
+
+abbrev pub own_keys_of : List Key → List Key
+own_keys_of keys = by_index (filter is_index keys) ++ (filter is_name keys ++ filter is_symbol keys)
+
+-- the kind of an object: functions of a script, built-in functions and interface objects are functions (ECMA-262, the built-in tags of
+-- Object.prototype.toString)
+abbrev pub kind_of_inner : InnerTerm → KindName
+kind_of_inner ArrayPart = kinds.Array
+kind_of_inner ErrorPart = kinds.Error
+kind_of_inner (ScriptPart number) = kinds.Function
+kind_of_inner (BuiltinPart function) = kinds.Function
+kind_of_inner (InterfacePart iface slots) = kinds.Function
+kind_of_inner (PromisePart state) = kinds.Promise
+kind_of_inner _ = kinds.Other
+
+-- how far an iterator has come; any other object is none
+abbrev pub cursor_of : InnerTerm → Option CursorState
+cursor_of (PairIteratorPart of kind next) = Some (cursors.Pairs of kind next)
+cursor_of (ArrayIteratorPart of next turn) = Some (cursors.Array of next turn)
+cursor_of _ = None
+
+-- what a look at an object shows
+abbrev pub kind_seen : Reply → AnswerTerm
+kind_seen r = KindAnswer (option_map_or kind_of_inner (inner_in r) kinds.Other)
+
+abbrev pub cursor_seen : Reply → AnswerTerm
+cursor_seen r = CursorAnswer (option_and_then cursor_of (inner_in r))
+
+abbrev pub keys_seen : Reply → AnswerTerm
+keys_seen r = KeysAnswer (keys_in r)
+
+abbrev pub own_seen : Reply → AnswerTerm
+own_seen r = OwnAnswer (option_map flags_of (property_in r))
+
+-- the objects with an iterator over an array moved on; iterators over pairs aren't moved yet
+abbrev pub moved_part : ℕ → Turn → InnerTerm → InnerTerm
+moved_part next turn (ArrayIteratorPart of _ _) = ArrayIteratorPart of next turn
+moved_part next turn inner = inner
+
+abbrev pub with_cursor : List Obj → ObjRef → ℕ → Turn → List Obj
+with_cursor objects object next turn = option_map_or (λ inner. with_inner objects object.id (moved_part next turn inner)) (inner_at objects object) objects
 
 -- 4. What an action does
 
@@ -225,4 +318,8 @@ act list (DefineProperty object key prop) w =
 act list (DeleteProperty object key) w =
     let answer = delete_of (own_at w.store.objects object.id key) in
     Went (if is_made answer then with_store w (deleted w.store.objects object.id key) else w) (IsDeleted answer)
+act list (FindKeys object) w = Went w (AreKeys (own_keys_of (keys_at w.store.objects object.id)))
+act list (FindOwn object key) w = Went w (IsProperty (own_at w.store.objects object.id key))
+act list (FindInner object) w = Went w (IsInner (inner_at w.store.objects object))
+act list (MoveCursor object next turn) w = Went (with_store w (with_cursor w.store.objects object next turn)) IsDone
 act list (Reach end) w = Stops (stops.Profile end)

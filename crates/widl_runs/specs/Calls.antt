@@ -1,6 +1,6 @@
 -- Calls: what is done where a value is called or constructs.
 -- Source: ECMA-262, Call, OrdinaryCallBindThis, OrdinaryCallEvaluateBody, Construct; the lines, the depth and the ends of the profile are this program's own.
-use Rattle.std.specs.Prelude.{ℕ, nat_lt, if◌then◌else◌, List, [], slice_index_or}
+use Rattle.std.specs.Prelude.{ℕ, false, List, [], slice_index_or}
 use Rattle.widl_dialog.specs.Dialog.{End, Say, Steps}
 use Rattle.widl_value.specs.declared.object.ObjRef.{ObjRef}
 use Rattle.widl_value.specs.declared.object.Shape.{Shape}
@@ -12,35 +12,38 @@ use Rattle.widl_store.specs.declared.inner.Builtin.TheVariants as builtins
 use Rattle.widl_script_tree.specs.Trees.{no_statements, FunctionTree, ScriptTree}
 use Rattle.widl_trace.specs.declared.code.Code.TheVariants as code
 use Rattle.widl_trace.specs.EventTerms.{EventTerm, CallEvent, NewEvent, ReturnEvent, ThrowEvent}
-use Rattle.widl_runs.specs.declared.completion.Completion.{Completion}
-use Rattle.widl_runs.specs.declared.completion.Completion.TheVariants.{Normal, Returned, Thrown}
+use Rattle.widl_convert.specs.Tasks.{TaskEnd, Gives, Plain, Picks, Throw, Rethrow, Profile}
+use Rattle.widl_calls.specs.CallTasks.{Function}
+use Rattle.widl_runs.specs.Ends.{JobEnd, Normal, Returned, Thrown, task_end_in}
 use Rattle.widl_runs.specs.Worlds.{function_context, builtin_context}
 use Rattle.widl_runs.specs.Actions.{Write, TestDepth, Enter, Leave, FindBody, Reply, body_in, Body, ScriptBody, BuiltinBody, NoBody}
-use Rattle.widl_runs.specs.Jobs.{Program, RunStatements, Doing, fails, reaches, never_run_end, not_yet_end}
-use Rattle.widl_runs.specs.Operations.{operation_of, operation}
+use Rattle.widl_runs.specs.Jobs.{Program, RunStatements, Talk, Fail, Doing, fails, reaches, not_yet_end}
 
 -- 1. How a call ends
 
--- the line of its end: a body that ends without `return` gives undefined
-abbrev pub end_line : Completion → EventTerm
+-- The line of its end: a body that ends without `return` gives undefined. The last case is never met: no body ends as a conversation or a look
+-- does.
+abbrev pub end_line : JobEnd → EventTerm
 end_line (Normal v) = ReturnEvent values.Undefined
 end_line (Returned v) = ReturnEvent v
 end_line (Thrown v) = ThrowEvent v
+end_line _ = ReturnEvent values.Undefined
 
-abbrev pub call_result : Completion → Completion
+abbrev pub call_result : JobEnd → JobEnd
 call_result (Normal v) = Normal values.Undefined
 call_result (Returned v) = Normal v
 call_result (Thrown v) = Thrown v
+call_result _ = Normal values.Undefined
 
 -- its context is left, and the call has this result
-abbrev pub ends_call : Completion → Reply → Doing
+abbrev pub ends_call : JobEnd → Reply → Doing
 ends_call c r = End (call_result c)
 
-abbrev pub leaves : Completion → Reply → Doing
+abbrev pub leaves : JobEnd → Reply → Doing
 leaves c r = Say Leave (ends_call c)
 
 -- Where the body has ended, the line `ret` or `thr` is written. Where the run was stopped in it, there is no such line.
-abbrev pub called : Completion → Doing
+abbrev pub called : JobEnd → Doing
 called c = Say (Write (end_line c)) (leaves c)
 
 -- 2. What a body does
@@ -52,34 +55,36 @@ function_in script number = slice_index_or script.functions number (record { nam
 abbrev pub begins_function : FunctionTree → Reply → Doing
 begins_function f r = Steps (RunStatements f.body) called
 
--- #8 to #14, functions of objects, arrays and iterators, aren't defined yet. `toString` of functions and of errors (#15, #16) and
--- `then` of promises (#17) are never run.
-abbrev pub intrinsic_end : ℕ → ℕ
-intrinsic_end number = if nat_lt number 15 then not_yet_end else never_run_end
+-- What the conversation of a function has come to: its value is returned, a new error or what was thrown before is thrown, and the run stops at an
+-- end of the profile. The cases `Gives` and `Picks` are never met: the conversation of a function ends with a value of the script.
+abbrev pub ends_talk : TaskEnd → Doing
+ends_talk (Gives w) = called (Returned values.Undefined)
+ends_talk (Plain v) = called (Returned v)
+ends_talk (Picks overload ws) = called (Returned values.Undefined)
+ends_talk (Throw reason) = Steps (Fail reason) called
+ends_talk (Rethrow v) = called (Thrown v)
+ends_talk (Profile end) = reaches end
 
--- a function that isn't written in the script
-abbrev pub built_in : Program → List Value → Builtin → Doing
-built_in p args (builtins.Intrinsic number) = reaches (intrinsic_end number)
-built_in p args (builtins.Callee callee) = operation called p callee args (operation_of p.list callee)
-built_in p args (builtins.InterfaceObject iface) = reaches not_yet_end
-built_in p args (builtins.Pairs iface what) = reaches not_yet_end
+abbrev pub talked : JobEnd → Doing
+talked end = ends_talk (task_end_in end)
 
-abbrev pub begins_builtin : Program → List Value → Builtin → Reply → Doing
-begins_builtin p args function r = built_in p args function
+-- a function that isn't written in the script: its steps are a conversation
+abbrev pub begins_builtin : ObjRef → Builtin → Value → List Value → Reply → Doing
+begins_builtin f function this args r = Steps (Talk (Function f function this args false)) talked
 
 -- The body is done in a context of its own: that of a function of the script has its parameters and `this`.
-abbrev pub body : Program → Value → List Value → Body → Doing
-body p this args (ScriptBody number) = let f = function_in p.script number in Say (Enter (function_context f this args)) (begins_function f)
-body p this args (BuiltinBody function) = Say (Enter (builtin_context this)) (begins_builtin p args function)
-body p this args NoBody = reaches not_yet_end
+abbrev pub body : Program → ObjRef → Value → List Value → Body → Doing
+body p f this args (ScriptBody number) = let function = function_in p.script number in Say (Enter (function_context function this args)) (begins_function function)
+body p f this args (BuiltinBody function) = Say (Enter (builtin_context this)) (begins_builtin f function this args)
+body p f this args NoBody = reaches not_yet_end
 
 -- 3. The call
 
-abbrev pub begins_body : Program → Value → List Value → Body → Reply → Doing
-begins_body p this args b r = body p this args b
+abbrev pub begins_body : Program → ObjRef → Value → List Value → Body → Reply → Doing
+begins_body p f this args b r = body p f this args b
 
 abbrev pub call_line : Program → ObjRef → Value → List Value → Body → Reply → Doing
-call_line p f this args b r = Say (Write (CallEvent f this args)) (begins_body p this args b)
+call_line p f this args b r = Say (Write (CallEvent f this args)) (begins_body p f this args b)
 
 -- Where as many calls are open as may be, the run stops. Else the line is written, and the body is done.
 abbrev pub enters : Program → ObjRef → Value → List Value → Body → Doing

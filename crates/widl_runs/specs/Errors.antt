@@ -5,7 +5,7 @@ use Rattle.widl_value.specs.declared.object.ObjRef.{ObjRef}
 use Rattle.widl_value.specs.declared.value.Value.TheVariants as values
 use Rattle.widl_trace.specs.declared.code.Code.{Code}
 use Rattle.widl_trace.specs.EventTerms.{ErrorEvent}
-use Rattle.widl_runs.specs.declared.completion.Completion.TheVariants.{Thrown}
+use Rattle.widl_runs.specs.Ends.{Thrown}
 use Rattle.widl_runs.specs.Actions.{Pay, Write, AddObject, TypeErrorObject, Reply, object_in}
 use Rattle.widl_runs.specs.Jobs.{Doing}
 

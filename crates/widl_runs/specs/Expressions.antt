@@ -6,7 +6,7 @@ use Rattle.widl_value.specs.declared.value.Value.{Value}
 use Rattle.widl_value.specs.declared.value.Value.TheVariants as values
 use Rattle.widl_script_tree.specs.Trees.{ExpressionTree, UndefinedT, NullT, ThisT, NewSymbolT, NewObjectT, BoolT, NumberT, TextT, NameT, SymbolT, ObjectOfT, NewArrayT, MemberT, IndexT, CallT, NewT, CallWithT, ExpressionTrees, none, more, NamedT, ComputedT}
 use Rattle.widl_trace.specs.declared.code.Code.TheVariants as code
-use Rattle.widl_runs.specs.declared.completion.Completion.TheVariants.{Normal}
+use Rattle.widl_runs.specs.Ends.{Normal}
 use Rattle.widl_runs.specs.Actions.{Pay, ReadThis, ReadName, TakeSymbol, AddObject, NewObject, Ordinary, ArrayOf, Reply, object_in, object_prototype}
 use Rattle.widl_runs.specs.Jobs.{RowUse, ForArguments, ForNew, ForItems, ForRead, ForCall, Evaluate, EvaluateRow, CallValue, ConstructValue, Doing, value, gives, fails}
 use Rattle.widl_runs.specs.Members.{member, calls_with}

@@ -5,11 +5,11 @@ use Rattle.widl_dialog.specs.Dialog.{Dialog, End, Say, Steps}
 use Rattle.widl_idl.specs.DefinitionTerms.{DefsTerm}
 use Rattle.widl_value.specs.declared.value.Value.{Value}
 use Rattle.widl_value.specs.declared.value.Value.TheVariants as values
-use Rattle.widl_script_tree.specs.declared.steps.StepLine.{StepLine}
 use Rattle.widl_script_tree.specs.Trees.{Text, ExpressionTree, ExpressionTrees, StatementTree, StatementTrees, ScriptTree}
 use Rattle.widl_trace.specs.declared.code.Code.{Code}
-use Rattle.widl_runs.specs.declared.completion.Completion.{Completion}
-use Rattle.widl_runs.specs.declared.completion.Completion.TheVariants.{Normal, Returned, Thrown}
+use Rattle.widl_convert.specs.AskTerms.{AskTerm}
+use Rattle.widl_calls.specs.CallTasks.{CallTask}
+use Rattle.widl_runs.specs.Ends.{JobEnd, Normal, Returned, Thrown, Talked, Seen}
 use Rattle.widl_runs.specs.Actions.{Action, Reach, Reply, value_in}
 
 -- a script, and the list of definitions that it runs over
@@ -56,23 +56,26 @@ pub data Job : Type 0 where
   -- a function, `this`, the arguments
   CallValue : Value → Value → List Value → Job
   ConstructValue : Value → List Value → Job
-  -- the arguments of an operation, and its steps that are left
-  RunSteps : List Value → List StepLine → Job
+  -- a task of a conversation, and an ask of one
+  Talk : CallTask → Job
+  Asked : AskTerm → Job
   Fail : Code → Job
 
 -- the steps of a job
 abbrev pub Doing : Type 0
-Doing = Dialog Job Action Reply Completion
+Doing = Dialog Job Action Reply JobEnd
 
 -- nothing more is done, and there is no value
 abbrev pub nothing : Doing
 nothing = End (Normal values.Undefined)
 
--- goes on with a value, and ends by any other completion (ECMA-262, ReturnIfAbrupt)
-abbrev pub value : (Value → Doing) → Completion → Doing
+-- goes on with a value, and ends as the job did where that ended otherwise (ECMA-262, ReturnIfAbrupt)
+abbrev pub value : (Value → Doing) → JobEnd → Doing
 value k (Normal v) = k v
 value k (Returned v) = End (Returned v)
 value k (Thrown v) = End (Thrown v)
+value k (Talked end) = End (Talked end)
+value k (Seen answer) = End (Seen answer)
 
 -- the value isn't used
 abbrev pub drops : Value → Doing
@@ -86,13 +89,10 @@ gives r = End (Normal (value_in r))
 abbrev pub fails : Code → Doing
 fails code = Steps (Fail code) End
 
--- the ends of the profile that a run can reach, by their numbers (this program's own): the length of an array is set or defined;
--- a function is called that no run does; a member is asked of a primitive value; a function isn't defined yet
+-- the ends of the profile that a script's own steps can reach, by their numbers (this program's own): the length of an array is set or
+-- defined; a member is asked of a primitive value; an interface object constructs, which isn't defined yet
 abbrev pub array_length_end : ℕ
 array_length_end = 2
-
-abbrev pub never_run_end : ℕ
-never_run_end = 3
 
 abbrev pub primitive_member_end : ℕ
 primitive_member_end = 4

@@ -1,12 +1,13 @@
+pub mod Ends
 pub mod Worlds
 pub mod Actions
 pub mod Jobs
 pub mod Errors
-pub mod Operations
 pub mod Calls
 pub mod Members
 pub mod Expressions
 pub mod Statements
+pub mod Asks
 pub mod Rules
 pub mod Traces
 pub mod Fitting

@@ -24,7 +24,7 @@ use Rattle.widl_store.specs.declared.property.Prop.{Prop}
 use Rattle.widl_store.specs.declared.property.Prop.TheVariants as props
 use Rattle.widl_script_tree.specs.Trees.{Text, ExpressionTree, ExpressionTrees, MemberTree, NamedT, ComputedT}
 use Rattle.widl_trace.specs.declared.code.Code.TheVariants as code
-use Rattle.widl_runs.specs.declared.completion.Completion.TheVariants.{Normal}
+use Rattle.widl_runs.specs.Ends.{Normal}
 use Rattle.widl_runs.specs.Actions.{FindProperty, PutProperty, DefineProperty, DeleteProperty, Reply, property_in, put_result_in, define_result_in, delete_result_in}
 use Rattle.widl_runs.specs.Jobs.{KeyPart, Named, Computed, MemberUse, ForRead, ForCall, ForSet, ForDefine, ForAccessor, ForDelete, ForArguments, Evaluate, EvaluateRow, ReadMember, SetMember, DefineMember, DefineAccessor, DeleteMember, CallValue, Doing, nothing, value, drops, fails, reaches, array_length_end, primitive_member_end}
 use Rattle.widl_runs.specs.Calls.{callable}

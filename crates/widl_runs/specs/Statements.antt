@@ -8,8 +8,7 @@ use Rattle.widl_value.specs.declared.value.Value.{Value}
 use Rattle.widl_value.specs.declared.value.Value.TheVariants as values
 use Rattle.widl_script_tree.specs.Trees.{Text, ExpressionTree, StatementTree, LetT, DoT, ReturnT, ThrowT, ShowT, SetT, DefineT, DefineAccessorT, DeleteT, TryT, IfT, FunctionT, StepsT, StatementTrees, no_statements, then_more}
 use Rattle.widl_trace.specs.EventTerms.{ShowEvent}
-use Rattle.widl_runs.specs.declared.completion.Completion.{Completion}
-use Rattle.widl_runs.specs.declared.completion.Completion.TheVariants.{Normal, Returned, Thrown}
+use Rattle.widl_runs.specs.Ends.{JobEnd, Returned, Thrown}
 use Rattle.widl_runs.specs.Actions.{Pay, Write, BindName, AddObject, ScriptFunction, Reply, object_in}
 use Rattle.widl_runs.specs.Jobs.{RunStatements, RunStatement, Evaluate, ForSet, ForDefine, ForAccessor, ForDelete, Doing, nothing, value, drops}
 use Rattle.widl_runs.specs.Members.{member}
@@ -58,10 +57,9 @@ same_value _ _ = false
 abbrev pub begins_handler : StatementTrees → Reply → Doing
 begins_handler handler r = Steps (RunStatements handler) End
 
-abbrev pub caught : Text → StatementTrees → Completion → Doing
-caught name handler (Normal v) = End (Normal v)
-caught name handler (Returned v) = End (Returned v)
+abbrev pub caught : Text → StatementTrees → JobEnd → Doing
 caught name handler (Thrown v) = Say (BindName name v) (begins_handler handler)
+caught name handler end = End end
 
 abbrev pub chooses : Value → StatementTrees → StatementTrees → Value → Doing
 chooses left met unmet right = if same_value left right then Steps (RunStatements met) End else Steps (RunStatements unmet) End

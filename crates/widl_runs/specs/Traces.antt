@@ -9,8 +9,7 @@ use Rattle.widl_store.specs.Realm.{realm_of}
 use Rattle.widl_script_tree.specs.Trees.{ScriptTree}
 use Rattle.widl_trace.specs.EventTerms.{EventTerm, DoneEvent, UncaughtEvent, BudgetStop, DepthStop, ProfileStop}
 use Rattle.widl_trace.specs.EventLines.{line_of}
-use Rattle.widl_runs.specs.declared.completion.Completion.{Completion}
-use Rattle.widl_runs.specs.declared.completion.Completion.TheVariants.{Normal, Returned, Thrown}
+use Rattle.widl_runs.specs.Ends.{JobEnd, Thrown}
 use Rattle.widl_runs.specs.declared.stop.Stop.{Stop}
 use Rattle.widl_runs.specs.declared.stop.Stop.TheVariants as stops
 use Rattle.widl_runs.specs.Worlds.{World}
@@ -19,21 +18,20 @@ use Rattle.widl_runs.specs.Jobs.{Program, RunStatements, Doing}
 use Rattle.widl_runs.specs.Rules.{rule}
 
 -- the steps, done in a world, lead to another world and finish so
-abbrev pub Run : Program → Doing → World → World → Finish Completion Stop → Type 0
+abbrev pub Run : Program → Doing → World → World → Finish JobEnd Stop → Type 0
 Run p = Does (rule p) (act p.list)
 
 -- 1. A whole script
 
--- the last line, which is paid like any other; the completion stays
-abbrev pub end_event : Completion → EventTerm
-end_event (Normal v) = DoneEvent
-end_event (Returned v) = DoneEvent
+-- the last line, which is paid like any other; the end stays
+abbrev pub end_event : JobEnd → EventTerm
 end_event (Thrown v) = UncaughtEvent v
+end_event _ = DoneEvent
 
-abbrev pub ends_script : Completion → Reply → Doing
+abbrev pub ends_script : JobEnd → Reply → Doing
 ends_script c r = End c
 
-abbrev pub last_line : Completion → Doing
+abbrev pub last_line : JobEnd → Doing
 last_line c = Say (Write (end_event c)) (ends_script c)
 
 -- the statements outside functions, then the last line
@@ -52,11 +50,10 @@ pub data Ending : Type 0 where
   EndsUncaught : Ending
   EndsStopped : Stop → Ending
 
-abbrev pub ending_of : Finish Completion Stop → Ending
-ending_of (Ended (Normal v)) = EndsDone
-ending_of (Ended (Returned v)) = EndsDone
-ending_of (Ended (Thrown v)) = EndsUncaught
+abbrev pub ending_of : Finish JobEnd Stop → Ending
 ending_of (Halted s) = EndsStopped s
+ending_of (Ended (Thrown v)) = EndsUncaught
+ending_of (Ended _) = EndsDone
 
 abbrev pub stop_event : Stop → EventTerm
 stop_event stops.Budget = BudgetStop
@@ -64,15 +61,15 @@ stop_event stops.Depth = DepthStop
 stop_event (stops.Profile end) = ProfileStop end
 
 -- the line of a stop comes last and is free; where the run stopped at its last line, it stands in place of that
-abbrev pub stop_events : Finish Completion Stop → List EventTerm
+abbrev pub stop_events : Finish JobEnd Stop → List EventTerm
 stop_events (Ended c) = []
 stop_events (Halted s) = stop_event s ∷ []
 
--- Over the list of definitions the script, with this budget, has these lines and ends so. This is there for every budget.
+-- Over the list of definitions the script, with this budget, has these lines and ends so. Each budget has such a trace.
 pub record IsTrace (list : DefsTerm) (script : ScriptTree) (budget : ℕ) (lines : List (List ℕ)) (end : Ending) : Type 0 where
   -- the world in which the run ends, and how it finishes there
   pub world : World
-  pub finish : Finish Completion Stop
+  pub finish : Finish JobEnd Stop
   pub runs : let p : Program = record { list = list; script = script } in Run p (whole p) (first_world (realm_of list) budget) world finish
   pub written : lines ≡ map (line_of list) (world.lines ++ stop_events finish)
   pub ended : end ≡ ending_of finish

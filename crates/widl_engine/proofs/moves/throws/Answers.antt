@@ -3,8 +3,7 @@ use Rattle.widl_value.specs.declared.object.ObjRef.{ObjRef}
 use Rattle.widl_trace.specs.declared.code.Code.{Code}
 use Rattle.widl_trace.specs.declared.event.Event.{Event}
 use Rattle.widl_trace.specs.declared.event.Event.TheVariants as events
-use Rattle.widl_script_tree.specs.Tables.{Tables}
-use Rattle.widl_runs.specs.Jobs.{Program, nothing}
+use Rattle.widl_runs.specs.Jobs.{nothing}
 use Rattle.widl_engine.specs.Frames.{move_of, throws_by}
 use Rattle.widl_engine.proofs.moves.throws.Goals.{in-Error, in_default}
 use Rattle.widl_engine.proofs.moves.throws.Goals as goal
@@ -33,6 +32,6 @@ other_line (events.StopProfile number) other = refl
 
 pub returns : goal.returns
 returns c = λ p s. elim c.match-event.branch [
-  | in-Error w ↦ ap (move_of p s) w.result-is ∙ ap throws_by (sym w.in-Error.is)
+  | in-Error w ↦ ap (move_of p s) w.result-is ∙ w.completes.ensures p s ∙ ap throws_by (sym w.in-Error.is)
   | in_default w ↦ ap (move_of p s) w.result-is ∙ w.ends.ensures p s ∙ other_line c.args.event w.in_default.not-Error
 ]

@@ -16,7 +16,7 @@ pub returns-in-Ended-clause-run : goal.returns-in-Ended-clause-run
 returns-in-Ended-clause-run g c =
     run_ended (program_of c.args.tables.now c.args.script.now) c.args.budget c.args.store c.requires.store
     (output (g.K.Sink.held c.args.out.now) c.args.writer.now) (output (g.K.Sink.held c.drive-way.new.out) c.drive-way.new.writer) (output (g.K.Sink.held c.drive-way.new.out) c.drive-way.new.writer)
-    c.drive-way.result.0 c.drive-way.result.1 c.drive-way.ensures.run c.in-Ended.completion c.ended.result c.in-Ended.is c.ended.ensures
+    c.drive-way.result.0 c.drive-way.result.1 c.drive-way.ensures.run c.in-Ended.end c.ended.result c.in-Ended.is c.ended.ensures
 
 pub returns-in-Stopped-clause-run : goal.returns-in-Stopped-clause-run
 returns-in-Stopped-clause-run g c =

@@ -1,7 +1,8 @@
 use Rattle.std.proofs.Common.{[], ◌∷◌, ◌++◌, ◌∙◌, ap, refl, sym}
 use Rattle.widl_script_tree.specs.declared.row.Row.{Row}
 use Rattle.widl_value.specs.declared.value.Value.TheVariants.{Undefined}
-use Rattle.widl_runs.specs.declared.completion.Completion.TheVariants.{Normal}
+use Rattle.widl_engine.specs.declared.ends.Completion.TheVariants as completions
+use Rattle.widl_engine.specs.declared.ends.JobEnd.TheVariants.{Completed as completed}
 use Rattle.widl_engine.specs.declared.frames.Frame.TheVariants as frame
 use Rattle.widl_engine.specs.declared.frames.ValueFrame.TheVariants as goes_on
 use Rattle.widl_engine.specs.declared.machine.Machine.{Machine}
@@ -20,6 +21,6 @@ returns-in-Ok c =
 
 pub returns-in-Ok-push : goal.returns-in-Ok-push
 returns-in-Ok-push c =
-    then_advances (program_of c.args.tables.now c.args.script.now) c.args.script.now c.args.store.now c.args.store.now c.advance.new.store (move.Gives (Normal Undefined)) (move.Gives (Normal Undefined)) c.args.self.now _ c.advance.new.self c.advance.result
-    (put_back (program_of c.args.tables.now c.args.script.now) c.args.script.now c.args.store.now c.args.self.now _ (Normal Undefined) refl (c.in-Ok-push.ensures ∙ sym c.in-Some.ensures.some) refl refl)
+    then_advances (program_of c.args.tables.now c.args.script.now) c.args.script.now c.args.store.now c.args.store.now c.advance.new.store (move.Gives (completed (completions.Normal Undefined))) (move.Gives (completed (completions.Normal Undefined))) c.args.self.now _ c.advance.new.self c.advance.result
+    (put_back (program_of c.args.tables.now c.args.script.now) c.args.script.now c.args.store.now c.args.self.now _ (completed (completions.Normal Undefined)) refl (c.in-Ok-push.ensures ∙ sym c.in-Some.ensures.some) refl refl)
     c.advance.ensures

@@ -1,0 +1,58 @@
+-- For proofs alone. An iterator moved on, and an object that is none.
+use Rattle.std.proofs.Common.{◌≡◌, ℕ, zero, suc, List, [], ◌∷◌, Option, Some, None, refl, sym, ◌∙◌, ap}
+use Rattle.std.specs.Prelude.{slice_get, slice_set}
+use Rattle.std.specs.Option.{option_map, option_map_or}
+use Rattle.widl_dialog.specs.Runs.{Went}
+use Rattle.widl_value.specs.declared.object.ObjRef.{ObjRef}
+use Rattle.widl_script_tree.specs.Tables.{Tables}
+use Rattle.widl_store.specs.Effects.{with_inner, with_part}
+use Rattle.widl_store.specs.Inners.{InnerTerm, InnerKind, ArrayIteratorPart, kind_of}
+use Rattle.widl_store.specs.Objects.{Obj, StoreState, with_objects}
+use Rattle.widl_store.specs.declared.inner.Turn.{Turn}
+use Rattle.widl_runs.specs.Actions.{IsDone, inner_at, moved_part, with_cursor}
+use Rattle.widl_runs.specs.Jobs.{Program, nothing}
+use Rattle.widl_engine.specs.declared.contexts.Place.{Place}
+use Rattle.widl_engine.specs.declared.due.Due.TheVariants as due
+use Rattle.widl_engine.specs.declared.moves.Move.{Move}
+use Rattle.widl_engine.specs.Frames.{move_of}
+use Rattle.widl_engine.specs.Place.{Performed, world_of}
+use Rattle.widl_engine.proofs.Acting.{Done, performed}
+
+set_same : (objects : List Obj) (id : ℕ) (o : Obj) → slice_get objects id ≡ Some o → slice_set objects id o ≡ objects
+set_same [] id o is = absurd (let bad : None ≡ Some o = is in cc)
+set_same (x ∷ xs) zero o is = let one : x ≡ o = (let f : Some x ≡ Some o = is in cc) in ap (λ (y : Obj). y ∷ xs) (sym one)
+set_same (x ∷ xs) (suc id) o is = ap (λ (ys : List Obj). x ∷ ys) (set_same xs id o is)
+
+-- the objects by the inner part that is there
+cursor_by : (objects : List Obj) (object : ObjRef) (next : ℕ) (turn : Turn) (inner : InnerTerm) → inner_at objects object ≡ Some inner → with_cursor objects object next turn ≡ with_inner objects object.id (moved_part next turn inner)
+cursor_by objects object next turn inner is = ap (λ (o : Option InnerTerm). option_map_or (λ x. with_inner objects object.id (moved_part next turn x)) o objects) is
+
+-- an inner part that stays as it is
+still_part : (objects : List Obj) (id : ℕ) (inner : InnerTerm) → option_map (λ (o : Obj). o.inner) (slice_get objects id) ≡ Some inner → with_inner objects id inner ≡ objects
+still_part objects id inner is = by (slice_get objects id) refl is
+  where
+    by : (found : Option Obj) → slice_get objects id ≡ found → option_map (λ (o : Obj). o.inner) found ≡ Some inner → option_map_or (λ o. slice_set objects id (with_part o inner)) found objects ≡ objects
+    by None at same = absurd (let bad : None ≡ Some inner = same in cc)
+    by (Some o) at same =
+        let part : o.inner ≡ inner = (let f : Some o.inner ≡ Some inner = same in cc) in
+        ap (λ (i : InnerTerm). slice_set objects id (with_part o i)) (sym part) ∙ set_same objects id o at
+
+stays : (objects : List Obj) (object : ObjRef) (next : ℕ) (turn : Turn) (inner : InnerTerm) → inner_at objects object ≡ Some inner → moved_part next turn inner ≡ inner → objects ≡ with_cursor objects object next turn
+stays objects object next turn inner is still =
+    sym (cursor_by objects object next turn inner is ∙ ap (with_inner objects object.id) still ∙ still_part objects object.id inner is)
+
+-- in the world of a place
+cursor_performed : (p : Program) (s : Tables) (t u : StoreState) (x : Place) (object : ObjRef) (n : ℕ) (turn : Turn) (next : Move) → u ≡ with_objects t (with_cursor t.objects object n turn) → move_of p s next ≡ nothing → Performed p s (due.MoveCursor object n turn) t x u x next
+cursor_performed p s t u x object n turn next is goes = performed IsDone (λ k ls. ap (λ (v : StoreState). let d : Done = Went (world_of s v x k ls) IsDone in d) (sym is)) goes
+
+pub not_moved : (p : Program) (s : Tables) (t : StoreState) (x : Place) (object : ObjRef) (n : ℕ) (turn : Turn) (next : Move) (inner : InnerTerm) → inner_at t.objects object ≡ Some inner → moved_part n turn inner ≡ inner → move_of p s next ≡ nothing → Performed p s (due.MoveCursor object n turn) t x t x next
+not_moved p s t x object n turn next inner is still goes = cursor_performed p s t t x object n turn next (ap (with_objects t) (stays t.objects object n turn inner is still)) goes
+
+pub moved_on : (p : Program) (s : Tables) (t u : StoreState) (x : Place) (object of : ObjRef) (n : ℕ) (turn : Turn) (next : Move) (inner : InnerTerm) → inner_at t.objects object ≡ Some inner → moved_part n turn inner ≡ ArrayIteratorPart of n turn → u ≡ with_objects t (with_inner t.objects object.id (ArrayIteratorPart of n turn)) → move_of p s next ≡ nothing → Performed p s (due.MoveCursor object n turn) t x u x next
+moved_on p s t u x object of n turn next inner is moved done goes =
+    cursor_performed p s t u x object n turn next (done ∙ ap (with_objects t) (sym (cursor_by t.objects object n turn inner is ∙ ap (with_inner t.objects object.id) moved))) goes
+
+-- an object's kind by its inner part
+pub kind_by : (o : Option Obj) (inner : InnerTerm) (kind : InnerKind) → option_map (λ (x : Obj). x.inner) o ≡ Some inner → kind_of inner ≡ kind → option_map (λ (x : Obj). kind_of x.inner) o ≡ Some kind
+kind_by None inner kind is same = absurd (let bad : None ≡ Some inner = is in cc)
+kind_by (Some o) inner kind is same = ap Some (ap kind_of (let f : Some o.inner ≡ Some inner = is in let e : o.inner ≡ inner = cc in e) ∙ same)

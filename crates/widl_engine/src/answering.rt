@@ -1,0 +1,295 @@
+//! Conversations begin, and go on with the end of the work of an ask.
+
+ghost use Rattle.std.specs.Prelude.{◌≡◌, ◌<◌, ◌^◌, IfOk, Some, length};
+ghost use Rattle.widl_dialog.specs.Dialog.{End, Steps};
+ghost use Rattle.widl_script_tree.specs.Tables.{Tables as ScriptTables};
+ghost use Rattle.widl_convert.specs.AskTerms.{answer_term, ask_term, kind_of as the_kind_of};
+ghost use Rattle.widl_convert.specs.Frames.{end_of};
+ghost use Rattle.widl_convert.specs.Records.{flags_in as the_flags_in, keys_in as the_keys_in};
+ghost use Rattle.widl_calls.specs.ArrayFunctions.{cursor_in as the_cursor_in};
+ghost use Rattle.widl_calls.specs.ObjectFunctions.{kind_in as the_kind_in};
+ghost use Rattle.widl_calls.specs.Operations.{lines_of};
+ghost use Rattle.widl_calls.specs.Stack.{CallExpects, call_pending, call_rest};
+ghost use Rattle.widl_runs.specs.Asks.{in_world};
+ghost use Rattle.widl_runs.specs.Ends.{JobEnd as Ended, Talked, answer_by, answer_of, completion_answer as the_completion_answer, new_object_in as the_new_object_in, plain_in as the_plain_in, seen_in as the_seen_in};
+ghost use Rattle.widl_runs.specs.Jobs.{Asked, Program};
+ghost use Rattle.widl_runs.specs.Rules.{rule};
+ghost use Rattle.widl_engine.specs.AskKinds.{ask_kind_of};
+ghost use Rattle.widl_engine.specs.Frames.{LeadsTo, back_to, job_end_of, job_of, move_of, program_of};
+ghost use Rattle.widl_engine.specs.Conversing.{IsNextMove, IsWaiting};
+ghost use Rattle.widl_engine.specs.ReadOver.{IsReadOver};
+
+use crate::ends::{Completion, JobEnd};
+use crate::frames::Frame;
+use crate::jobs::Job;
+use crate::moves::Move;
+use crate::new_objects::OBJECT_PROTOTYPE;
+use crate::suspended::{AskKind, Suspended};
+use std::alloc::{AllocError, Global};
+use widl_calls::CallAsker;
+use widl_convert::{Answer, Ask, CursorState, Ending, KindName, Next};
+use widl_script_tree::Script;
+use widl_store::Builtin;
+use widl_tables::Tables;
+use widl_value::{Flags, Keys, ObjRef, Shape, Value, Values};
+
+/// The kind of an ask.
+fn kind_of(ask: &Ask) -> AskKind
+    ensures { ask_kind_of result ≡ the_kind_of (ask_term ask.now) }
+{
+    match ask {
+        Ask::Get { .. } => AskKind::Get,
+        Ask::Call { .. } => AskKind::Call,
+        Ask::Kind(_) => AskKind::Kind,
+        Ask::Unit => AskKind::Unit,
+        Ask::Note(_) => AskKind::Note,
+        Ask::OwnKeys(_) => AskKind::OwnKeys,
+        Ask::Own { .. } => AskKind::Own,
+        Ask::NewArray(_) => AskKind::NewArray,
+        Ask::NewObject(_) => AskKind::NewObject,
+        Ask::NewArrayIterator(_) => AskKind::NewArrayIterator,
+        Ask::Cursor(_) => AskKind::Cursor,
+        Ask::SetCursor { .. } => AskKind::SetCursor,
+    }
+}
+
+/// The answer of a read or a call.
+fn completion_answer(end: JobEnd) -> Answer
+    ensures { answer_term result ≡ the_completion_answer (job_end_of end) }
+{
+    match end {
+        JobEnd::Completed(Completion::Normal(value)) => Answer::Normal(value),
+        JobEnd::Completed(Completion::Returned(_)) => Answer::Normal(Value::Undefined),
+        JobEnd::Completed(Completion::Thrown(value)) => Answer::Thrown(value),
+        JobEnd::Talked(_) => Answer::Normal(Value::Undefined),
+        JobEnd::Seen(_) => Answer::Normal(Value::Undefined),
+    }
+}
+
+/// What a look at an object has shown.
+fn seen_in(end: JobEnd) -> Answer
+    ensures { answer_term result ≡ the_seen_in (job_end_of end) }
+{
+    match end {
+        JobEnd::Seen(answer) => answer,
+        JobEnd::Completed(Completion::Normal(_)) => Answer::Begin,
+        JobEnd::Completed(Completion::Returned(_)) => Answer::Begin,
+        JobEnd::Completed(Completion::Thrown(_)) => Answer::Begin,
+        JobEnd::Talked(_) => Answer::Begin,
+    }
+}
+
+/// The kind of an object in an answer.
+fn kind_in(answer: Answer) -> KindName
+    ensures { result ≡ the_kind_in (answer_term answer) }
+{
+    match answer {
+        Answer::Kind(kind) => kind,
+        _ => KindName::Other,
+    }
+}
+
+/// The keys in an answer.
+fn keys_in(alloc: Global, answer: Answer) -> Keys
+    ensures { result ≡ the_keys_in (answer_term answer) }
+{
+    match answer {
+        Answer::Keys(keys) => keys,
+        _ => Keys::new(alloc),
+    }
+}
+
+/// The flags in an answer.
+fn flags_in(answer: Answer) -> Option<Flags>
+    ensures { result ≡ the_flags_in (answer_term answer) }
+{
+    match answer {
+        Answer::Own(flags) => flags,
+        _ => None,
+    }
+}
+
+/// How far an iterator has come, in an answer.
+fn cursor_in(answer: Answer) -> Option<CursorState>
+    ensures { result ≡ the_cursor_in (answer_term answer) }
+{
+    match answer {
+        Answer::Cursor(state) => state,
+        _ => None,
+    }
+}
+
+/// The object, where it can't be called and is no platform object, as no new object is.
+fn plain_in(obj: ObjRef) -> ObjRef
+    ensures { result ≡ the_plain_in obj obj.shape }
+{
+    match obj.shape {
+        Shape::Plain => obj,
+        Shape::Callable => OBJECT_PROTOTYPE,
+        Shape::Platform(_) => OBJECT_PROTOTYPE,
+    }
+}
+
+/// The new object in the end of its making.
+fn new_object_in(end: JobEnd) -> ObjRef
+    ensures { result ≡ the_new_object_in (job_end_of end) }
+{
+    match end {
+        JobEnd::Completed(Completion::Normal(Value::Obj(obj))) => plain_in(obj),
+        _ => OBJECT_PROTOTYPE,
+    }
+}
+
+/// The answer of an ask, by its kind and the end of its work.
+fn answer(alloc: Global, kind: AskKind, end: JobEnd) -> Answer
+    ensures { answer_term result ≡ answer_by (ask_kind_of kind) (job_end_of end) }
+{
+    match kind {
+        AskKind::Get | AskKind::Call => completion_answer(end),
+        AskKind::Kind => Answer::Kind(kind_in(seen_in(end))),
+        AskKind::Unit | AskKind::Note | AskKind::SetCursor => Answer::Done,
+        AskKind::OwnKeys => Answer::Keys(keys_in(alloc, seen_in(end))),
+        AskKind::Own => Answer::Own(flags_in(seen_in(end))),
+        AskKind::NewArray | AskKind::NewObject | AskKind::NewArrayIterator => {
+            Answer::Normal(Value::Obj(new_object_in(end)))
+        }
+        AskKind::Cursor => Answer::Cursor(cursor_in(seen_in(end))),
+    }
+}
+
+/// The frame of a conversation that waits for the end of an ask's work.
+///
+/// # Errors
+///
+/// `AllocError` where there is no memory.
+fn suspend(alloc: Global, asker: CallAsker, kind: AskKind) -> Result<Frame, AllocError>
+    requires { call_pending asker ≡ Some (ask_kind_of kind) }
+    ensures { IfOk result (λ f. (p : Program) (s : ScriptTables) (e : Ended) → back_to p s f e ≡ in_world (call_rest p.list (lines_of p.list p.script) asker (answer_by (ask_kind_of kind) e))) }
+{
+    let suspended = Box::new(alloc, Suspended { asker, kind })?;
+    Ok(Frame::Suspended(suspended))
+}
+
+/// The move of a conversation that asks this, and waits.
+///
+/// # Errors
+///
+/// `AllocError` where there is no memory.
+fn waits(alloc: Global, asker: CallAsker, ask: Ask) -> Result<Move, AllocError>
+    requires { call_pending asker ≡ Some (the_kind_of (ask_term ask)) }
+    ensures { IfOk result (λ m. (p : Program) (s : ScriptTables) → move_of p s m ≡ Steps (Asked (ask_term ask)) (λ end. in_world (call_rest p.list (lines_of p.list p.script) asker (answer_of (ask_term ask) end)))) }
+{
+    let frame = suspend(alloc, asker, kind_of(&ask))?;
+    Ok(Move::Steps(frame, Job::Asked(ask)))
+}
+
+/// The move of a conversation by what comes next in it.
+///
+/// # Errors
+///
+/// `AllocError` where there is no memory.
+fn goes_on(alloc: Global, asker: CallAsker, next: Next) -> Result<Move, AllocError>
+    requires { IsWaiting asker next }
+    ensures { IfOk result (λ m. (p : Program) (s : ScriptTables) → IsNextMove p s asker next m) }
+{
+    match next {
+        Next::Ask(ask) => waits(alloc, asker, ask),
+        Next::Done(outcome) => Ok(talked(asker, Ending::Done(outcome))),
+        Next::Throw(reason) => Ok(talked(asker, Ending::Throw(reason))),
+        Next::Rethrow(value) => Ok(talked(asker, Ending::Rethrow(value))),
+        Next::Profile(number) => Ok(talked(asker, Ending::Profile(number))),
+        Next::Memory => no_memory(asker),
+    }
+}
+
+/// There is no memory for what comes next in a conversation.
+fn no_memory(_asker: CallAsker) -> Result<Move, AllocError>
+    ensures { IfOk result (λ m. ⊥) }
+{
+    Err(AllocError)
+}
+
+/// A conversation goes on with an answer.
+///
+/// # Errors
+///
+/// `AllocError` where there is no memory.
+fn goes(
+    alloc: Global,
+    tables: &Tables,
+    script: &Script,
+    asker: CallAsker,
+    answer: Answer,
+) -> Result<Move, AllocError>
+    requires { CallExpects asker (answer_term answer) }
+    ensures { IfOk result (λ m. let p : Program = program_of tables.now script.now in IsReadOver p.list script.now → LeadsTo p script.now (in_world (call_rest p.list (lines_of p.list p.script) asker (answer_term answer))) m) }
+{
+    let mut asker = asker;
+    let next = asker.resume(tables, script, answer);
+    goes_on(alloc, asker, next)
+}
+
+/// The end of a conversation.
+fn talked(_asker: CallAsker, ending: Ending) -> Move
+    ensures { (p : Program) (s : ScriptTables) → move_of p s result ≡ End (Talked (end_of ending)) }
+{
+    Move::Gives(JobEnd::Talked(ending))
+}
+
+/// The move of a conversation after the end of the work that it waits for.
+///
+/// # Errors
+///
+/// `AllocError` where there is no memory.
+fn resumes(
+    alloc: Global,
+    tables: &Tables,
+    script: &Script,
+    suspended: Suspended,
+    end: JobEnd,
+) -> Result<Move, AllocError>
+    ensures { IfOk result (λ m. let p : Program = program_of tables.now script.now in IsReadOver p.list script.now → LeadsTo p script.now (in_world (call_rest p.list (lines_of p.list p.script) suspended.asker (answer_by (ask_kind_of suspended.kind) (job_end_of end)))) m) }
+{
+    let Suspended { asker, kind } = suspended;
+    let answer = answer(alloc, kind, end);
+    goes(alloc, tables, script, asker, answer)
+}
+
+/// The move after the end of the work that a conversation on the stack waits for.
+///
+/// # Errors
+///
+/// `AllocError` where there is no memory.
+pub(crate) fn answered(
+    alloc: Global,
+    tables: &Tables,
+    script: &Script,
+    suspended: Box<Suspended>,
+    end: JobEnd,
+) -> Result<Move, AllocError>
+    ensures { IfOk result (λ m. let p : Program = program_of tables.now script.now in IsReadOver p.list script.now → LeadsTo p script.now (back_to p script.now (Frame.Suspended suspended) (job_end_of end)) m) }
+{
+    resumes(alloc, tables, script, Box::into_inner(suspended), end)
+}
+
+/// The first move of the conversation of a function: the function's object, which it is, `this` and the
+/// arguments.
+///
+/// # Errors
+///
+/// `AllocError` where there is no memory.
+pub(crate) fn begins(
+    alloc: Global,
+    tables: &Tables,
+    script: &Script,
+    f: ObjRef,
+    what: Builtin,
+    this: Value,
+    args: Values,
+) -> Result<Move, AllocError>
+    requires few { length args < 2 ^ 32 }
+    ensures { IfOk result (λ m. let p : Program = program_of tables.now script.now in IsReadOver p.list script.now → LeadsTo p script.now (rule p (job_of script.now (Job.Function f what this args))) m) }
+{
+    let asker = CallAsker::start(alloc, f, what, this, args, false)?;
+    goes(alloc, tables, script, asker, Answer::Begin)
+}

@@ -1,0 +1,46 @@
+//! A conversation on the stack of a machine.
+
+ghost use Rattle.std.specs.Prelude.{◌≡◌, Some};
+ghost use Rattle.widl_calls.specs.Stack.{call_pending};
+ghost use Rattle.widl_engine.specs.AskKinds.{ask_kind_of};
+
+use widl_calls::CallAsker;
+
+/// The kind of an ask.
+#[derive(Clone, Copy)]
+pub enum AskKind {
+    /// A property is read.
+    Get,
+    /// A function is called.
+    Call,
+    /// The kind of an object.
+    Kind,
+    /// A unit is taken.
+    Unit,
+    /// An event is told.
+    Note,
+    /// The keys of an object.
+    OwnKeys,
+    /// An own property.
+    Own,
+    /// A new array.
+    NewArray,
+    /// A new object.
+    NewObject,
+    /// A new iterator.
+    NewArrayIterator,
+    /// How far an iterator has come.
+    Cursor,
+    /// An iterator is moved on.
+    SetCursor,
+}
+
+/// A conversation that waits for the end of the work of an ask, whatever else is done until then.
+#[derive(Drop)]
+pub struct Suspended {
+    /// The conversation.
+    pub asker: CallAsker,
+    /// The kind of the ask.
+    pub kind: AskKind,
+    ghost waits: { call_pending asker ≡ Some (ask_kind_of kind) },
+}
