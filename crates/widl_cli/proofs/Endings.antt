@@ -1,16 +1,12 @@
 -- Lemmas on how a call ends.
-use Rattle.std.proofs.Common.{◌≡◌, ℕ, ◌+◌, ◌-◌, ◌<◌, ◌≤◌, List, [], ◌∷◌, drop, refl, sym, ap, ◌∙◌, subst, arith, inl, inr, cond, true, false}
-use Rattle.std.specs.Prelude.{◌≢◌, ◌⊎◌, Option, Some, nat_lt}
+use Rattle.std.proofs.Common.{◌≡◌, ℕ, ◌+◌, ◌-◌, ◌<◌, ◌≤◌, List, drop, refl, sym, ap, ◌∙◌, subst, arith, inl, inr}
+use Rattle.std.specs.Prelude.{◌≢◌, ◌⊎◌, Option, Some}
 use Rattle.std.specs.Io.KnownBytes.{append_known}
 use Rattle.widl_sink.specs.Growth.{GrewByPrefix}
 use Rattle.widl_sink.specs.Lines.{ended}
 use Rattle.widl_folder.specs.Folders.{Counts}
 use Rattle.widl_folder.specs.declared.whole_file.FetchError.{FetchError}
 use Rattle.widl_folder.specs.declared.whole_file.FetchError.TheVariants.{Memory, Missing, Failed, TooLong}
-use Rattle.widl_first_form.specs.declared.planned.Plan.{Plan}
-use Rattle.widl_first_form.specs.declared.planned.Plan.TheVariants.{Unsupported, NotScript, Run}
-use Rattle.widl_first_form.specs.declared.step.Step.{Step}
-use Rattle.widl_first_form.specs.Plans.{plan_of}
 use Rattle.widl_idl.specs.MergedSets.{MergedSet}
 use Rattle.widl_cli.specs.declared.request.Command.{Command}
 use Rattle.widl_cli.specs.declared.request.Command.TheVariants.{Check, Sets}
@@ -24,10 +20,9 @@ use Rattle.widl_cli.specs.Answers.{Answers, AnswersOr, AnswersPartly, Answered, 
 use Rattle.widl_idl.specs.DefinitionTerms.{DefsTerm, defs_term}
 use Rattle.widl_runs.specs.Traces.{Ending, EndsDone, EndsStopped, EndsUncaught}
 use Rattle.widl_cli.specs.Output.{Output}
-use Rattle.widl_cli.specs.Outputs.{IsOutputOf, IsRunOutput, by_engine, by_first_form, accepted_output, first_form_output, plan_output, sets_output, IsCommandOutput, IsVerdictOutput, IsReadingOutput, fault_line}
+use Rattle.widl_cli.specs.Outputs.{IsOutputOf, IsRunOutput, served, not_served, accepted_output, sets_output, IsCommandOutput, IsVerdictOutput, IsReadingOutput, fault_line}
 use Rattle.widl_cli.specs.ScriptOutputs.{IsScriptOutput, breaks_rule, runs_whole, status_of}
 use Rattle.widl_cli.specs.Readings.{Reading, StopsFor, IsMemory}
-use Rattle.widl_cli.specs.Runs.{end_of}
 use Rattle.widl_front.specs.Texts.{named}
 use Rattle.widl_text.specs.Limits.{most_file_bytes}
 
@@ -45,24 +40,8 @@ IsPlain ends.ScriptRefused = Unit {0}
 IsPlain ends.Stopped = Unit {0}
 IsPlain ends.Uncaught = Unit {0}
 
-pub plain_end : (units : ℕ) (steps : List Step) → IsPlain (end_of units steps)
-unfolding end_of
-plain_end units [] = tt
-plain_end units (step ∷ steps) =
-    elim (nat_lt units step.units) as (λ v. IsPlain (cond v ends.Stopped (end_of (units - step.units) steps))) [ true ↦ tt | false ↦ plain_end (units - step.units) steps ]
-
-plain_plan : (budget : ℕ) (plan : Plan) → IsPlain (plan_output budget plan).status
-plain_plan budget Unsupported = tt
-plain_plan budget NotScript = tt
-plain_plan budget (Run steps) = plain_end budget steps
-
 plain_as : (output real : Output) → output ≡ real → IsPlain real.status → IsPlain output.status
 plain_as output real is plain = subst (λ o. IsPlain o.status) (sym is) plain
-
-plain_first : (budget : ℕ) (script : List ℕ) (fragments : List (List ℕ)) → IsPlain (first_form_output budget script fragments).status
-plain_first budget script [] = tt
-plain_first budget script (fragment ∷ []) = plain_plan budget (plan_of fragment script)
-plain_first budget script (fragment ∷ other ∷ fragments) = tt
 
 pub plain_ending : (end : Ending) → IsPlain (status_of end)
 plain_ending EndsDone = tt
@@ -73,9 +52,9 @@ plain_script : (list : DefsTerm) (script : List ℕ) (budget : ℕ) (output : Ou
 plain_script list script budget output (breaks_rule p) = plain_as output _ p.output_is tt
 plain_script list script budget output (runs_whole p) = plain_as output _ p.output_is (plain_ending p.end)
 
-plain_run : (budget : ℕ) (script : List ℕ) (fragments : List (List ℕ)) (set : MergedSet) (output : Output) → IsRunOutput budget script fragments set output → IsPlain output.status
-plain_run budget script fragments set output (by_engine served p) = plain_script (defs_term set.defs) script budget output p
-plain_run budget script fragments set output (by_first_form other is) = plain_as output _ is (plain_first budget script fragments)
+plain_run : (budget : ℕ) (script : List ℕ) (set : MergedSet) (output : Output) → IsRunOutput budget script set output → IsPlain output.status
+plain_run budget script set output (served list p) = plain_script (defs_term set.defs) script budget output p
+plain_run budget script set output (not_served not is) = plain_as output _ is tt
 
 plain_verdict : (verdict : Verdict) (Others : MergedSet → Output → Type 0) (output : Output) → ((set : MergedSet) (o : Output) → Others set o → IsPlain o.status) → IsOutputOf verdict Others output → IsPlain output.status
 plain_verdict (Fault finding) Others output plain is = plain_as output _ is tt
@@ -88,7 +67,7 @@ plain_fragments fragments Others output plain p = plain_verdict p.verdict Others
 pub plain_command : (command : Command) (texts : List (List ℕ)) (output : Output) → IsCommandOutput command texts output → IsPlain output.status
 plain_command Check texts output p = plain_fragments texts (λ set o. o ≡ accepted_output set) output (λ set o is. plain_as o _ is tt) p
 plain_command Sets texts output p = plain_fragments texts (λ set o. o ≡ sets_output set) output (λ set o is. plain_as o _ is tt) p
-plain_command (commands.Run budget) texts output p = plain_fragments (drop 1 texts) (IsRunOutput budget (named texts 0) (drop 1 texts)) output (plain_run budget (named texts 0) (drop 1 texts)) p
+plain_command (commands.Run budget) texts output p = plain_fragments (drop 1 texts) (IsRunOutput budget (named texts 0)) output (plain_run budget (named texts 0)) p
 
 pub never : (bad result : Status) → (IsPlain bad → ⊥) → IsPlain result → result ≡ bad → ⊥
 never bad result h p e = h (subst IsPlain e p)

@@ -17,7 +17,7 @@ use Rattle.widl_runs.specs.Laws.{HasOneTrace}
 use Rattle.widl_runs.specs.Traces.{IsTrace}
 use Rattle.widl_engine.specs.Output.{bytes_of_lines}
 use Rattle.widl_cli.specs.Output.{Output, last}
-use Rattle.widl_cli.specs.Outputs.{IsOutputOf, IsRunOutput, by_engine, by_first_form, IsVerdictOutput, IsReadingOutput, IsRequestOutput, IsCommandOutput, IsOutput, accepted_output, sets_output}
+use Rattle.widl_cli.specs.Outputs.{IsOutputOf, IsRunOutput, served, not_served, IsVerdictOutput, IsReadingOutput, IsRequestOutput, IsCommandOutput, IsOutput, accepted_output, sets_output}
 use Rattle.widl_cli.specs.ScriptOutputs.{IsScriptOutput, IsScriptRun, breaks_rule, runs_whole, script_line, status_of}
 use Rattle.widl_cli.specs.Readings.{Reading, AllRead, MissingFile, LongFile, read_in_order}
 use Rattle.widl_cli.specs.Requests.{request_of, names_of}
@@ -81,18 +81,18 @@ one_script_output known list script budget o p (runs_whole a) (breaks_rule b) = 
 one_script_output known list script budget o p (runs_whole a) (runs_whole b) = one_run known list script budget o p a b
 
 -- a run is told by the terms of the list and by the bytes
-run_told : Known → (budget : ℕ) (script : List ℕ) (fragments : List (List ℕ)) → TellsSets (IsRunOutput budget script fragments)
-run_told known budget script fragments a b alike o p (by_engine served is) (by_engine also other) =
+run_told : Known → (budget : ℕ) (script : List ℕ) → TellsSets (IsRunOutput budget script)
+run_told known budget script a b alike o p (served list is) (served also other) =
     one_script_output known (defs_term b.defs) script budget o p (subst (λ l. IsScriptOutput l script budget o) alike.merged is) other
-run_told known budget script fragments a b alike o p (by_engine served is) (by_first_form not other) = absurd (not (subst IsServed alike.merged served))
-run_told known budget script fragments a b alike o p (by_first_form not is) (by_engine served other) = absurd (not (subst IsServed (sym alike.merged) served))
-run_told known budget script fragments a b alike o p (by_first_form not is) (by_first_form also other) = is ∙ sym other
+run_told known budget script a b alike o p (served list is) (not_served not other) = absurd (not (subst IsServed alike.merged list))
+run_told known budget script a b alike o p (not_served not is) (served list other) = absurd (not (subst IsServed (sym alike.merged) list))
+run_told known budget script a b alike o p (not_served not is) (not_served also other) = is ∙ sym other
 
 one_command : Known → (command : Command) (texts : List (List ℕ)) (a b : Output) → IsCommandOutput command texts a → IsCommandOutput command texts b → a ≡ b
 one_command known Check texts a b is other = one_verdict_output known.verdicts texts _ (told_by accepted_output (λ p q same. refl)) a b is other
 one_command known Sets texts a b is other = one_verdict_output known.verdicts texts _ (told_by sets_output lines_told) a b is other
 one_command known (Run budget) texts a b is other =
-    one_verdict_output known.verdicts (drop 1 texts) _ (run_told known budget (named texts 0) (drop 1 texts)) a b is other
+    one_verdict_output known.verdicts (drop 1 texts) _ (run_told known budget (named texts 0)) a b is other
 
 one_reading : (P : List (List ℕ) → Output → Type 0) → ((texts : List (List ℕ)) (a b : Output) → P texts a → P texts b → a ≡ b) → (reading : Reading) (a b : Output) → IsReadingOutput P reading a → IsReadingOutput P reading b → a ≡ b
 one_reading P one (AllRead texts) a b is other = one texts a b is other

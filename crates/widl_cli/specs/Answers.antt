@@ -41,11 +41,11 @@ Answers output old new before now result = AnswersOr (new ≡ old) output old ne
 abbrev pub AnswersPartly : (output : Output) → (old new : Option (List ℕ)) → (before now : ℕ) → (result : Status) → Type 0
 AnswersPartly output old new before now result = AnswersOr (GrewByPrefix old new output.bytes) output old new before now result
 
--- what a task writes for an accepted set of these fragments
-abbrev pub IsTaskOutput : Task → List (List ℕ) → MergedSet → Output → Type 0
-IsTaskOutput tasks.Check fragments set output = output ≡ accepted_output set
-IsTaskOutput tasks.Sets fragments set output = output ≡ sets_output set
-IsTaskOutput (tasks.Run budget script) fragments set output = IsRunOutput budget script.items fragments set output
+-- what a task writes for an accepted set
+abbrev pub IsTaskOutput : Task → MergedSet → Output → Type 0
+IsTaskOutput tasks.Check set output = output ≡ accepted_output set
+IsTaskOutput tasks.Sets set output = output ≡ sets_output set
+IsTaskOutput (tasks.Run budget script) set output = IsRunOutput budget script.items set output
 
 -- an output like this was written, whole or in part, or memory was short before there was one
 abbrev pub Answered : (Output → Type 0) → (old new : Option (List ℕ)) → (before now : ℕ) → Status → Type 0

@@ -4,6 +4,5 @@ pub mod Output
 pub mod Outputs
 pub mod Readings
 pub mod Requests
-pub mod Runs
 pub mod ScriptOutputs
 pub mod Statuses

@@ -1,10 +1,7 @@
 -- What is written for the arguments of a command line over given files, and the status.
-use Rattle.std.specs.Prelude.{◌≡◌, ℕ, List, [], ◌∷◌, ◌++◌, drop, Option, Some, None, codes}
+use Rattle.std.specs.Prelude.{◌≡◌, ℕ, List, ◌++◌, drop, Option, Some, None, codes}
 use Rattle.std.specs.Io.KnownBytes.{append_known}
 use Rattle.widl_sink.specs.Growth.{GrewByPrefix}
-use Rattle.widl_first_form.specs.Plans.{plan_of}
-use Rattle.widl_first_form.specs.declared.planned.Plan as plans
-use Rattle.widl_first_form.specs.declared.planned.Plan.TheVariants as plan
 use Rattle.widl_idl.specs.DefinitionTerms.{defs_term}
 use Rattle.widl_idl.specs.MergedSets.{MergedSet}
 use Rattle.widl_overload.specs.Served.{IsServed}
@@ -15,7 +12,6 @@ use Rattle.widl_front.specs.Texts.{named}
 use Rattle.widl_cli.specs.Output.{Output, last}
 use Rattle.widl_cli.specs.Requests.{request_of, names_of}
 use Rattle.widl_cli.specs.ScriptOutputs.{IsScriptOutput}
-use Rattle.widl_cli.specs.Runs.{written, end_of}
 use Rattle.widl_cli.specs.declared.help.TheConstants.{HELP, VERSION}
 use Rattle.widl_cli.specs.declared.request.Request as requests
 use Rattle.widl_cli.specs.declared.request.Request.TheVariants.{Help, Version, OverFiles}
@@ -26,12 +22,6 @@ use Rattle.widl_cli.specs.declared.status.Status.TheVariants as ends
 use Rattle.widl_front.specs.declared.verdict.Verdict.{Verdict}
 use Rattle.widl_front.specs.declared.verdict.Verdict.TheVariants.{Fault, Broken, Accepted}
 use Rattle.widl_front.specs.Verdicts.{IsVerdict, refusal_line}
-
--- what is written for a plan: the refusal of the fragment or of the script, or the trace
-abbrev pub plan_output : ℕ → plans.Plan → Output
-plan_output budget plan.Unsupported = last (codes "refused later 0 0") ends.Refused
-plan_output budget plan.NotScript = last (codes "script S90 1 1") ends.ScriptRefused
-plan_output budget (plan.Run steps) = record { bytes = written budget steps; status = end_of budget steps }
 
 unfoldable pub missing_line : List ℕ → List ℕ
 missing_line name = codes "missing " ++ name
@@ -49,15 +39,14 @@ accepted_output set = last (codes "accepted") ends.Done
 abbrev pub sets_output : MergedSet → Output
 sets_output set = record { bytes = all_lines set.defs; status = ends.Done }
 
--- the first form looks at the bytes of one fragment
-abbrev pub first_form_output : ℕ → List ℕ → List (List ℕ) → Output
-first_form_output budget script (fragment ∷ []) = plan_output budget (plan_of fragment script)
-first_form_output budget script fragments = last (codes "refused later 0 0") ends.Refused
+-- what is written for an accepted set over which scripts can't be run yet
+abbrev pub later_output : Output
+later_output = last (codes "refused later 0 0") ends.Refused
 
--- what is written for an accepted set by `run` with a budget, a script and fragments: the engine comes first
-pub data IsRunOutput (budget : ℕ) (script : List ℕ) (fragments : List (List ℕ)) (set : MergedSet) (output : Output) : Type 0 where
-  by_engine : IsServed (defs_term set.defs) → IsScriptOutput (defs_term set.defs) script budget output → IsRunOutput budget script fragments set output
-  by_first_form : (IsServed (defs_term set.defs) → ⊥) → output ≡ first_form_output budget script fragments → IsRunOutput budget script fragments set output
+-- what is written for an accepted set by `run` with a budget and a script
+pub data IsRunOutput (budget : ℕ) (script : List ℕ) (set : MergedSet) (output : Output) : Type 0 where
+  served : IsServed (defs_term set.defs) → IsScriptOutput (defs_term set.defs) script budget output → IsRunOutput budget script set output
+  not_served : (IsServed (defs_term set.defs) → ⊥) → output ≡ later_output → IsRunOutput budget script set output
 
 -- what is found is named; of an accepted set other things are written
 abbrev pub IsOutputOf : Verdict → (MergedSet → Output → Type 0) → Output → Type 0
@@ -75,7 +64,7 @@ pub record IsVerdictOutput (fragments : List (List ℕ)) (Others : MergedSet →
 abbrev pub IsCommandOutput : Command → List (List ℕ) → Output → Type 0
 IsCommandOutput Check texts output = IsVerdictOutput texts (λ set o. o ≡ accepted_output set) output
 IsCommandOutput Sets texts output = IsVerdictOutput texts (λ set o. o ≡ sets_output set) output
-IsCommandOutput (Run budget) texts output = IsVerdictOutput (drop 1 texts) (IsRunOutput budget (named texts 0) (drop 1 texts)) output
+IsCommandOutput (Run budget) texts output = IsVerdictOutput (drop 1 texts) (IsRunOutput budget (named texts 0)) output
 
 -- the first file that isn't there or is too long is named
 abbrev pub IsReadingOutput : (List (List ℕ) → Output → Type 0) → Reading → Output → Type 0
@@ -90,7 +79,7 @@ IsRequestOutput (Some Version) reading output = output ≡ last VERSION.now ends
 IsRequestOutput (Some (OverFiles command)) reading output = IsReadingOutput (IsCommandOutput command) reading output
 
 -- the order of causes: the arguments; the files in the order of reading; the encoding of the fragments; their
--- grammar; the rules of the profile, of merging and of validity; the fragment's form; the script's form; the run
+-- grammar; the rules of the profile, of merging and of validity; whether the set is served; the rules on the script; the run
 unfoldable pub IsOutput : List (List ℕ) → List (List ℕ × List ℕ) → Output → Type 0
 IsOutput words files output = IsRequestOutput (request_of words) (read_in_order files (names_of (request_of words) words)) output
 

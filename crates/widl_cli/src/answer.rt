@@ -1,6 +1,6 @@
 //! Writing the answer of a command.
 
-ghost use Rattle.std.specs.Prelude.{◌≡◌, ◌≢◌, ◌<◌, ◌≤◌, ◌++◌, IfOk, OnOk, OnErr, codes, length};
+ghost use Rattle.std.specs.Prelude.{◌≡◌, ◌≢◌, ◌≤◌, ◌++◌, IfOk, OnOk, OnErr, codes, length};
 ghost use Rattle.std.specs.Io.KnownBytes.{append_known};
 ghost use Rattle.widl_text.specs.Limits.{most_file_bytes, most_files};
 ghost use Rattle.widl_sink.specs.Causes.{HasCause};
@@ -11,22 +11,19 @@ ghost use Rattle.widl_front.specs.Texts.{AreShort};
 ghost use Rattle.widl_front.specs.Verdicts.{refusal_line};
 ghost use Rattle.widl_cli.specs.Answers.{Answered, Answers, CanDo, DoesAtOnce, IsTaskOutput, unread_output};
 ghost use Rattle.widl_cli.specs.Output.{last};
-ghost use Rattle.widl_cli.specs.Outputs.{first_form_output, plan_output, sets_output, IsCommandOutput, IsRunOutput, IsVerdictOutput};
+ghost use Rattle.widl_cli.specs.Outputs.{later_output, sets_output, IsCommandOutput, IsRunOutput, IsVerdictOutput};
 ghost use Rattle.widl_cli.specs.Readings.{IsMemory};
 ghost use Rattle.widl_cli.specs.Requests.{HasTexts, IsWithin, WritesAtOnce};
 ghost use Rattle.widl_cli.specs.declared.request.Command.TheVariants as commands;
 ghost use Rattle.widl_cli.specs.declared.status.Status.TheVariants as ends;
-ghost use Rattle.widl_first_form.specs.declared.planned.Plan.TheVariants as plans;
 ghost use Rattle.widl_folder.specs.declared.whole_file.FetchError.TheVariants as causes;
 
 use crate::Status;
-use crate::perform::perform_steps;
 use crate::request::Command;
 use crate::running::run_script;
 use crate::task::Task;
 use std::alloc::{AllocError, Global};
 use std::mem;
-use widl_first_form::{Plan, Steps, make_plan};
 use widl_folder::FetchError;
 use widl_front::{Finding, Texts, Verdict, judge, line_of_finding, line_of_refusal};
 use widl_idl::Refusal;
@@ -67,27 +64,21 @@ fn answer_fragments<K: Sink>(alloc: Global, task: &Task, fragments: &Texts, out:
     requires few { length fragments.now ≤ most_files }
     requires short { AreShort fragments.now }
     requires task { CanDo task.now }
-    ensures answered { Answered (IsVerdictOutput fragments.now (IsTaskOutput task.now fragments.now)) (K.held out.old) (K.held out.new) (K.faults out.old) (K.faults out.new) result }
+    ensures answered { Answered (IsVerdictOutput fragments.now (IsTaskOutput task.now)) (K.held out.old) (K.held out.new) (K.faults out.old) (K.faults out.new) result }
     ensures at_once { DoesAtOnce task.now → result ≡ Status.Memory → K.held out.new ≡ K.held out.old }
 {
     match judge(alloc, fragments) {
         Err(AllocError) => Status::Memory,
         Ok(Verdict::Fault(finding)) => answer_finding(alloc, finding, out),
         Ok(Verdict::Broken(refusal)) => answer_refusal(alloc, refusal, out),
-        Ok(Verdict::Accepted(accepted)) => do_task(alloc, task, fragments, accepted, out),
+        Ok(Verdict::Accepted(accepted)) => do_task(alloc, task, accepted, out),
     }
 }
 
-/// Does a task with the accepted set of some fragments.
-fn do_task<K: Sink>(
-    alloc: Global,
-    task: &Task,
-    fragments: &Texts,
-    accepted: Accepted,
-    out: &mut K,
-) -> Status
+/// Does a task with an accepted set.
+fn do_task<K: Sink>(alloc: Global, task: &Task, accepted: Accepted, out: &mut K) -> Status
     requires { CanDo task.now }
-    ensures answered { Answered (IsTaskOutput task.now fragments.now accepted) (K.held out.old) (K.held out.new) (K.faults out.old) (K.faults out.new) result }
+    ensures answered { Answered (IsTaskOutput task.now accepted) (K.held out.old) (K.held out.new) (K.faults out.old) (K.faults out.new) result }
     ensures at_once { DoesAtOnce task.now → result ≡ Status.Memory → K.held out.new ≡ K.held out.old }
 {
     match task {
@@ -96,9 +87,7 @@ fn do_task<K: Sink>(
             answer_accepted(alloc, out)
         }
         Task::Sets => answer_lines(alloc, &accepted, out),
-        Task::Run(budget, script) => answer_script(
-            alloc, *budget, script, fragments, accepted, out,
-        ),
+        Task::Run(budget, script) => answer_script(alloc, *budget, script, accepted, out),
     }
 }
 
@@ -155,64 +144,30 @@ fn write_lines<K: Sink>(lines: &[u8], out: &mut K) -> Status
     }
 }
 
-/// Runs a script over an accepted set of fragments: by the engine where that serves the set, and else by the
-/// first form, which has one fragment.
+/// Runs a script over an accepted set, where runs over it are supported today.
 fn answer_script<K: Sink>(
     alloc: Global,
     budget: u64,
     script: &[u8],
-    fragments: &Texts,
     accepted: Accepted,
     out: &mut K,
 ) -> Status
     requires short { length script.now ≤ most_file_bytes }
     requires within { IsWithin (commands.Run budget) }
-    ensures { Answered (IsRunOutput budget script.now fragments.now accepted) (K.held out.old) (K.held out.new) (K.faults out.old) (K.faults out.new) result }
+    ensures { Answered (IsRunOutput budget script.now accepted) (K.held out.old) (K.held out.new) (K.faults out.old) (K.faults out.new) result }
 {
     if is_served(&accepted) {
         run_script(alloc, budget, script, accepted, out)
     } else {
-        run_first_form(alloc, budget, script, fragments, out)
+        answer_later(alloc, out)
     }
 }
 
-/// Runs a script of the first form, which looks at the fragment's bytes.
-fn run_first_form<K: Sink>(
-    alloc: Global,
-    budget: u64,
-    script: &[u8],
-    fragments: &Texts,
-    out: &mut K,
-) -> Status
-    ensures { Answers (first_form_output budget script.now fragments.now) (K.held out.old) (K.held out.new) (K.faults out.old) (K.faults out.new) result }
+/// Says that scripts can't be run over a set yet.
+fn answer_later<K: Sink>(alloc: Global, out: &mut K) -> Status
+    ensures { Answers later_output (K.held out.old) (K.held out.new) (K.faults out.old) (K.faults out.new) result }
 {
-    if fragments.len() != 1 {
-        return last_line(alloc, b"refused later 0 0", b"", Status::Refused, out);
-    }
-    match make_plan(alloc, fragments.named(0), script) {
-        Err(AllocError) => Status::Memory,
-        Ok(Plan::Unsupported) => last_line(alloc, b"refused later 0 0", b"", Status::Refused, out),
-        Ok(Plan::NotScript) => {
-            last_line(alloc, b"script S90 1 1", b"", Status::ScriptRefused, out)
-        }
-        Ok(Plan::Run(steps)) => run_steps(alloc, budget, &steps, out),
-    }
-}
-
-/// Does the steps of a run.
-fn run_steps<K: Sink>(alloc: Global, budget: u64, steps: &Steps, out: &mut K) -> Status
-    ensures { Answers (plan_output budget (plans.Run steps.now)) (K.held out.old) (K.held out.new) (K.faults out.old) (K.faults out.new) result }
-{
-    let Ok(stop) = joined_line(alloc, b"stop budget", b"") else {
-        return Status::Memory;
-    };
-    let Ok(mut writer) = Writer::new(alloc) else {
-        return Status::Memory;
-    };
-    match perform_steps(steps, budget, &stop, &mut writer, out) {
-        Ok(status) => status,
-        Err(_) => Status::WriteFault,
-    }
+    last_line(alloc, b"refused later 0 0", b"", Status::Refused, out)
 }
 
 /// Says why a file was not read.

@@ -1,6 +1,6 @@
 //! The program `widl`: it answers the arguments of a command line over a folder of files, and writes to a
 //! sink. It stands on the verdict of `widl_front`, on what is written for an accepted set (`widl_sets`,
-//! `widl_first_form`), and on folders and sinks (`widl_folder`, `widl_sink`). The main contract is that of
+//! `widl_engine`), and on folders and sinks (`widl_folder`, `widl_sink`). The main contract is that of
 //! [`widl`], which the program calls with the disk and standard output: what is written is the defined
 //! output of the arguments and the files, and each failure is tied to its cause.
 #![tactic(auto)]
@@ -9,7 +9,6 @@ mod answer;
 mod fetching;
 mod help;
 pub mod laws;
-mod perform;
 mod reader;
 mod request;
 mod running;

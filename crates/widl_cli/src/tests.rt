@@ -20,9 +20,11 @@ mod merging;
 mod overloads;
 mod profile;
 mod runs;
+mod scalars;
 mod scripts;
 mod served;
 mod sizes;
+mod suspended;
 mod validity;
 
 const FRAGMENT: &str = "namespace N { undefined f(octet a); };";
@@ -71,66 +73,11 @@ fn expect_run(
     text: &str,
 ) -> Result<(), Fail> {
     let mut folder = MemoryFolder::new(files_of(alloc, script, fragment)?, Numbers::new(alloc));
-    let mut out = MemorySink::new(alloc, 1_000, 1_000, Numbers::new(alloc))?;
+    let mut out = MemorySink::new(alloc, 10_000, 10_000, Numbers::new(alloc))?;
     let words = run_words(alloc, budget)?;
     assert_eq!(rt; widl(alloc, &words, &mut folder, &mut out), status);
     assert_eq!(rt; out.held(), text.as_bytes());
     Ok(())
-}
-
-#[test]
-fn a_call_is_traced(rt: HostRuntime) -> Result<(), Fail> {
-    expect_run(
-        &rt,
-        rt.alloc(),
-        "5",
-        FRAGMENT,
-        "do N.f(300)\n",
-        Status::Done,
-        TRACE,
-    )
-}
-
-#[test]
-fn each_argument_is_converted_by_its_own_type(rt: HostRuntime) -> Result<(), Fail> {
-    let fragment = "namespace N { undefined f(octet a, byte b); };";
-    let text = "call #19 this #18 (300, 200, 1)\nop N.f#0 (44, -56)\nret undefined\ndone\n";
-    expect_run(
-        &rt,
-        rt.alloc(),
-        "100000",
-        fragment,
-        "do N.f(300, 200, 1)",
-        Status::Done,
-        text,
-    )
-}
-
-#[test]
-fn a_budget_that_runs_out_stops_the_run(rt: HostRuntime) -> Result<(), Fail> {
-    let text = "call #19 this #18 (300)\nop N.f#0 (44)\nret undefined\nstop budget\n";
-    expect_run(
-        &rt,
-        rt.alloc(),
-        "4",
-        FRAGMENT,
-        "do N.f(300)\n",
-        Status::Stopped,
-        text,
-    )
-}
-
-#[test]
-fn a_call_without_its_argument_is_refused(rt: HostRuntime) -> Result<(), Fail> {
-    expect_run(
-        &rt,
-        rt.alloc(),
-        "5",
-        FRAGMENT,
-        "do N.f()",
-        Status::ScriptRefused,
-        "script S90 1 1\n",
-    )
 }
 
 #[test]
@@ -309,17 +256,6 @@ fn the_encoding_of_all_files_comes_before_their_grammar(rt: HostRuntime) -> Resu
     let mut out = MemorySink::new(alloc, 1_000, 1_000, Numbers::new(alloc))?;
     assert_eq!(rt; widl(alloc, &words, &mut folder, &mut out), Status::Refused);
     assert_eq!(rt; out.held(), b"refused syntax 0 9\n".as_slice());
-    Ok(())
-}
-
-#[test]
-fn one_fragment_of_the_first_form_is_accepted(rt: HostRuntime) -> Result<(), Fail> {
-    let alloc = rt.alloc();
-    let mut folder = SureFolder::new(files_of(alloc, "", FRAGMENT)?);
-    let mut out = MemorySink::new(alloc, 1_000, 1_000, Numbers::new(alloc))?;
-    let words = words_of(alloc, &["check", "n.idl"])?;
-    assert_eq!(rt; widl(alloc, &words, &mut folder, &mut out), Status::Done);
-    assert_eq!(rt; out.held(), b"accepted\n".as_slice());
     Ok(())
 }
 

@@ -1,17 +1,17 @@
 //! Which lists of definitions a run supports today. This file goes when it supports all.
 
-ghost use Rattle.std.specs.Prelude.{◌≡◌, ◌↔◌, IsTrue, map};
+ghost use Rattle.std.specs.Prelude.{◌≡◌, ◌↔◌, IsTrue};
 ghost use Rattle.std.specs.List.{list_all};
 ghost use Rattle.widl_idl.specs.DefinitionTerms.{arg_term, defs_term, op_name_term, sig_term, space_term};
 ghost use Rattle.widl_idl.specs.Terms.{type_term};
-ghost use Rattle.widl_overload.specs.Served.{IsServed, has_namespaces_alone, has_operations_alone, is_any, is_any_or_undefined, is_required, is_served_alone, is_served_argument, is_served_list, is_served_name, is_served_namespace, is_served_signature};
+ghost use Rattle.widl_overload.specs.Served.{IsServed, has_namespaces_alone, has_operations_alone, is_scalar, is_scalar_or_undefined, is_served_argument, is_served_list, is_served_name, is_served_namespace, is_served_signature};
 
 use crate::accepted::Accepted;
-use widl_idl::{Arg, Defs, IdlType, OpName, Optionality, Sig, Space};
+use widl_idl::{Arg, Defs, IdlType, OpName, Sig, Space};
 
-/// Whether a script can be run over an accepted set today: it has namespaces alone, with operations alone,
-/// one overload a name, whose arguments are required and of type `any` and whose result is `any` or
-/// `undefined`.
+/// Whether a script can be run over an accepted set today: beside enumerations it has namespaces alone, with
+/// operations alone, whose types are `any`, booleans, integers, texts, enumerations and `object`, or
+/// `undefined` for a result.
 pub fn is_served(accepted: &Accepted) -> bool
     ensures { IsTrue result ↔ IsServed (defs_term accepted.now.defs) }
 {
@@ -29,7 +29,6 @@ fn has_namespaces_alone(defs: &Defs) -> bool
 {
     defs.ifaces.len() == 0
         && defs.dicts.len() == 0
-        && defs.choices.len() == 0
         && defs.callback_fns.len() == 0
         && defs.callback_ifaces.len() == 0
 }
@@ -59,26 +58,23 @@ fn are_served_operations(ops: &[OpName]) -> bool
     ops.iter().all(is_served_name)
 }
 
-/// Whether a name has one overload, and it is supported.
+/// Whether each overload of a name is supported.
 fn is_served_name(op: &OpName) -> bool
     ensures { result ≡ is_served_name (op_name_term op.now) }
 {
-    is_served_alone(op.sigs.as_slice())
+    are_served_signatures(op.sigs.as_slice())
 }
 
-fn is_served_alone(sigs: &[Sig]) -> bool
-    ensures { result ≡ is_served_alone (map sig_term sigs.now) }
+fn are_served_signatures(sigs: &[Sig]) -> bool
+    ensures { result ≡ list_all (λ s. is_served_signature (sig_term s)) sigs.now }
 {
-    match sigs {
-        [sig] => is_served_signature(sig),
-        _ => false,
-    }
+    sigs.iter().all(is_served_signature)
 }
 
 fn is_served_signature(sig: &Sig) -> bool
     ensures { result ≡ is_served_signature (sig_term sig.now) }
 {
-    are_served_arguments(sig.args.as_slice()) && is_any_or_undefined(&sig.result)
+    are_served_arguments(sig.args.as_slice()) && is_scalar_or_undefined(&sig.result)
 }
 
 fn are_served_arguments(args: &[Arg]) -> bool
@@ -87,27 +83,38 @@ fn are_served_arguments(args: &[Arg]) -> bool
     args.iter().all(is_served_argument)
 }
 
-/// Whether an argument is required and of type `any`.
 fn is_served_argument(arg: &Arg) -> bool
     ensures { result ≡ is_served_argument (arg_term arg.now) }
 {
-    is_required(arg.opt) && is_any(&arg.ty)
+    is_scalar(&arg.ty)
 }
 
-fn is_required(opt: Optionality) -> bool
-    ensures { result ≡ is_required opt }
+/// Whether the values of a type are converted by themselves or by their primitive values.
+fn is_scalar(ty: &IdlType) -> bool
+    ensures { result ≡ is_scalar (type_term ty.now) }
 {
-    matches!(opt, Optionality::Required)
+    matches!(
+        ty,
+        IdlType::Any
+            | IdlType::Boolean
+            | IdlType::Int(_, _)
+            | IdlType::Text { .. }
+            | IdlType::Choice(_)
+            | IdlType::Object
+    )
 }
 
-fn is_any(ty: &IdlType) -> bool
-    ensures { result ≡ is_any (type_term ty.now) }
+fn is_scalar_or_undefined(ty: &IdlType) -> bool
+    ensures { result ≡ is_scalar_or_undefined (type_term ty.now) }
 {
-    matches!(ty, IdlType::Any)
-}
-
-fn is_any_or_undefined(ty: &IdlType) -> bool
-    ensures { result ≡ is_any_or_undefined (type_term ty.now) }
-{
-    matches!(ty, IdlType::Any | IdlType::Undefined)
+    matches!(
+        ty,
+        IdlType::Undefined
+            | IdlType::Any
+            | IdlType::Boolean
+            | IdlType::Int(_, _)
+            | IdlType::Text { .. }
+            | IdlType::Choice(_)
+            | IdlType::Object
+    )
 }

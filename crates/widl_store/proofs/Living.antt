@@ -64,5 +64,5 @@ pub served_alone : (list : DefsTerm) → IsServed list → HasOperationsAlone li
 served_alone list served =
     let alone : has_namespaces_alone list ≡ true = left_true (has_namespaces_alone list) (list_all is_served_namespace list.spaces) served in
     both_true (is_none list.ifaces) (list_all has_operations_alone list.spaces)
-    (left_true _ (is_none list.dicts) (left_true _ (is_none list.choices) (left_true _ (is_none list.callback_fns) (left_true _ (is_none list.callback_ifaces) alone))))
+    (left_true _ (is_none list.dicts) (left_true _ (is_none list.callback_fns) (left_true _ (is_none list.callback_ifaces) alone)))
     (all_alone list.spaces (right_true (has_namespaces_alone list) (list_all is_served_namespace list.spaces) served))

@@ -3,6 +3,8 @@
 ghost use Rattle.std.specs.Prelude.{◌<◌};
 
 use super::runs::{ANY, GIVEN_BACK, GIVES_BACK};
+use super::scalars::LONG;
+use super::suspended::{CALLED_AGAIN, CALLS_AGAIN};
 use super::{FRAGMENT, TRACE, files_of, numbers_of, run_words};
 use crate::{MemoryFolder, Status, SureFolder, widl};
 use std::alloc::Global;
@@ -17,8 +19,8 @@ struct Run {
     text: &'static str,
 }
 
-/// A run by the first form, and one by the engine.
-const RUNS: [Run; 2] = [
+/// A run that converts a number, one that gives an object back, and one whose conversion waits while it is asked for again.
+const RUNS: [Run; 3] = [
     Run {
         fragment: FRAGMENT,
         script: "do N.f(300)\n",
@@ -28,6 +30,11 @@ const RUNS: [Run; 2] = [
         fragment: ANY,
         script: GIVES_BACK,
         text: GIVEN_BACK,
+    },
+    Run {
+        fragment: LONG,
+        script: CALLS_AGAIN,
+        text: CALLED_AGAIN,
     },
 ];
 
@@ -45,7 +52,7 @@ fn expect_read_fault(
         numbers_of(alloc, call)?,
     );
     let mut out = MemorySink::new(alloc, 1_000, 1_000, Numbers::new(alloc))?;
-    let words = run_words(alloc, "9")?;
+    let words = run_words(alloc, "100000")?;
     assert_eq!(rt; widl(alloc, &words, &mut folder, &mut out), status);
     assert_eq!(rt; out.held(), text.as_bytes());
     Ok(())
@@ -80,7 +87,7 @@ fn expect_torn(
 {
     let mut folder = SureFolder::new(files_of(alloc, run.script, run.fragment)?);
     let mut out = MemorySink::new(alloc, 1_000, most, numbers_of(alloc, call)?)?;
-    let words = run_words(alloc, "9")?;
+    let words = run_words(alloc, "100000")?;
     let status = widl(alloc, &words, &mut folder, &mut out);
     assert!(rt; run.text.as_bytes().starts_with(out.held()));
     if status == Status::Done {
@@ -97,7 +104,7 @@ fn expect_each_torn(rt: &impl Abort, alloc: Global, run: &Run, most: u32) -> Res
     requires { 0 < most }
 {
     let mut ended = false;
-    for call in 1..100u64 {
+    for call in 1..1_000u64 {
         ended = expect_torn(rt, alloc, run, most, call)?;
         if ended {
             break;

@@ -3,44 +3,59 @@
 ghost use Rattle.std.specs.Prelude.{◌<◌, ◌≤◌};
 
 use super::runs::ANY;
-use super::{add, words_of};
+use super::sizes::{Parts, bytes_of};
+use super::words_of;
 use crate::{Files, MemoryFolder, NamedFile, Status, widl};
 use std::alloc::{AllocError, Global};
 use std::process::Abort;
 use std::test::Fail;
 use widl_sink::{MemorySink, Numbers};
 
-/// A script: texts, each of which comes so many times.
-type Parts = &'static [(&'static str, usize)];
-
-fn script_of(alloc: Global, parts: Parts) -> Result<Vec<u8>, AllocError> {
-    let mut script = Vec::new(alloc);
-    for (text, count) in parts {
-        for _ in 0..*count {
-            script.extend_from_slice(text.as_bytes())?;
-        }
-    }
-    Ok(script)
-}
-
-/// Runs a script, and compares how it ends.
+/// Runs a script over a fragment with a budget, and compares how it ends.
 fn expect_end(
     rt: &impl Abort,
     alloc: Global,
+    fragment: Vec<u8>,
     script: Vec<u8>,
+    budget: &str,
     status: Status,
     end: &str,
 ) -> Result<(), Fail> {
     let mut files = Files::new(alloc);
     files.push(NamedFile::new(String::from_str(alloc, "s")?, script))?;
-    add(alloc, &mut files, "n.idl", ANY)?;
+    files.push(NamedFile::new(String::from_str(alloc, "n.idl")?, fragment))?;
     let mut folder = MemoryFolder::new(files, Numbers::new(alloc));
     let mut out = MemorySink::new(alloc, 10_000_000, 4_096, Numbers::new(alloc))?;
-    let words = words_of(alloc, &["run", "2000000", "s", "n.idl"])?;
+    let words = words_of(alloc, &["run", budget, "s", "n.idl"])?;
     assert_eq!(rt; widl(alloc, &words, &mut folder, &mut out), status);
     assert!(rt; out.held().ends_with(end.as_bytes()), "{end}");
     Ok(())
 }
+
+/// Runs of scripts over a fragment: each has its script, its budget, its status and its last lines.
+fn expect_ends(
+    rt: &impl Abort,
+    alloc: Global,
+    fragment: Parts,
+    rows: &[(Parts, &str, Status, &str)],
+) -> Result<(), Fail> {
+    for (script, budget, status, end) in rows {
+        let script = bytes_of(alloc, *script)?;
+        expect_end(
+            rt,
+            alloc,
+            bytes_of(alloc, fragment)?,
+            script,
+            budget,
+            *status,
+            end,
+        )?;
+    }
+    Ok(())
+}
+
+/// The most units that a budget has.
+const MOST: &str = "2000000";
 
 const MEMBERS: Parts = &[
     ("let o = object()\ndefine o.a = o\ndo o", 1),
@@ -83,25 +98,146 @@ const PROTOTYPES: Parts = &[
     ("show h.o.z\n", 1),
 ];
 
-const RUNS: [(Parts, Status, &str); 5] = [
-    (MEMBERS, Status::Done, "done\n"),
-    (ITEMS, Status::Done, "show 500000\ndone\n"),
-    (TEXTS, Status::Stopped, "stop budget\n"),
+const RUNS: [(Parts, &str, Status, &str); 5] = [
+    (MEMBERS, MOST, Status::Done, "done\n"),
+    (ITEMS, MOST, Status::Done, "show 500000\ndone\n"),
+    (TEXTS, MOST, Status::Stopped, "stop budget\n"),
     (
         BRACKETS,
+        MOST,
         Status::Stopped,
         "call #20 this #21 ()\nstop depth\n",
     ),
-    (PROTOTYPES, Status::Done, "show undefined\ndone\n"),
+    (PROTOTYPES, MOST, Status::Done, "show undefined\ndone\n"),
 ];
 
 #[test]
 fn hostile_scripts_are_run(rt: HostRuntime) -> Result<(), Fail> {
+    expect_ends(&rt, rt.alloc(), &[(ANY, 1)], &RUNS)
+}
+
+/// One call of many arguments.
+const ARGUMENTS: Parts = &[("do N.f(-1", 1), (",1", 299_999), (")\n", 1)];
+
+/// An enumeration of many values.
+const VALUES: Parts = &[
+    ("enum E { \"a\"", 1),
+    (", \"v#\"", 49_999),
+    (" }; namespace N { undefined f(E a); };", 1),
+];
+
+/// Ten thousand calls with the last value, and one with no value.
+const VALUE_CALLS: Parts = &[
+    ("function g()\n", 1),
+    ("do N.f(\"v49998\")\n", 100),
+    ("end\n", 1),
+    ("do g()\n", 100),
+    ("do N.f(\"v49999\")\n", 1),
+];
+
+#[test]
+fn many_arguments_and_values_are_converted(rt: HostRuntime) -> Result<(), Fail> {
     let alloc = rt.alloc();
-    for (parts, status, end) in RUNS {
-        expect_end(&rt, alloc, script_of(alloc, parts)?, status, end)?;
+    let variadic: Parts = &[("namespace N { undefined f([Clamp] octet... a); };", 1)];
+    let end = "1, 1, 1)\nret undefined\ndone\n";
+    expect_ends(
+        &rt,
+        alloc,
+        variadic,
+        &[(ARGUMENTS, MOST, Status::Done, end)],
+    )?;
+    let end = "call #19 this #18 (\"v49999\")\nerror #21 enum\nthr #21\nuncaught #21\n";
+    expect_ends(
+        &rt,
+        alloc,
+        VALUES,
+        &[(VALUE_CALLS, MOST, Status::Uncaught, end)],
+    )
+}
+
+/// Overloads of 1 to 64 arguments, all that a name may have.
+fn many_overloads(alloc: Global) -> Result<Vec<u8>, AllocError> {
+    let mut fragment = Vec::from_slice(alloc, b"namespace N {\n")?;
+    for more in 0..64usize {
+        fragment.extend_from_slice(b"undefined f(any a")?;
+        for number in 0..more {
+            fragment.extend_from_slice(format!(in alloc; ", any a{number}")?.as_bytes())?;
+        }
+        fragment.extend_from_slice(b");\n")?;
     }
-    Ok(())
+    fragment.extend_from_slice(b"};")?;
+    Ok(fragment)
+}
+
+/// Ten thousand calls of the longest overload.
+const OVERLOAD_CALLS: Parts = &[
+    ("function g(a)\ndo N.f(a", 1),
+    (",a", 63),
+    (")\nend\nfunction h()\n", 1),
+    ("do g(7)\n", 100),
+    ("end\n", 1),
+    ("do h()\n", 100),
+];
+
+#[test]
+fn many_overloads_are_called_often(rt: HostRuntime) -> Result<(), Fail> {
+    let alloc = rt.alloc();
+    let end = "7, 7, 7)\nret undefined\nret undefined\nret undefined\ndone\n";
+    let script = bytes_of(alloc, OVERLOAD_CALLS)?;
+    expect_end(
+        &rt,
+        alloc,
+        many_overloads(alloc)?,
+        script,
+        MOST,
+        Status::Done,
+        end,
+    )
+}
+
+/// A script of 1 MiB: after 5 units each turn takes 11. They are for the statements `try` and `do`, the lines of the call and of
+/// two reads, the line of the method's call, its statement and its line `ret`, and the object and the lines of the error.
+const TURNS: Parts = &[
+    (
+        "function v()\nreturn 256\nend\nlet o = object()\nset o.valueOf = v\n",
+        1,
+    ),
+    ("try\ndo N.f(o)\ncatch e\nend\n", 40_327),
+    (" ", 11),
+];
+
+/// Budgets that end after a read of a conversion, after the object of an error, before the last line, and after it.
+const TURN_ENDS: [(Parts, &str, Status, &str); 4] = [
+    (
+        TURNS,
+        "119",
+        Status::Stopped,
+        "call #19 this #18 (#21)\nget #21 @toPrimitive\nstop budget\n",
+    ),
+    (
+        TURNS,
+        "124",
+        Status::Stopped,
+        "call #20 this #21 ()\nret 256\nstop budget\n",
+    ),
+    (
+        TURNS,
+        "443602",
+        Status::Stopped,
+        "error #40348 range\nthr #40348\nstop budget\n",
+    ),
+    (
+        TURNS,
+        "443603",
+        Status::Done,
+        "error #40348 range\nthr #40348\ndone\n",
+    ),
+];
+
+#[test]
+fn budgets_end_a_long_script_anywhere(rt: HostRuntime) -> Result<(), Fail> {
+    let fragment: Parts = &[("namespace N { undefined f([EnforceRange] octet a); };", 1)];
+    expect_ends(&rt, rt.alloc(), fragment, &TURN_ENDS)
 }
 
 /// The second and the third bytes of names. No keyword of three letters has one of the first as its second.
@@ -136,7 +272,7 @@ fn many_names(alloc: Global) -> Result<Vec<u8>, AllocError> {
         push_name(&mut script, b'a', number)?;
         script.extend_from_slice(b"=1\n")?;
     }
-    script.extend_from_slice(&script_of(alloc, CALLS)?)?;
+    script.extend_from_slice(&bytes_of(alloc, CALLS)?)?;
     Ok(script)
 }
 
@@ -153,5 +289,14 @@ const CALLS: Parts = &[
 fn a_call_costs_what_it_gives_and_binds(rt: HostRuntime) -> Result<(), Fail> {
     let alloc = rt.alloc();
     let end = "call #20 this undefined ()\nret 1\nret undefined\nret undefined\ndone\n";
-    expect_end(&rt, alloc, many_names(alloc)?, Status::Done, end)
+    let fragment = Vec::from_slice(alloc, ANY.as_bytes())?;
+    expect_end(
+        &rt,
+        alloc,
+        fragment,
+        many_names(alloc)?,
+        MOST,
+        Status::Done,
+        end,
+    )
 }

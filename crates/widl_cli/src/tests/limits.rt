@@ -1,4 +1,4 @@
-//! How many files a run has, and how long its script is.
+//! How many files a run has, and how long they are.
 
 use super::{add, words_of};
 use crate::{Files, MemoryFolder, NamedFile, Status, widl};
@@ -38,7 +38,7 @@ fn a_run_has_64_files_at_most(rt: HostRuntime) -> Result<(), Fail> {
     expect_files(&rt, alloc, 65, Status::Usage, "usage\n")
 }
 
-/// Runs a script of one long comment.
+/// Runs a script of one long comment over a file of blanks that is as long.
 fn expect_length(
     rt: &impl Abort,
     alloc: Global,
@@ -49,7 +49,8 @@ fn expect_length(
     let mut files = Files::new(alloc);
     let comment = vec![in alloc; b'#'; length]?;
     files.push(NamedFile::new(String::from_str(alloc, "s")?, comment))?;
-    add(alloc, &mut files, "n.idl", "")?;
+    let blanks = vec![in alloc; b' '; length]?;
+    files.push(NamedFile::new(String::from_str(alloc, "n.idl")?, blanks))?;
     let mut folder = MemoryFolder::new(files, Numbers::new(alloc));
     let mut out = MemorySink::new(alloc, 1_000, 1_000, Numbers::new(alloc))?;
     let words = words_of(alloc, &["run", "5", "s", "n.idl"])?;
@@ -59,7 +60,7 @@ fn expect_length(
 }
 
 #[test]
-fn a_script_has_a_mebibyte_at_most(rt: HostRuntime) -> Result<(), Fail> {
+fn a_script_and_a_file_have_a_mebibyte_at_most(rt: HostRuntime) -> Result<(), Fail> {
     let alloc = rt.alloc();
     expect_length(&rt, alloc, 1_048_576, Status::Done, "done\n")?;
     expect_length(&rt, alloc, 1_048_577, Status::TooLong, "too long s\n")

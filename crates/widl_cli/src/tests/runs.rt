@@ -1,6 +1,6 @@
 //! What runs of scripts by the engine print.
 
-use super::{add, expect_run, words_of};
+use super::{FRAGMENT, add, expect_run, words_of};
 use crate::{Files, MemoryFolder, Status, widl};
 use std::alloc::Global;
 use std::process::Abort;
@@ -29,7 +29,7 @@ const CHANGING_GETTER: &str =
 const CHANGED: &str = "call #18 this #19 ()\nthr \"x\"\nshow \"x\"\nshow 1\n";
 
 /// A run: its fragment, its script, its budget, its status and what it prints.
-type Row = (
+pub type Row = (
     &'static str,
     &'static str,
     &'static str,
@@ -37,7 +37,8 @@ type Row = (
     &'static str,
 );
 
-fn expect_runs(rt: &impl Abort, alloc: Global, rows: &[Row]) -> Result<(), Fail> {
+/// Runs scripts, and compares how each ends and what it prints.
+pub fn expect_runs(rt: &impl Abort, alloc: Global, rows: &[Row]) -> Result<(), Fail> {
     for (fragment, script, budget, status, text) in rows {
         expect_run(rt, alloc, budget, fragment, script, *status, text)?;
     }
@@ -136,8 +137,8 @@ const OBJECTS: [Row; 13] = [
         "",
         "do object().toString()\n",
         "100000",
-        Status::Stopped,
-        "call #8 this #18 ()\nstop profile 99\n",
+        Status::Done,
+        "call #8 this #18 ()\nget #18 @toStringTag\nret \"[object Object]\"\ndone\n",
     ),
     (
         "",
@@ -204,7 +205,7 @@ fn objects_are_read_and_written(rt: HostRuntime) -> Result<(), Fail> {
 
 const REFUSED: [Row; 6] = [
     (
-        ANY,
+        FRAGMENT,
         "do M.f(1)\n",
         "5",
         Status::ScriptRefused,
@@ -218,15 +219,15 @@ const REFUSED: [Row; 6] = [
         "script S2 1 8\n",
     ),
     (
-        "namespace N { undefined f(octet a); };",
-        "let a = 1\n",
+        "namespace N { undefined f(long a); undefined g(long? b); };",
+        "",
         "5",
-        Status::ScriptRefused,
-        "script S90 1 1\n",
+        Status::Refused,
+        "refused later 0 0\n",
     ),
     (
-        "namespace N { any f(optional any a); };",
-        "",
+        "namespace N { undefined f(long a); undefined g(long? b); };",
+        "do N.f(\n",
         "5",
         Status::Refused,
         "refused later 0 0\n",
@@ -253,7 +254,7 @@ fn fragments_are_judged_before_the_script(rt: HostRuntime) -> Result<(), Fail> {
 }
 
 /// A text, many times, and then another.
-fn many(alloc: Global, count: usize, text: &str, end: &str) -> Result<String, Fail> {
+pub fn many(alloc: Global, count: usize, text: &str, end: &str) -> Result<String, Fail> {
     let mut all = String::new(alloc);
     for _ in 0..count {
         all.push_str(text)?;
@@ -276,12 +277,7 @@ fn blocks_and_calls_have_their_limits(rt: HostRuntime) -> Result<(), Fail> {
         "script S3 33 1\n",
     )?;
     let calls = many(alloc, 100, "call #18 this #19 ()\n", "stop depth\n")?;
-    let mut folder = MemoryFolder::new(super::files_of(alloc, DEEP, "")?, Numbers::new(alloc));
-    let mut out = MemorySink::new(alloc, 10_000, 10_000, Numbers::new(alloc))?;
-    let words = super::run_words(alloc, "100000")?;
-    assert_eq!(rt; widl(alloc, &words, &mut folder, &mut out), Status::Stopped);
-    assert_eq!(rt; out.held(), calls.as_bytes());
-    Ok(())
+    expect_run(&rt, alloc, "100000", "", DEEP, Status::Stopped, &calls)
 }
 
 /// With each lesser budget the run of the changing getter stops after a prefix of its lines.

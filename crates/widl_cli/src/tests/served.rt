@@ -56,12 +56,18 @@ fn expect_each(
 }
 
 #[test]
-fn runs_are_supported_over_namespaces_of_plain_operations(rt: HostRuntime) -> Result<(), Fail> {
+fn runs_are_supported_over_operations_on_scalars(rt: HostRuntime) -> Result<(), Fail> {
     let files = [
         "",
+        "enum E { \"a\" };",
         "namespace N { };",
         "namespace N { any f(any a); undefined g(); };",
         "typedef any T; namespace N { T f(T a); };",
+        "namespace N { undefined f(optional any a); undefined f(any a, any b, any... c); };",
+        "namespace N { undefined f(boolean a); octet f([Clamp] octet a, [EnforceRange] long long b); };",
+        "namespace N { ByteString f([LegacyNullToEmptyString] DOMString a, USVString b); };",
+        "enum E { \"a\" }; namespace N { E f(optional E a = \"a\"); object g(object a); };",
+        "namespace N { boolean f(); }; partial namespace N { unsigned short g(); };",
     ];
     expect_each(&rt, rt.alloc(), &files, true)
 }
@@ -69,18 +75,19 @@ fn runs_are_supported_over_namespaces_of_plain_operations(rt: HostRuntime) -> Re
 #[test]
 fn runs_are_not_supported_over_other_sets(rt: HostRuntime) -> Result<(), Fail> {
     let files = [
-        "namespace N { undefined f(optional any a); };",
-        "namespace N { undefined f(any... a); };",
-        "namespace N { undefined f(); undefined f(any a); };",
-        "namespace N { undefined f(octet a); };",
-        "namespace N { boolean f(); };",
+        "namespace N { undefined f(long? a); };",
+        "namespace N { undefined f(long a); undefined f(long a, sequence<long> b); };",
+        "namespace N { record<DOMString, long> f(); };",
+        "namespace N { undefined f((long or DOMString) a); };",
+        "namespace N { Promise<undefined> f(); };",
+        "typedef DOMString? T; namespace N { undefined f(optional any a, T... b); };",
         "namespace N { readonly attribute any a; };",
         "namespace N { const long c = 1; };",
-        "namespace N { }; namespace O { undefined f(octet a); };",
+        "namespace N { }; namespace O { octet? f(octet a); };",
         "dictionary D { };",
         "interface I { };",
-        "enum E { \"a\" };",
         "callback C = undefined ();",
+        "callback interface C { undefined f(); };",
     ];
     expect_each(&rt, rt.alloc(), &files, false)
 }

@@ -8,31 +8,32 @@ use std::process::Abort;
 use std::test::Fail;
 use widl_sink::{MemorySink, Numbers};
 
-/// A fragment: texts, each of which comes so many times, with the number of the time in place of each `#`.
-type Parts = &'static [(&'static str, usize)];
+/// A fragment or a script: texts, each of which comes so many times, with the number of the time in place of each `#`.
+pub type Parts = &'static [(&'static str, usize)];
 
-fn fragment_of(alloc: Global, parts: Parts) -> Result<Vec<u8>, AllocError> {
-    let mut fragment = Vec::new(alloc);
+/// The bytes of a fragment or a script.
+pub fn bytes_of(alloc: Global, parts: Parts) -> Result<Vec<u8>, AllocError> {
+    let mut bytes = Vec::new(alloc);
     for (text, count) in parts {
         for number in 0..*count {
-            add_numbered(alloc, &mut fragment, text, number)?;
+            add_numbered(alloc, &mut bytes, text, number)?;
         }
     }
-    Ok(fragment)
+    Ok(bytes)
 }
 
 fn add_numbered(
     alloc: Global,
-    fragment: &mut Vec<u8>,
+    bytes: &mut Vec<u8>,
     text: &str,
     number: usize,
 ) -> Result<(), AllocError> {
     let digits = format!(in alloc; "{number}")?;
     for byte in text.as_bytes() {
         if *byte == b'#' {
-            fragment.extend_from_slice(digits.as_bytes())?;
+            bytes.extend_from_slice(digits.as_bytes())?;
         } else {
-            fragment.push(*byte)?;
+            bytes.push(*byte)?;
         }
     }
     Ok(())
@@ -48,7 +49,7 @@ fn expect_size(
 ) -> Result<(), Fail> {
     let mut files = Files::new(alloc);
     let name = String::from_str(alloc, "a.idl")?;
-    files.push(NamedFile::new(name, fragment_of(alloc, parts)?))?;
+    files.push(NamedFile::new(name, bytes_of(alloc, parts)?))?;
     let mut folder = MemoryFolder::new(files, Numbers::new(alloc));
     let mut out = MemorySink::new(alloc, 1_000, 1_000, Numbers::new(alloc))?;
     let words = words_of(alloc, &["check", "a.idl"])?;
@@ -128,10 +129,7 @@ const LONG_OPERATION: Parts = &[
 
 /// An overload with an ellipsis, which has a tuple of each length that the other one has.
 const ELLIPSIS: Parts = &[
-    (
-        "namespace N { undefined f(any... a); undefined f(any a",
-        1,
-    ),
+    ("namespace N { undefined f(any... a); undefined f(any a", 1),
     (", any a#", 29_999),
     ("); };", 1),
 ];

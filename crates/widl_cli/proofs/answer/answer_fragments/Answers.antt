@@ -7,10 +7,10 @@ use Rattle.widl_cli.proofs.answer.answer_fragments.Goals as goal
 
 pub returns-in-Ok-Fault-clause-answered : goal.returns-in-Ok-Fault-clause-answered
 returns-in-Ok-Fault-clause-answered g c =
-    fault_answered c.args.fragments.now (IsTaskOutput c.args.task.now c.args.fragments.now) c.in-Ok-Fault.finding _ _ _ _ _
+    fault_answered c.args.fragments.now (IsTaskOutput c.args.task.now) c.in-Ok-Fault.finding _ _ _ _ _
     (subst (λ (verdict : Verdict). IsVerdict c.args.fragments.now verdict) c.in-Ok-Fault.field-0-is c.in-Ok-Fault.ensures) c.answer_finding.ensures
 
 pub returns-in-Ok-Broken-clause-answered : goal.returns-in-Ok-Broken-clause-answered
 returns-in-Ok-Broken-clause-answered g c =
-    broken_answered c.args.fragments.now (IsTaskOutput c.args.task.now c.args.fragments.now) c.in-Ok-Broken.refusal _ _ _ _ _
+    broken_answered c.args.fragments.now (IsTaskOutput c.args.task.now) c.in-Ok-Broken.refusal _ _ _ _ _
     (subst (λ (verdict : Verdict). IsVerdict c.args.fragments.now verdict) c.in-Ok-Broken.field-0-is c.in-Ok-Broken.ensures) c.answer_refusal.ensures

@@ -14,7 +14,7 @@ realm-requires g c = served_alone (defs_term c.args.accepted.defs) c.requires.se
 
 pub run-end-requires-clause-read : goal.run-end-requires-clause-read
 run-end-requires-clause-read g c =
-    subst (λ (set : MergedSet). IsReadOver (defs_term set.defs) c.args.script.now) (sym c.in-Ok-compile.ensures) (read_over (defs_term c.args.accepted.defs) c.args.script.now c.requires.read.1.answers)
+    subst (λ (set : MergedSet). IsReadOver (defs_term set.defs) c.args.script.now) (sym c.in-Ok-compile.ensures) (read_over (defs_term c.args.accepted.defs) c.args.script.now c.requires.read.1.answers (served_alone (defs_term c.args.accepted.defs) c.requires.served))
 
 pub run-end-requires-clause-plain : goal.run-end-requires-clause-plain
 run-end-requires-clause-plain g c = plain_steps (script_tree c.args.script.now) _ c.requires.read.1.script.spelled
