@@ -1,12 +1,12 @@
 //! The word `realm`: the first store of a set of files is made, some number of times.
 
 ghost use Rattle.widl_idl.specs.DefinitionTerms.{defs_term};
-ghost use Rattle.widl_store.specs.Realm.{HasOperationsAlone};
+ghost use Rattle.widl_overload.specs.OperationsAlone.{HasOperationsAlone};
 
 use crate::sets::set_of;
 use anyhow::{Result, bail};
 use std::alloc::Global;
-use widl_overload::{Accepted, is_served};
+use widl_overload::{Accepted, has_operations_alone};
 use widl_store::{Store, realm};
 
 /// So many first stores of a list.
@@ -29,11 +29,11 @@ pub fn run(rt: &HostRuntime, args: &[String]) -> Result<()> {
         bail!("{count} is no count");
     };
     let list = set_of(rt, names)?;
-    if is_served(&list) {
+    if has_operations_alone(&list) {
         let stores = stores_of(rt.alloc(), &list, count)?;
         println!(rt; "{} stores", stores.len())?;
         Ok(())
     } else {
-        bail!("no run over the set of files is supported")
+        bail!("the first store of the set of files is not supported")
     }
 }

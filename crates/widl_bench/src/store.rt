@@ -7,7 +7,7 @@ ghost use Rattle.widl_value.specs.declared.object.ObjRef as references;
 use crate::sets::no_files;
 use anyhow::{Result, bail};
 use std::alloc::Global;
-use widl_overload::is_served;
+use widl_overload::has_operations_alone;
 use widl_store::laws::{first_store_is_bounded, references_stay_live};
 use widl_store::{Found, Inner, Put, Store, realm};
 use widl_text::{Key, Units};
@@ -23,10 +23,10 @@ fn first_store(alloc: Global) -> Result<Store>
     let list = no_files(alloc)?;
     first_store_is_bounded();
     let _defs = list.defs();
-    if is_served(&list) {
+    if has_operations_alone(&list) {
         Ok(realm(alloc, &list)?)
     } else {
-        bail!("no run over the set of no files is supported")
+        bail!("the first store of the set of no files is not supported")
     }
 }
 

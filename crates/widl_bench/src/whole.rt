@@ -2,7 +2,7 @@
 
 ghost use Rattle.std.specs.Prelude.{◌≤◌, length};
 ghost use Rattle.widl_idl.specs.DefinitionTerms.{defs_term};
-ghost use Rattle.widl_script.specs.Scripts.{HasRules};
+ghost use Rattle.widl_overload.specs.OperationsAlone.{HasOperationsAlone};
 ghost use Rattle.widl_text.specs.Limits.{most_file_bytes};
 
 use crate::files::read_short;
@@ -10,13 +10,13 @@ use crate::sets::set_of;
 use anyhow::{Result, bail};
 use std::alloc::Global;
 use widl_lines::ScriptFault;
-use widl_overload::Accepted;
-use widl_script::{has_rules, read_script};
+use widl_overload::{Accepted, has_operations_alone};
+use widl_script::read_script;
 
 /// Whether a script breaks no rule.
 fn is_unbroken(alloc: Global, script: &[u8], list: &Accepted) -> Result<bool>
     requires short { length script.now ≤ most_file_bytes }
-    requires rules { HasRules (defs_term list.now.defs) }
+    requires rules { HasOperationsAlone (defs_term list.now.defs) }
 {
     match read_script(alloc, script, list) {
         Ok(_) => Ok(true),
@@ -38,7 +38,7 @@ pub fn run(rt: &HostRuntime, args: &[String]) -> Result<()> {
     for name in names {
         let script = read_short(rt, name.as_str())?;
         bytes = bytes.saturating_add(script.len());
-        if !has_rules(&list) {
+        if !has_operations_alone(&list) {
             bail!("scripts are not read over this set yet");
         }
         if is_unbroken(rt.alloc(), script.as_slice(), &list)? {

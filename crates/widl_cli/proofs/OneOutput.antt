@@ -10,7 +10,7 @@ use Rattle.widl_front.specs.declared.verdict.Verdict.{Verdict}
 use Rattle.widl_front.specs.declared.verdict.Verdict.TheVariants.{Fault, Broken, Accepted}
 use Rattle.widl_idl.specs.DefinitionTerms.{DefsTerm, defs_term}
 use Rattle.widl_lines.specs.declared.script_place.ScriptPlace.{ScriptPlace}
-use Rattle.widl_overload.specs.Served.{IsServed}
+use Rattle.widl_convert.specs.Served.{IsServed}
 use Rattle.widl_script_tree.specs.Trees.{ScriptTree}
 use Rattle.widl_script.specs.Scripts.{IsFirstBreak, IsScriptOf}
 use Rattle.widl_runs.specs.Laws.{HasOneTrace}

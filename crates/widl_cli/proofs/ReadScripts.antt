@@ -9,8 +9,7 @@ use Rattle.widl_idl.specs.declared.callee.Owner.TheVariants as owners
 use Rattle.widl_idl.specs.declared.callee.Part.{Part}
 use Rattle.widl_idl.specs.declared.callee.Part.TheVariants as parts
 use Rattle.widl_idl.specs.DefinitionTerms.{DefsTerm, IfaceTerm, SpaceTerm, OpNameTerm, SigTerm}
-use Rattle.widl_overload.specs.Served.{has_operations_alone, is_none}
-use Rattle.widl_store.specs.Realm.{HasOperationsAlone}
+use Rattle.widl_overload.specs.OperationsAlone.{HasOperationsAlone, has_operations_alone, is_none}
 use Rattle.widl_script_tree.specs.declared.steps.StepLine.{StepLine}
 use Rattle.widl_script_tree.specs.declared.steps.Target.{Target}
 use Rattle.widl_script_tree.specs.declared.steps.Target.TheVariants as targets

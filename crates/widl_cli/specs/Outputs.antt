@@ -4,7 +4,7 @@ use Rattle.std.specs.Io.KnownBytes.{append_known}
 use Rattle.widl_sink.specs.Growth.{GrewByPrefix}
 use Rattle.widl_idl.specs.DefinitionTerms.{defs_term}
 use Rattle.widl_idl.specs.MergedSets.{MergedSet}
-use Rattle.widl_overload.specs.Served.{IsServed}
+use Rattle.widl_convert.specs.Served.{IsServed}
 use Rattle.widl_sets.specs.Listing.{all_lines}
 use Rattle.widl_front.specs.Findings.{finding_line}
 use Rattle.widl_cli.specs.Readings.{Reading, AllRead, MissingFile, LongFile, read_in_order}

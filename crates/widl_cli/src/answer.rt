@@ -24,10 +24,11 @@ use crate::running::run_script;
 use crate::task::Task;
 use std::alloc::{AllocError, Global};
 use std::mem;
+use widl_convert::is_served;
 use widl_folder::FetchError;
 use widl_front::{Finding, Texts, Verdict, judge, line_of_finding, line_of_refusal};
 use widl_idl::Refusal;
-use widl_overload::{Accepted, is_served};
+use widl_overload::Accepted;
 use widl_sets::set_lines;
 use widl_sink::{Line, Sink, WriteFailed, Writer, write_all};
 

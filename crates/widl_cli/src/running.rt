@@ -3,7 +3,7 @@
 ghost use Rattle.std.specs.Prelude.{◌≡◌, ◌≤◌, ◌↔◌, IsTrue, List, length, ℕ};
 ghost use Rattle.widl_text.specs.Limits.{most_file_bytes};
 ghost use Rattle.widl_idl.specs.DefinitionTerms.{defs_term};
-ghost use Rattle.widl_overload.specs.Served.{IsServed};
+ghost use Rattle.widl_convert.specs.Served.{IsServed};
 ghost use Rattle.widl_script_tree.specs.Tables.{script_tree};
 ghost use Rattle.widl_script.specs.Scripts.{IsReadAs};
 ghost use Rattle.widl_cli.specs.Answers.{Answered, Answers};

@@ -3,6 +3,7 @@ pub mod MemberOrder
 pub mod Tasks
 pub mod Words
 pub mod Built
+pub mod Served
 pub mod Primitives
 pub mod Sequences
 pub mod Records

@@ -2,7 +2,7 @@
 
 ghost use Rattle.std.specs.Prelude.{◌≡◌, ◌≤◌, ◌<◌, ℕ};
 ghost use Rattle.widl_idl.specs.MergedSets as merged;
-ghost use Rattle.widl_overload.specs.Served.{IsServed};
+ghost use Rattle.widl_convert.specs.Served.{IsServed};
 ghost use Rattle.widl_script_tree.specs.Tables.{script_tree};
 ghost use Rattle.widl_runs.specs.Fitting.{HasPlainSteps, KeepsFitting};
 ghost use Rattle.widl_runs.specs.Jobs.{Program};

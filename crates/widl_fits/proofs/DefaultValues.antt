@@ -1,5 +1,5 @@
 -- Each literal of the program is what some default value means, so it fits where the tests say so.
-use Rattle.std.proofs.Common.{◌≡◌, ◌↔◌, ℕ, ◌+◌, ◌-◌, ◌*◌, ◌/◌, ◌%◌, ◌^◌, ◌<◌, zero, suc, min, Bool, true, false, cond, nat_lt, List, [], ◌∷◌, ◌++◌, get_or, Option, None, Some, arith, refl, sym, ap, subst, ◌∙◌}
+use Rattle.std.proofs.Common.{◌≡◌, ◌↔◌, ℕ, ◌+◌, ◌-◌, ◌*◌, ◌/◌, ◌%◌, ◌^◌, ◌<◌, zero, suc, min, Bool, true, false, cond, nat_lt, List, [], ◌∷◌, ◌++◌, get_or, Option, None, Some, arith, refl, sym, ap, ◌∙◌}
 use Rattle.std.specs.Prelude.{ℤ, pos, negsuc, neg_ℤ, FitsSigned}
 use Rattle.std.specs.Str.{chars}
 use Rattle.std.specs.Int.{w128}
@@ -17,7 +17,7 @@ use Rattle.widl_idl.specs.declared.literal.Literal.TheVariants as the
 use Rattle.widl_idl.specs.DefinitionTerms.{DefsTerm}
 use Rattle.widl_idl.specs.PlainTypes.{PlainValue, NullValue, UndefinedValue, BooleanValue, IntegerValue, DecimalValue, InfinityValue, MinusInfinityValue, NotANumberValue, TextValue, EmptySequenceValue, EmptyDictionaryValue}
 use Rattle.widl_idl.specs.Terms.{TypeTerm}
-use Rattle.widl_idl.specs.WrittenLiterals.{units_of, value_meant}
+use Rattle.widl_idl.specs.WrittenLiterals.{value_meant}
 use Rattle.widl_overload.specs.DefaultRules.{Fits}
 use Rattle.widl_fits.specs.declared.tables.Tables.{Tables}
 use Rattle.widl_fits.specs.Fitting.{Knows, fits_if, literal_if}

@@ -5,13 +5,14 @@ use Rattle.std.specs.Option.{option_to_list}
 use Rattle.std.proofs.lemmas.List.{get_or-set_same, get_or-set_other, length-map, length-set, length-replicate}
 use Rattle.std.proofs.lemmas.Option.{slice_get_within, slice_get-map, slice_get_read, slice_get-get_or}
 use Rattle.widl_graph.specs.Order.{IsOrder, StandsBefore}
-use Rattle.widl_graph.specs.Reaching.{Step, Reaches, ReachesItself, TellsCyclic, one, more, successors_of}
+use Rattle.widl_graph.specs.Reaching.{Step, Reaches, ReachesItself, one, more, successors_of}
 use Rattle.widl_graph.specs.declared.walk.Walk.{Walk}
 use Rattle.widl_graph.proofs.Orders.{earlier_place}
 use Rattle.widl_idl.specs.declared.dictionary.Dict.{Dict}
 use Rattle.widl_idl.specs.declared.dictionary.Member.{Member}
 use Rattle.widl_idl.specs.DefinitionTerms.{DictTerm, MemberTerm, dict_term, member_term}
 use Rattle.widl_overload.specs.Dictionaries.{HasRequired, dictionary_parents}
+use Rattle.widl_fits.specs.Hierarchies.{IsHierarchy}
 use Rattle.widl_fits.specs.Required.{AreKnown, AreParentsFirst, TellsRequired, has_own, is_flagged, parent_flagged, required_by}
 
 -- the members of a dictionary and their terms are required alike
@@ -79,7 +80,7 @@ module _ (dicts : List DictTerm) where
   to_parent : (x y : ℕ) (d : DictTerm) → slice_get dicts x ≡ Some d → d.parent ≡ Some y → Step (dictionary_parents dicts) x y
   to_parent x y d is parent = subst (λ ys. Contains ys y) (sym (parent_at dicts x ∙ ap parent_in is ∙ ap option_to_list parent)) (0, omega arith, refl)
 
-  step_parent : (x y : ℕ) → Step (dictionary_parents dicts) x y → (d : DictTerm) × (slice_get dicts x ≡ Some d) × (d.parent ≡ Some y)
+  pub step_parent : (x y : ℕ) → Step (dictionary_parents dicts) x y → (d : DictTerm) × (slice_get dicts x ≡ Some d) × (d.parent ≡ Some y)
   step_parent x y s = by_dictionary (slice_get dicts x) refl (subst (λ ys. Contains ys y) (parent_at dicts x) s)
     where
       by_parent : (d : DictTerm) (parent : Option ℕ) → d.parent ≡ parent → slice_get dicts x ≡ Some d → Contains (option_to_list parent) y → (d : DictTerm) × (slice_get dicts x ≡ Some d) × (d.parent ≡ Some y)
@@ -205,16 +206,10 @@ module _ (dicts : List DictTerm) (order : List ℕ) (first : AreParentsFirst dic
           let none : is_flagged flags x ≡ false = past_false x (omega (arith, size, beyond)) in
           (λ h. absurd (let f : true ≡ false = sym h ∙ none in (cc)), λ h. absurd (none_past dicts x beyond h))
 
--- an order of a walk in which nothing reaches itself
-no_cycle : (flags : List Bool) (x : ℕ) → list_any (λ flag. flag) flags ≡ false → slice_get flags x ≡ Some true → ⊥
-no_cycle [] x none is = absurd (let f : None ≡ Some true = is in (cc))
-no_cycle (true ∷ flags) x none is = absurd (let f : true ≡ false = none in (cc))
-no_cycle (false ∷ flags) zero none is = absurd (let f : Some false ≡ Some true = is in (cc))
-no_cycle (false ∷ flags) (suc x) none is = no_cycle flags x none is
-
-pub walked_order : (dicts : List DictTerm) (graph : List (List ℕ)) (walk : Walk) (flags : List Bool) (order : List ℕ) → graph ≡ dictionary_parents dicts → flags ≡ walk.cyclic.items → order ≡ walk.order.items → list_any (λ flag. flag) flags ≡ false
-    → TellsCyclic graph walk.cyclic.items → IsOrder (length graph) walk.order.items → ((x y : ℕ) → (ReachesItself graph x → ⊥) → Step graph x y → StandsBefore walk.order.items y x) → AreParentsFirst dicts order
-walked_order dicts graph walk flags order graph_is flags_is order_is none cyclic all before = record {
+-- the order of a walk over the parents of a hierarchy
+pub walked_order : (dicts : List DictTerm) (graph : List (List ℕ)) (walk : Walk) (order : List ℕ) → IsHierarchy dicts → graph ≡ dictionary_parents dicts → order ≡ walk.order.items → IsOrder (length graph) walk.order.items
+    → ((x y : ℕ) → (ReachesItself graph x → ⊥) → Step graph x y → StandsBefore walk.order.items y x) → AreParentsFirst dicts order
+walked_order dicts graph walk order hierarchy graph_is order_is all before = record {
   order_is = subst (IsOrder (length dicts)) (sym order_is) (subst (λ n. IsOrder n walk.order.items) (ap length graph_is ∙ length-map dicts (λ (d : DictTerm). option_to_list d.parent)) all);
-  before = λ x y s. subst (λ o. StandsBefore o y x) (sym order_is) (before x y (λ r. no_cycle walk.cyclic.items x (ap (list_any (λ flag. flag)) (sym flags_is) ∙ none) ((cyclic.tells x).1 r)) (subst (λ g. Step g x y) (sym graph_is) s));
+  before = λ x y s. subst (λ o. StandsBefore o y x) (sym order_is) (before x y (λ r. hierarchy.acyclic x (subst (λ g. ReachesItself g x) graph_is r)) (subst (λ g. Step g x y) (sym graph_is) s));
 }

@@ -3,6 +3,7 @@
 ghost use Rattle.std.specs.Prelude.{◌≡◌, ◌++◌, ◌∷◌, [], ◌↔◌, ℕ, false, map, option_to_list, replicate, slice_get, IfOk, IsTrue, OnOk, true, Some};
 ghost use Rattle.std.specs.List.{list_any};
 ghost use Rattle.widl_idl.specs.DefinitionTerms.{dict_term};
+ghost use Rattle.widl_fits.specs.Hierarchies.{IsHierarchy};
 ghost use Rattle.widl_fits.specs.Required.{AreParentsFirst, TellsRequired, has_own, is_flagged, parent_flagged, required_by};
 ghost use Rattle.widl_overload.specs.Dictionaries.{dictionary_parents};
 
@@ -15,19 +16,13 @@ use widl_idl::{Dict, Member};
 ///
 /// # Errors
 ///
-/// `AllocError` where there is no memory, also where a parent is none of these dictionaries or one of
-/// them inherits from itself, which no merged list has.
+/// `AllocError` where there is no memory.
 pub fn required_members(alloc: Global, dicts: &[Dict]) -> Result<Vec<bool>, AllocError>
+    requires { IsHierarchy (map dict_term dicts.now) }
     ensures { IfOk result (λ flags. TellsRequired (map dict_term dicts.now) flags.items) }
 {
     let graph = parents(alloc, dicts)?;
-    if !graph.is_complete() {
-        return Err(AllocError);
-    }
     let walk = Walk::over(alloc, &graph)?;
-    if is_any_set(walk.cyclic.as_slice()) {
-        return Err(AllocError);
-    }
     flags_in_order(alloc, dicts, walk.order.as_slice())
 }
 
@@ -54,12 +49,6 @@ fn add_child(graph: &mut Graph, parent: Option<u32>) -> Result<(), AllocError>
             Ok(())
         }
     }
-}
-
-fn is_any_set(flags: &[bool]) -> bool
-    ensures { result ≡ list_any (λ flag. flag) flags.now }
-{
-    flags.iter().any(|flag| *flag)
 }
 
 /// The flags of the dictionaries, in an order in which the parent of each stands before it.

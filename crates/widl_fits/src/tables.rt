@@ -3,6 +3,8 @@
 ghost use Rattle.std.specs.Prelude.{IfOk};
 ghost use Rattle.widl_idl.specs.DefinitionTerms.{defs_term};
 ghost use Rattle.widl_fits.specs.Fitting.{Knows, KnowsRequired};
+ghost use Rattle.widl_fits.specs.Hierarchies.{IsHierarchy};
+ghost use Rattle.widl_overload.specs.Dictionaries.{dictionary_terms};
 
 use crate::choice_values::{ChoiceValues, list_values};
 use crate::required_members::required_members;
@@ -23,8 +25,9 @@ impl<'d> Tables<'d> {
     ///
     /// # Errors
     ///
-    /// Those of [`required_members`].
+    /// `AllocError` where there is no memory.
     pub fn of(alloc: Global, defs: &'d Defs) -> Result<Tables<'d>, AllocError>
+        requires { IsHierarchy (dictionary_terms defs.now) }
         ensures { IfOk result (λ tables. Knows (defs_term defs.now) tables) }
     {
         let required = required_members(alloc, defs.dicts.as_slice())?;
@@ -36,8 +39,9 @@ impl<'d> Tables<'d> {
     ///
     /// # Errors
     ///
-    /// Those of [`required_members`].
+    /// `AllocError` where there is no memory.
     pub fn of_dictionaries(alloc: Global, defs: &'d Defs) -> Result<Tables<'d>, AllocError>
+        requires { IsHierarchy (dictionary_terms defs.now) }
         ensures { IfOk result (λ tables. KnowsRequired (defs_term defs.now) tables) }
     {
         let required = required_members(alloc, defs.dicts.as_slice())?;

@@ -3,12 +3,12 @@ use Rattle.std.proofs.Common.{◌≡◌, ◌≢◌, ◌⊎◌, inl, inr, ℕ, su
 use Rattle.std.specs.List.{Contains, list_any}
 use Rattle.std.proofs.lemmas.List.{get_or-set_same, get_or-set_other, get_or_past, length-replicate, length-set}
 use Rattle.std.proofs.lemmas.List.Folds.{list_any_at}
-use Rattle.std.proofs.lemmas.Option.{get_or_from_slice_get, slice_get_within, slice_get-get_or}
+use Rattle.std.proofs.lemmas.Option.{slice_get_within, slice_get-get_or}
 use Rattle.widl_graph.specs.declared.walk.Walk.{Walk}
 use Rattle.widl_graph.specs.Order.{IsOrder, StandsBefore}
-use Rattle.widl_graph.specs.Reaching.{Step, Reaches, ReachesItself, TellsCyclic, one, more, successors_of}
+use Rattle.widl_graph.specs.Reaching.{Step, Reaches, one, more, successors_of}
 use Rattle.widl_graph.proofs.Orders.{earlier_place}
-use Rattle.widl_inheritance.specs.ReachedFlags.{IsWalk, ReachesFlag, TellsReached, reaches_by}
+use Rattle.widl_inheritance.specs.ReachedFlags.{IsAcyclic, IsWalk, ReachesFlag, TellsReached, reaches_by}
 
 -- a test that one of a list passes
 any_from : (test : ℕ → Bool) (xs : List ℕ) → list_any test xs ≡ true → (y : ℕ) × Contains xs y × (test y ≡ true)
@@ -94,22 +94,14 @@ module _ (graph : List (List ℕ)) (flags : List Bool) (order : List ℕ) (count
     tells = λ place z below listed. at_place new is (flag_is before e) place z below listed (nat_lt place count) refl;
   }
 
--- a node whose flag is not set does not reach itself
-pub not_cyclic : (graph : List (List ℕ)) (flags : List Bool) (x : ℕ) → TellsCyclic graph flags → get_or flags x false ≡ false → ReachesItself graph x → ⊥
-not_cyclic graph flags x tells e r =
-    let set_there : get_or flags x false ≡ true = get_or_from_slice_get flags x true false ((tells.tells x).1 r) in
-    let wrong : true ≡ false = sym set_there ∙ e in
-    (cc)
-
 -- the same, as a loop over the order of a walk has it
-pub walked_next : (graph : List (List ℕ)) (walk : Walk) (flags : List Bool) (count : ℕ) (old new : List Bool) (flag : Bool) (numbers : List ℕ) (cyclic seen : List Bool) → IsWalk graph walk → numbers ≡ walk.order.items → cyclic ≡ walk.cyclic.items → seen ≡ old → count < length numbers
-    → get_or cyclic (get_or numbers count 0) false ≡ false → flag ≡ list_any (reaches_by flags seen) (successors_of graph (get_or numbers count 0)) → new ≡ set old (get_or numbers count 0) flag
+pub walked_next : (graph : List (List ℕ)) (walk : Walk) (flags : List Bool) (count : ℕ) (old new : List Bool) (flag : Bool) (numbers : List ℕ) (seen : List Bool) → IsWalk graph walk → IsAcyclic graph → numbers ≡ walk.order.items → seen ≡ old → count < length numbers
+    → flag ≡ list_any (reaches_by flags seen) (successors_of graph (get_or numbers count 0)) → new ≡ set old (get_or numbers count 0) flag
     → TellsFirst graph flags walk.order.items count old → TellsFirst graph flags walk.order.items (count + 1) new
-walked_next graph walk flags count old new flag numbers cyclic seen walked ordered told same below plain e is known =
+walked_next graph walk flags count old new flag numbers seen walked acyclic ordered same below e is known =
     let x : ℕ = get_or numbers count 0 in
     let here : slice_get walk.order.items count ≡ Some x = ap (λ l. slice_get l count) (sym ordered) ∙ slice_get-get_or numbers count 0 below in
-    let free : ReachesItself graph x → ⊥ = not_cyclic graph walk.cyclic.items x walked.cyclic (ap (λ fs. get_or fs x false) (sym told) ∙ plain) in
-    first_next graph flags walk.order.items count old x flag walked.order here known new (λ y s. walked.before x y free s) (e ∙ ap (λ fs. list_any (reaches_by flags fs) (successors_of graph x)) same) is
+    first_next graph flags walk.order.items count old x flag walked.order here known new (λ y s. walked.before x y (acyclic x) s) (e ∙ ap (λ fs. list_any (reaches_by flags fs) (successors_of graph x)) same) is
 
 -- a number past the nodes reaches nothing
 past_none : (graph : List (List ℕ)) (flags : List Bool) (x : ℕ) → length graph ≤ x → ReachesFlag graph flags x → ⊥

@@ -1,20 +1,19 @@
 -- The graph of dictionaries, a node at a time.
 use Rattle.std.proofs.Common.{◌≡◌, ℕ, ◌+◌, ◌<◌, ◌++◌, Bool, true, false, List, [], ◌∷◌, length, map, get_or, slice_get, Some, option_map, arith, refl, sym, ap, subst, ◌∙◌, nat_lt, length-append}
-use Rattle.std.specs.List.{Contains, EachIndex, flat_map}
+use Rattle.std.specs.List.{flat_map}
 use Rattle.std.proofs.Math.ListN.{get_or-append}
 use Rattle.std.proofs.Math.Seq.{get_or-append_seam}
 use Rattle.std.proofs.lemmas.List.{length-map}
 use Rattle.std.proofs.lemmas.List.Folds.{flat_map-map}
 use Rattle.std.proofs.lemmas.Option.{slice_get-map, slice_get_read}
 use Rattle.widl_graph.specs.Reaching.{successors_of}
-use Rattle.widl_graph.proofs.Complete.{from_each}
 use Rattle.widl_idl.specs.declared.dictionary.Dict.{Dict}
 use Rattle.widl_idl.specs.declared.dictionary.Member.{Member}
 use Rattle.widl_idl.specs.declared.types.IdlType.{IdlType}
 use Rattle.widl_idl.specs.DefinitionTerms.{DictTerm, dict_term, member_term}
 use Rattle.widl_idl.specs.Terms.{type_term, packed}
-use Rattle.widl_inheritance.specs.HoldingGraph.{IsHoldingGraph, IsTypeGraph, IsWithin, member_links}
-use Rattle.widl_overload.specs.Dictionaries.{dictionaries_in, dictionaries_in_all, dictionaries_of_members}
+use Rattle.widl_inheritance.specs.HoldingGraph.{AreWithin, IsHoldingGraph, IsTypeGraph, IsWithin, member_links}
+use Rattle.widl_overload.specs.Dictionaries.{dictionaries_in, dictionaries_in_all}
 
 -- the nodes of a graph with one more
 module _ (old new : List (List ℕ)) (links : List ℕ) (added : new ≡ old ++ links ∷ []) where
@@ -89,9 +88,11 @@ members_more dicts i dict old new links below is so added linked within =
     (linked ∙ ap (λ k. member_links k (dict_term dict)) (sym (length-map dicts dict_term)))
     (subst (λ k. IsWithin k (dict_term dict)) (sym (length-map dicts dict_term)) within)
 
--- what a dictionary names, by the tests
-pub within_count : (count : ℕ) (d : DictTerm) (inside : List ℕ) → inside ≡ dictionaries_of_members d → EachIndex inside (λ k. get_or inside k 0 < count) → ((p : ℕ) → d.parent ≡ Some p → p < count) → IsWithin count d
-within_count count d inside is each above = record { inside = λ m c. from_each inside count m each (subst (λ xs. Contains xs m) (sym is) c); above = above }
+-- what a dictionary names, as a loop over dictionaries has it
+pub item_within : (dicts : List Dict) (i : ℕ) (dict : Dict) → i < length dicts → dict ≡ get_or dicts i dict → AreWithin (map dict_term dicts) → IsWithin (length dicts) (dict_term dict)
+item_within dicts i dict below is all =
+    subst (λ k. IsWithin k (dict_term dict)) (length-map dicts dict_term)
+    (all i (dict_term dict) (slice_get-map dict_term dicts i ∙ ap (option_map dict_term) (slice_get_read dicts (length dicts) i dict refl below is)))
 
 -- the dictionaries in the types of members, as a loop over them has it
 pub members_inside : (members : List Member) → flat_map (λ m. dictionaries_in (type_term m.ty)) members ≡ flat_map (λ m. dictionaries_in m.ty) (map member_term members)

@@ -41,7 +41,7 @@ parent_of_step [] n m s = absurd (let l = s.1 in omega arith)
 parent_of_step (d ∷ dicts) zero m s = (d, refl, has_one d.parent m s)
 parent_of_step (d ∷ dicts) (suc n) m s = parent_of_step dicts n m s
 
-parent_step : (dicts : List DictTerm) (n m : ℕ) (d : DictTerm) → slice_get dicts n ≡ Some d → d.parent ≡ Some m → Step (dictionary_parents dicts) n m
+pub parent_step : (dicts : List DictTerm) (n m : ℕ) (d : DictTerm) → slice_get dicts n ≡ Some d → d.parent ≡ Some m → Step (dictionary_parents dicts) n m
 parent_step [] n m d is above = absurd (cc)
 parent_step (e ∷ dicts) zero m d is above = subst (λ o. Contains (option_to_list o) m) (sym (ap (λ x. x.parent) (some_is is) ∙ above)) (0, omega arith, refl)
   where

@@ -3,6 +3,8 @@ pub mod WrittenFits
 pub mod Lacking
 pub mod HoldingNodes
 pub mod HoldingSteps
+pub mod HoldingCircles
+pub mod MergedTypes
 pub mod ChainSteps
 pub mod LongestChains
 pub mod NamedDictionaries

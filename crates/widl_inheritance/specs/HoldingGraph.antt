@@ -18,6 +18,10 @@ pub record IsWithin (count : ℕ) (d : DictTerm) : Type 0 where
   pub inside : (m : ℕ) → Contains (dictionaries_of_members d) m → m < count
   pub above : (p : ℕ) → d.parent ≡ Some p → p < count
 
+-- the dictionaries name none past the last of them, as in each merged list
+abbrev pub AreWithin : List DictTerm → Type 0
+AreWithin dicts = (n : ℕ) (d : DictTerm) → slice_get dicts n ≡ Some d → IsWithin (length dicts) d
+
 -- the graph has so many nodes of dictionaries as types, each followed by that of its members
 pub record IsTypeGraph (count nodes : ℕ) (graph : List (List ℕ)) : Type 0 where
   pub size : length graph ≡ nodes

@@ -5,9 +5,11 @@ ghost use Rattle.widl_idl.specs.DefinitionTerms.{DefsTerm, defs_term};
 ghost use Rattle.widl_idl.specs.First.{FirstWhere, Somewhere};
 ghost use Rattle.widl_idl.specs.PlainTrees.{plain_definitions};
 ghost use Rattle.widl_fits.specs.Fitting.{Knows};
+ghost use Rattle.widl_fits.specs.Hierarchies.{IsHierarchy};
 ghost use Rattle.widl_inheritance.specs.WrittenDefaults.{defaulted_of, listed_defaults};
 ghost use Rattle.widl_names.specs.Listings.{listed_definitions};
 ghost use Rattle.widl_overload.specs.DefaultRules.{HasOtherDefault, IsOtherDefault};
+ghost use Rattle.widl_overload.specs.Dictionaries.{dictionary_terms};
 
 use crate::defaulted::{Defaulted, list_defaults};
 use crate::fitting::fits;
@@ -22,8 +24,7 @@ use widl_names::{MOST_TYPES, Resolver};
 ///
 /// # Errors
 ///
-/// `AllocError` where there is no memory, also where a dictionary inherits from itself or from none of
-/// the list, which no merged list has, and where typedefs make more types of one that is written than
+/// `AllocError` where there is no memory, also where typedefs make more types of one that is written than
 /// [`MOST_TYPES`].
 pub fn first_other_default<'a>(
     alloc: Global,
@@ -31,7 +32,8 @@ pub fn first_other_default<'a>(
     resolver: &Resolver<'_, '_, 'a>,
     definitions: &[&'a Definition],
 ) -> Result<Option<Violation>, AllocError>
-    requires { listed_definitions definitions.now ≡ plain_definitions resolver.now }
+    requires listed { listed_definitions definitions.now ≡ plain_definitions resolver.now }
+    requires hierarchy { IsHierarchy (dictionary_terms defs.now) }
     ensures { IfOk result (λ found. FirstWhere (HasOtherDefault (defs_term defs.now) (plain_definitions resolver.now)) found) }
 {
     let defaults = list_defaults(alloc, definitions)?;

@@ -9,10 +9,12 @@ ghost use Rattle.widl_idl.specs.PlainTypes.{form_term, type_of};
 ghost use Rattle.widl_idl.specs.Terms.{type_term};
 ghost use Rattle.widl_inheritance.specs.EmptyDefaults.{LacksHere, is_name_or_union, may_take_dictionary, needs_default, takes_no_member};
 ghost use Rattle.widl_fits.specs.Fitting.{KnowsRequired};
+ghost use Rattle.widl_fits.specs.Hierarchies.{IsHierarchy};
 ghost use Rattle.widl_inheritance.specs.WrittenLists.{listed_arguments};
 ghost use Rattle.widl_names.specs.Listings.{listed_definitions};
 ghost use Rattle.widl_overload.specs.ArgumentRules.{is_required};
 ghost use Rattle.widl_overload.specs.DefaultRules.{HasNoEmptyDefault, LacksEmptyDefault};
+ghost use Rattle.widl_overload.specs.Dictionaries.{dictionary_terms};
 
 use crate::call_lists::list_calls;
 use std::alloc::{AllocError, Global};
@@ -27,8 +29,7 @@ use widl_names::{MOST_TYPES, Resolver};
 ///
 /// # Errors
 ///
-/// `AllocError` where there is no memory, also where a dictionary inherits from itself or from none of
-/// the list, which no merged list has, and where typedefs make more types of one that is written than
+/// `AllocError` where there is no memory, also where typedefs make more types of one that is written than
 /// [`MOST_TYPES`].
 pub fn first_without_empty_default<'a>(
     alloc: Global,
@@ -36,7 +37,8 @@ pub fn first_without_empty_default<'a>(
     resolver: &Resolver<'_, '_, 'a>,
     definitions: &[&'a Definition],
 ) -> Result<Option<Violation>, AllocError>
-    requires { listed_definitions definitions.now ≡ plain_definitions resolver.now }
+    requires listed { listed_definitions definitions.now ≡ plain_definitions resolver.now }
+    requires hierarchy { IsHierarchy (dictionary_terms defs.now) }
     ensures { IfOk result (λ found. FirstWhere (HasNoEmptyDefault (defs_term defs.now) (plain_definitions resolver.now)) found) }
 {
     let lists = list_calls(alloc, definitions)?;

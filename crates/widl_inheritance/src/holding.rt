@@ -8,12 +8,12 @@
 //! dictionaries in the types of n's own members, and to the members of the dictionary from which n
 //! inherits.
 
-ghost use Rattle.std.specs.Prelude.{◌≡◌, ◌+◌, ◌^◌, ◌<◌, ◌↔◌, [], ◌∷◌, ◌++◌, EachIndex, IfOk, IsTrue, OnOk, Some, length, map, slice_get, slice_index, true};
+ghost use Rattle.std.specs.Prelude.{◌≡◌, ◌+◌, ◌^◌, ◌<◌, ◌↔◌, [], ◌∷◌, ◌++◌, IfOk, IsTrue, OnOk, Some, length, map, slice_get, true};
 ghost use Rattle.widl_idl.specs.DefinitionTerms.{dict_term};
 ghost use Rattle.widl_idl.specs.First.{FirstWhere};
 ghost use Rattle.widl_idl.specs.MergingRules.{IsAt};
 ghost use Rattle.widl_idl.specs.Terms.{packed, type_term};
-ghost use Rattle.widl_inheritance.specs.HoldingGraph.{AreHoldings, IsAtName, IsHoldingGraph, IsTypeGraph, IsWithin, member_links};
+ghost use Rattle.widl_inheritance.specs.HoldingGraph.{AreHoldings, AreWithin, IsAtName, IsHoldingGraph, IsTypeGraph, IsWithin, member_links};
 ghost use Rattle.widl_overload.specs.Dictionaries.{dictionaries_in, dictionaries_in_all, dictionaries_of_members};
 ghost use Rattle.widl_overload.specs.DictionaryRules.{HoldsItself};
 
@@ -35,9 +35,9 @@ impl Holdings {
     ///
     /// # Errors
     ///
-    /// `AllocError` where there is no memory, and where a member's type or a parent names a dictionary
-    /// past the end of the list, which a merged list never does.
+    /// `AllocError` where there is no memory.
     pub fn of(alloc: Global, dicts: &[Dict]) -> Result<Holdings, AllocError>
+        requires { AreWithin (map dict_term dicts.now) }
         ensures { IfOk result (λ holdings. AreHoldings (map dict_term dicts.now) holdings) }
     {
         let mut graph = type_graph(alloc, dicts.len())?;
@@ -103,7 +103,8 @@ fn type_graph(alloc: Global, count: usize) -> Result<Graph, AllocError>
 
 /// Adds the nodes of the members of dictionaries.
 fn add_members(alloc: Global, graph: &mut Graph, dicts: &[Dict]) -> Result<(), AllocError>
-    requires { IsTypeGraph (length dicts.now) (length dicts.now) graph.old }
+    requires graph { IsTypeGraph (length dicts.now) (length dicts.now) graph.old }
+    requires within { AreWithin (map dict_term dicts.now) }
     ensures { OnOk result (IsHoldingGraph (map dict_term dicts.now) (length dicts.now) graph.new) }
 {
     for dict in dicts {
@@ -115,20 +116,13 @@ fn add_members(alloc: Global, graph: &mut Graph, dicts: &[Dict]) -> Result<(), A
 
 /// The nodes to which the members of one of `count` dictionaries lead.
 fn links_of(alloc: Global, count: usize, dict: &Dict) -> Result<Vec<usize>, AllocError>
-    requires { count + count < 2 ^ 64 }
-    ensures links { IfOk result (λ links. links.items ≡ member_links count (dict_term dict.now)) }
-    ensures within { IfOk result (λ links. IsWithin count (dict_term dict.now)) }
+    requires room { count + count < 2 ^ 64 }
+    requires within { IsWithin count (dict_term dict.now) }
+    ensures { IfOk result (λ links. links.items ≡ member_links count (dict_term dict.now)) }
 {
     let mut links = inside_of(alloc, dict)?;
-    if !all_below(links.as_slice(), count) {
-        return Err(AllocError);
-    }
     if let Some(parent) = dict.parent {
-        let parent = parent as usize;
-        if parent >= count {
-            return Err(AllocError);
-        }
-        links.push(count + parent)?;
+        links.push(count + parent as usize)?;
     }
     Ok(links)
 }
@@ -173,11 +167,4 @@ fn add_inside_all(inside: &mut Vec<usize>, types: &[IdlType]) -> Result<(), Allo
         add_inside(inside, ty)?;
     }
     Ok(())
-}
-
-/// Whether each of the numbers is below the count.
-fn all_below(numbers: &[usize], count: usize) -> bool
-    ensures { IsTrue result ↔ EachIndex numbers.now (λ k. slice_index numbers.now k < count) }
-{
-    numbers.iter().all(|number| *number < count)
 }

@@ -4,7 +4,7 @@ ghost use Rattle.std.specs.Prelude.{◌≡◌, length, IfOk};
 ghost use Rattle.widl_idl.specs.MergingRules.{parent_links};
 ghost use Rattle.widl_idl.specs.PlainTrees.{plain_definitions};
 ghost use Rattle.widl_inheritance.specs.Iterations.{TellsMembers};
-ghost use Rattle.widl_inheritance.specs.ReachedFlags.{TellsReached};
+ghost use Rattle.widl_inheritance.specs.ReachedFlags.{IsAcyclic, TellsReached};
 ghost use Rattle.widl_overload.specs.IterableRules.{has_iterable, has_iteration_name};
 
 use crate::interface_members::interface_members;
@@ -52,13 +52,13 @@ pub fn own_flags<'a>(
 ///
 /// # Errors
 ///
-/// `AllocError` where there is no memory, and where a definition inherits from itself, which none of a
-/// merged list does.
+/// `AllocError` where there is no memory.
 pub fn inherited_flags(
     alloc: Global,
     meanings: &Meanings<'_, '_>,
     own: &InterfaceFlags,
 ) -> Result<InterfaceFlags, AllocError>
+    requires { IsAcyclic (parent_links (plain_definitions meanings.now)) }
     ensures iterable { IfOk result (λ found. TellsReached (parent_links (plain_definitions meanings.now)) own.now.iterable.items found.iterable.items) }
     ensures named { IfOk result (λ found. TellsReached (parent_links (plain_definitions meanings.now)) own.now.named.items found.named.items) }
 {

@@ -4,8 +4,10 @@
 
 ghost use Rattle.std.specs.Prelude.{◌≡◌, length, IfOk};
 ghost use Rattle.widl_idl.specs.First.{FirstWhere, earlier};
+ghost use Rattle.widl_idl.specs.MergingRules.{parent_links};
 ghost use Rattle.widl_idl.specs.PlainTrees.{plain_definitions};
 ghost use Rattle.widl_inheritance.specs.Iterations.{BelowCount, HasSecondAt, HidesAt, TellsMembers};
+ghost use Rattle.widl_inheritance.specs.ReachedFlags.{IsAcyclic};
 ghost use Rattle.widl_overload.specs.IterableRules.{HasSecondIterable, HidesIterationMethod, has_iterable};
 
 use crate::interface_lines::{InterfaceFlags, inherited_flags, own_flags};
@@ -30,14 +32,14 @@ pub struct IterableViolations {
 ///
 /// # Errors
 ///
-/// `AllocError` where there is no memory, and where a definition inherits from itself, which none of a
-/// merged list does.
+/// `AllocError` where there is no memory.
 pub fn find_iterables<'a>(
     alloc: Global,
     meanings: &Meanings<'_, 'a>,
     parts: &Parts<'_, 'a>,
 ) -> Result<IterableViolations, AllocError>
-    requires { parts.now ≡ meanings.now }
+    requires same { parts.now ≡ meanings.now }
+    requires acyclic { IsAcyclic (parent_links (plain_definitions meanings.now)) }
     ensures second { IfOk result (λ violations. FirstWhere (HasSecondIterable (plain_definitions meanings.now)) violations.second) }
     ensures hidden { IfOk result (λ violations. FirstWhere (HidesIterationMethod (plain_definitions meanings.now)) violations.hidden) }
 {

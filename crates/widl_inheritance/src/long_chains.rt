@@ -1,7 +1,8 @@
 //! The rule on long chains of dictionaries, each in the type of a member of the one before.
 
-ghost use Rattle.std.specs.Prelude.{◌≡◌, ◌↔◌, IfOk, IsTrue, map, nat_lt, replicate, slice_index, true};
+ghost use Rattle.std.specs.Prelude.{◌≡◌, IfOk, map, nat_lt, replicate, slice_index, true};
 ghost use Rattle.std.specs.List.{Contains};
+ghost use Rattle.widl_fits.specs.Hierarchies.{IsHierarchy};
 ghost use Rattle.widl_idl.specs.DefinitionTerms.{dict_term};
 ghost use Rattle.widl_idl.specs.First.{FirstWhere};
 ghost use Rattle.widl_inheritance.specs.ChainLengths.{TellsLengths, greatest_length, node_length};
@@ -19,32 +20,22 @@ use widl_text::limits::MOST_CHAINED_DICTIONARIES;
 ///
 /// # Errors
 ///
-/// `AllocError` where there is no memory, and where dictionaries inherit from each other in a circle,
-/// which those of a merged list never do.
+/// `AllocError` where there is no memory.
 pub fn first_long_chain(
     alloc: Global,
     dicts: &[Dict],
     holdings: &Holdings,
 ) -> Result<Option<Violation>, AllocError>
-    requires { AreHoldings (map dict_term dicts.now) holdings.now }
+    requires holdings { AreHoldings (map dict_term dicts.now) holdings.now }
+    requires hierarchy { IsHierarchy (map dict_term dicts.now) }
     ensures { IfOk result (λ found. FirstWhere (BeginsLongChain (map dict_term dicts.now)) found) }
 {
     if first_holding_itself(dicts, holdings).is_some() {
         return Ok(None);
     }
-    if any_set(holdings.walk.cyclic.as_slice()) {
-        return Err(AllocError);
-    }
     let lengths = chain_lengths(alloc, dicts, holdings)?;
     let long = long_flags(alloc, lengths.as_slice())?;
     Ok(first_flagged(long.as_slice(), dicts))
-}
-
-/// Whether one of the flags is set.
-fn any_set(flags: &[bool]) -> bool
-    ensures { IsTrue result ↔ Contains flags.now true }
-{
-    flags.iter().any(|flag| *flag)
 }
 
 /// For each length whether it passes the limit.

@@ -2,7 +2,7 @@
 
 ghost use Rattle.std.specs.Prelude.{◌≡◌, ◌||◌, replicate, slice_index_or, IfOk, false};
 ghost use Rattle.std.specs.List.{list_any};
-ghost use Rattle.widl_inheritance.specs.ReachedFlags.{IsWalk, TellsReached, reaches_by};
+ghost use Rattle.widl_inheritance.specs.ReachedFlags.{IsAcyclic, IsWalk, TellsReached, reaches_by};
 
 use std::alloc::{AllocError, Global};
 use widl_graph::{Graph, Walk};
@@ -11,22 +11,19 @@ use widl_graph::{Graph, Walk};
 ///
 /// # Errors
 ///
-/// `AllocError` where there is no memory, and where a node reaches itself, which no definition of a
-/// merged list does.
+/// `AllocError` where there is no memory.
 pub fn flags_reached(
     alloc: Global,
     graph: &Graph,
     walk: &Walk,
     flags: &[bool],
 ) -> Result<Vec<bool>, AllocError>
-    requires { IsWalk graph.now walk.now }
+    requires walk { IsWalk graph.now walk.now }
+    requires acyclic { IsAcyclic graph.now }
     ensures { IfOk result (λ found. TellsReached graph.now flags.now found.items) }
 {
     let mut found = no_flags(alloc, graph.len())?;
     for node in walk.order.as_slice() {
-        if flag_at(walk.cyclic.as_slice(), *node) {
-            return Err(AllocError);
-        }
         let flag = reaches_by(graph.successors(*node), flags, found.as_slice());
         found[*node] = flag;
     }

@@ -3,7 +3,7 @@ pub mod Distinct
 pub mod Pairs
 pub mod Sets
 pub mod Spans
-pub mod Served
+pub mod OperationsAlone
 pub mod Index
 pub mod Numbers
 pub mod Construction

@@ -9,11 +9,11 @@ use Rattle.std.proofs.lemmas.Slice.Eq.{bytes_eq-Decides}
 use Rattle.widl_idl.specs.declared.callee.Owner.{Owner}
 use Rattle.widl_idl.specs.declared.callee.Owner.TheVariants as owners
 use Rattle.widl_idl.specs.DefinitionTerms.{DefsTerm, IfaceTerm, SpaceTerm}
-use Rattle.widl_overload.specs.Served.{has_operations_alone, is_none}
+use Rattle.widl_overload.specs.OperationsAlone.{HasOperationsAlone, has_operations_alone, is_none}
 use Rattle.std.specs.List.{list_all}
 use Rattle.widl_script_tree.specs.Tables.{Tables, key_at, name_at, name_or}
 use Rattle.widl_script.specs.Owners.{owner_there}
-use Rattle.widl_script.specs.Scripts.{owner_named, owner_or, HasRules}
+use Rattle.widl_script.specs.Scripts.{owner_named, owner_or}
 use Rattle.widl_script.proofs.OwnerTexts.{same_turned}
 
 -- 1. The first of a name
@@ -117,11 +117,11 @@ first_true : (a b : Bool) → (a && b) ≡ true → a ≡ true
 first_true true b e = refl
 first_true false b e = e
 
-pub no_ifaces : (list : DefsTerm) → HasRules list → list.ifaces ≡ []
+pub no_ifaces : (list : DefsTerm) → HasOperationsAlone list → list.ifaces ≡ []
 no_ifaces list rules = none_there list.ifaces (first_true (is_none list.ifaces) (list_all has_operations_alone list.spaces) rules)
 
 -- where there are no interfaces, owners are namespaces
-pub owner_is : (list : DefsTerm) (text : List ℕ) → HasRules list → owner_there list.spaces text ≡ owner_named list text
+pub owner_is : (list : DefsTerm) (text : List ℕ) → HasOperationsAlone list → owner_there list.spaces text ≡ owner_named list text
 owner_is list text rules =
     let p : IfaceTerm → Bool = λ (i : IfaceTerm). bytes_eq text i.name in
     let nowhere : position p list.ifaces ≡ None = ap (position p) (no_ifaces list rules) ∙ position_from-zero p [] in
@@ -136,7 +136,7 @@ name_past t q high = ap (name_or q) (slice_get_past t.names q high)
 
 -- names by their numbers
 pub by_number : (t : Tables) (list : DefsTerm) (f : List ℕ → Option Owner) (q n : ℕ) → n ≡ length t.names → ((text : List ℕ) → f text ≡ owner_there list.spaces text) →
-    ((unit : ℕ) → owner_there list.spaces ((65536 + unit) ∷ []) ≡ None) → HasRules list → (if nat_lt q n then f (key_at t q) else None) ≡ owner_named list (name_at t q)
+    ((unit : ℕ) → owner_there list.spaces ((65536 + unit) ∷ []) ≡ None) → HasOperationsAlone list → (if nat_lt q n then f (key_at t q) else None) ≡ owner_named list (name_at t q)
 by_number t list f q n end same none rules = by (nat_lt q n) refl
   where
     by : (c : Bool) → nat_lt q n ≡ c → (if c then f (key_at t q) else None) ≡ owner_named list (name_at t q)

@@ -1,7 +1,6 @@
 -- What bytes are, over a list of definitions: a script's tree, or the first rule that is broken.
 -- Source: this program's own.
-use Rattle.std.specs.Prelude.{◌≡◌, ℕ, ◌&&◌, nat_eq, bytes_eq, Bool, true, false, not, List, [], ◌∷◌, map, position, slice_get, Option, Some, None, IsSome, unwrap_or, if◌then◌else◌}
-use Rattle.std.specs.List.{list_all}
+use Rattle.std.specs.Prelude.{◌≡◌, ℕ, ◌&&◌, nat_eq, bytes_eq, Bool, false, not, List, [], ◌∷◌, map, position, slice_get, Option, Some, None, IsSome, unwrap_or, if◌then◌else◌}
 use Rattle.widl_idl.specs.declared.callee.Callee.{Callee}
 use Rattle.widl_idl.specs.declared.callee.Owner.{Owner}
 use Rattle.widl_idl.specs.declared.callee.Owner.TheVariants as owners
@@ -10,7 +9,6 @@ use Rattle.widl_idl.specs.declared.callee.Part.TheVariants as parts
 use Rattle.widl_idl.specs.DefinitionTerms.{DefsTerm, IfaceTerm, OpNameTerm, SpaceTerm}
 use Rattle.widl_lines.specs.declared.script_place.ScriptPlace.{ScriptPlace}
 use Rattle.widl_lines.specs.TextBreaks.{ScriptBreak, Line, script_lines}
-use Rattle.widl_overload.specs.Served.{is_none, has_operations_alone}
 use Rattle.widl_script_tree.specs.declared.steps.StepLine.{StepLine}
 use Rattle.widl_script_tree.specs.declared.steps.Target.{Target}
 use Rattle.widl_script_tree.specs.declared.steps.Target.TheVariants as target
@@ -20,13 +18,6 @@ use Rattle.widl_script.specs.SpelledStatements.{Lines, IsTreeOf}
 use Rattle.widl_script.specs.LeastBreak.{IsLeastBreak}
 
 -- 1. The tree, or the first break
-
--- the lists over which these rules are stated so far: no interface, and namespaces with operations alone
-abbrev pub has_rules : DefsTerm → Bool
-has_rules list = is_none list.ifaces && list_all has_operations_alone list.spaces
-
-abbrev pub HasRules : DefsTerm → Type 0
-HasRules list = has_rules list ≡ true
 
 abbrev pub words_of_lines : List Line → Lines
 words_of_lines lines = map (λ (line : Line). line.words) lines

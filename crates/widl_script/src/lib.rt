@@ -11,8 +11,6 @@ mod operation_target;
 mod owners;
 mod read;
 pub mod rule_laws;
-mod ruled_lists;
 mod rules;
 
 pub use read::read_script;
-pub use ruled_lists::has_rules;

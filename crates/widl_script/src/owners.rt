@@ -4,9 +4,10 @@ ghost use Rattle.std.specs.Prelude.{◌≡◌, ◌+◌, ◌<◌, ◌∷◌, [], 
 ghost use Rattle.std.specs.Option.{option_or};
 ghost use Rattle.indexmap.specs.IndexMap.{get_by};
 ghost use Rattle.widl_idl.specs.DefinitionTerms.{defs_term, space_term};
+ghost use Rattle.widl_overload.specs.OperationsAlone.{HasOperationsAlone};
 ghost use Rattle.widl_script_tree.specs.Tables.{name_at};
 ghost use Rattle.widl_script.specs.Owners.{owner_in, owner_there};
-ghost use Rattle.widl_script.specs.Scripts.{owner_named, HasRules};
+ghost use Rattle.widl_script.specs.Scripts.{owner_named};
 
 use indexmap::IndexMap;
 use std::alloc::{AllocError, Global};
@@ -67,7 +68,7 @@ pub(crate) fn owners_of_names(
     tables: &ScriptTables,
     list: &Defs,
 ) -> Result<IndexMap<u32, Owner>, AllocError>
-    requires rules { HasRules (defs_term list.now) }
+    requires rules { HasOperationsAlone (defs_term list.now) }
     requires few { length list.now.spaces < 4294967296 }
     ensures { IfOk result (λ owners. (number : ℕ) → get_by (nat_eq number) owners ≡ owner_named (defs_term list.now) (name_at tables.now number)) }
 {

@@ -1,13 +1,16 @@
 //! Whole scripts.
 
 ghost use Rattle.std.specs.Prelude.{◌≡◌, ◌≤◌, length, IfErr, IfOk, IsOkUnless};
+ghost use Rattle.widl_fits.specs.Hierarchies.{IsHierarchy};
 ghost use Rattle.widl_idl.specs.Counts.{IsNumberedList};
 ghost use Rattle.widl_idl.specs.DefinitionTerms.{defs_term};
 ghost use Rattle.widl_lines.specs.declared.script_place.ScriptPlace.{ScriptPlace};
 ghost use Rattle.widl_lines.specs.Refusals.{IsErrWith};
+ghost use Rattle.widl_overload.specs.Dictionaries.{dictionary_terms};
+ghost use Rattle.widl_overload.specs.OperationsAlone.{HasOperationsAlone};
 ghost use Rattle.widl_script_tree.specs.Tables.{script_tree};
 ghost use Rattle.widl_script.specs.Outcomes.{IsRefusal};
-ghost use Rattle.widl_script.specs.Scripts.{Answers, HasRules, IsFirstBreak, IsReadAs};
+ghost use Rattle.widl_script.specs.Scripts.{Answers, IsFirstBreak, IsReadAs};
 ghost use Rattle.widl_script.specs.SpelledStatements.{IsTreeOf, words_of};
 
 use crate::build::build;
@@ -23,7 +26,7 @@ use widl_script_tree::Script;
 
 /// The script of words that break no rule.
 fn script_of(alloc: Global, words: &ScriptWords<'_>, list: &Defs) -> Result<Script, AllocError>
-    requires rules { HasRules (defs_term list.now) }
+    requires rules { HasOperationsAlone (defs_term list.now) }
     requires numbered { IsNumberedList list.now }
     ensures tree { IfOk result (λ script. IsTreeOf (script_tree script) (words_of words.now)) }
     ensures answers { IfOk result (Answers (defs_term list.now)) }
@@ -37,7 +40,8 @@ fn script_of(alloc: Global, words: &ScriptWords<'_>, list: &Defs) -> Result<Scri
 /// The script of bytes over a list of definitions, or the first rule that they break.
 fn read_over(alloc: Global, bytes: &[u8], list: &Defs) -> Result<Script, ScriptFault>
     requires short { length bytes.now ≤ 1048576 }
-    requires rules { HasRules (defs_term list.now) }
+    requires rules { HasOperationsAlone (defs_term list.now) }
+    requires hierarchy { IsHierarchy (dictionary_terms list.now) }
     requires numbered { IsNumberedList list.now }
     ensures ok { IfOk result (IsReadAs bytes.now (defs_term list.now)) }
     ensures refused { IfErr result (IsRefusal bytes.now (defs_term list.now)) }
@@ -59,7 +63,7 @@ fn read_over(alloc: Global, bytes: &[u8], list: &Defs) -> Result<Script, ScriptF
 /// `Refused` with the first break exactly where there is one, and `Memory` where there is no memory.
 pub fn read_script(alloc: Global, bytes: &[u8], list: &Accepted) -> Result<Script, ScriptFault>
     requires short { length bytes.now ≤ 1048576 }
-    requires rules { HasRules (defs_term list.now.defs) }
+    requires rules { HasOperationsAlone (defs_term list.now.defs) }
     ensures ok { IfOk result (IsReadAs bytes.now (defs_term list.now.defs)) }
     ensures refused { IfErr result (IsRefusal bytes.now (defs_term list.now.defs)) }
     ensures complete { ((place : ScriptPlace) → IsFirstBreak bytes.now (defs_term list.now.defs) place → ⊥) → IsOkUnless result ScriptFault.Memory }

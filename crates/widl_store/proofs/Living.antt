@@ -1,15 +1,10 @@
 -- A live reference stays live.
-use Rattle.std.proofs.Common.{◌≡◌, ℕ, zero, suc, List, [], ◌∷◌, ◌++◌, Option, None, Some, Bool, true, false, refl, sym, ap, ◌∙◌, slice_get, slice_set, true≢false}
-use Rattle.std.specs.Prelude.{◌&&◌}
-use Rattle.std.specs.List.{list_all}
+use Rattle.std.proofs.Common.{◌≡◌, ℕ, zero, suc, List, [], ◌∷◌, ◌++◌, Option, None, Some, refl, sym, ap, ◌∙◌, slice_get, slice_set}
 use Rattle.std.specs.Option.{option_map, option_map_or}
-use Rattle.widl_idl.specs.DefinitionTerms.{DefsTerm, SpaceTerm}
-use Rattle.widl_overload.specs.Served.{IsServed, has_operations_alone, has_namespaces_alone, is_none, is_served_namespace, is_served_name}
 use Rattle.widl_store.specs.declared.property.Prop.{Prop}
 use Rattle.widl_store.specs.Effects.{changed, with_props, with_part, with_inner}
 use Rattle.widl_store.specs.Inners.{InnerTerm}
 use Rattle.widl_store.specs.Objects.{Obj, IsLive}
-use Rattle.widl_store.specs.Realm.{HasOperationsAlone}
 use Rattle.widl_text.specs.declared.key.Key.{Key}
 use Rattle.widl_value.specs.declared.object.ObjRef.{ObjRef}
 use Rattle.widl_value.specs.declared.object.Shape.{Shape}
@@ -44,25 +39,3 @@ live_more objects o p live = at objects p.id live
     at [] i l = absurd (let bad : None ≡ Some p.shape = l in cc)
     at (a ∷ xs) zero l = l
     at (a ∷ xs) (suc i) l = at xs i l
-
-left_true : (a b : Bool) → a && b ≡ true → a ≡ true
-left_true true b h = refl
-left_true false b h = absurd (true≢false (sym h))
-
-right_true : (a b : Bool) → a && b ≡ true → b ≡ true
-right_true true b h = h
-right_true false b h = absurd (true≢false (sym h))
-
-both_true : (a b : Bool) → a ≡ true → b ≡ true → a && b ≡ true
-both_true a b e f = ap (λ x. x && b) e ∙ f
-
-all_alone : (spaces : List SpaceTerm) → list_all is_served_namespace spaces ≡ true → list_all has_operations_alone spaces ≡ true
-all_alone [] h = refl
-all_alone (s ∷ spaces) h = both_true (has_operations_alone s) (list_all has_operations_alone spaces) (left_true (has_operations_alone s) (list_all is_served_name s.members.ops) (left_true (is_served_namespace s) (list_all is_served_namespace spaces) h)) (all_alone spaces (right_true (is_served_namespace s) (list_all is_served_namespace spaces) h))
-
-pub served_alone : (list : DefsTerm) → IsServed list → HasOperationsAlone list
-served_alone list served =
-    let alone : has_namespaces_alone list ≡ true = left_true (has_namespaces_alone list) (list_all is_served_namespace list.spaces) served in
-    both_true (is_none list.ifaces) (list_all has_operations_alone list.spaces)
-    (left_true _ (is_none list.dicts) (left_true _ (is_none list.callback_fns) (left_true _ (is_none list.callback_ifaces) alone)))
-    (all_alone list.spaces (right_true (has_namespaces_alone list) (list_all is_served_namespace list.spaces) served))

@@ -1,11 +1,9 @@
 -- The store before a script begins, for lists of namespaces with operations alone.
 -- Source: Web IDL, "Namespace object", "Defining the operations"; the numbers are this program's own.
-use Rattle.std.specs.Prelude.{◌≡◌, ℕ, ◌+◌, ◌&&◌, Bool, true, if◌then◌else◌, min, fold, nat_eq, List, [], ◌∷◌, ◌++◌, length, map}
-use Rattle.std.specs.List.{list_all}
+use Rattle.std.specs.Prelude.{ℕ, ◌+◌, ◌&&◌, Bool, if◌then◌else◌, min, fold, nat_eq, List, [], ◌∷◌, ◌++◌, length, map}
 use Rattle.widl_idl.specs.declared.callee.Owner.TheVariants.{Space}
 use Rattle.widl_idl.specs.declared.callee.Part.TheVariants.{Op}
 use Rattle.widl_idl.specs.DefinitionTerms.{DefsTerm, SpaceTerm, OpNameTerm, SigTerm, ArgTerm}
-use Rattle.widl_overload.specs.Served.{has_operations_alone, is_none}
 use Rattle.widl_overload.specs.Sets.{is_end, is_free}
 use Rattle.widl_store.specs.declared.inner.Builtin.TheVariants.{Callee}
 use Rattle.widl_store.specs.Inners.{SpacePart}
@@ -14,13 +12,6 @@ use Rattle.widl_store.specs.Objects.{StoreState}
 use Rattle.widl_store.specs.Plans.{Plan, operation, tag, object_on, function, object_of}
 use Rattle.widl_text.specs.declared.key.Key.{Key}
 use Rattle.widl_store.specs.declared.property.Prop.{Prop}
-
--- the lists that this is for: no interfaces, and namespaces with operations alone
-abbrev pub has_operations_only : DefsTerm → Bool
-has_operations_only defs = is_none defs.ifaces && list_all has_operations_alone defs.spaces
-
-abbrev pub HasOperationsAlone : DefsTerm → Type 0
-HasOperationsAlone defs = has_operations_only defs ≡ true
 
 -- how many arguments a call of an overload has to give: all but those at the end that it may leave out
 abbrev pub needed_with : Bool → ℕ → ℕ

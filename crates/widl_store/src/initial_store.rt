@@ -2,12 +2,13 @@
 
 ghost use Rattle.std.specs.Prelude.{◌≡◌, ◌∷◌, ◌++◌, [], IfOk, OnOk, map, option_map, true};
 ghost use Rattle.widl_idl.specs.DefinitionTerms.{defs_term, space_term};
+ghost use Rattle.widl_overload.specs.OperationsAlone.{HasOperationsAlone};
 ghost use Rattle.widl_store.specs.Bounds.{HasRoom};
 ghost use Rattle.widl_store.specs.Effects.{new_object, with_props};
 ghost use Rattle.widl_store.specs.Intrinsics.{intrinsics};
 ghost use Rattle.widl_store.specs.Objects.{length_key, plain_object};
 ghost use Rattle.widl_store.specs.Plans.{object_of, with_entries};
-ghost use Rattle.widl_store.specs.Realm.{HasOperationsAlone, realm_of, realm_over};
+ghost use Rattle.widl_store.specs.Realm.{realm_of, realm_over};
 ghost use Rattle.widl_store.specs.Rows.{entry_of_cell, part_of_row, plan_of_row, shape_of_row};
 
 use crate::inner::{Builtin, Inner};

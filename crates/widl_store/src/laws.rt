@@ -3,7 +3,6 @@
 ghost use Rattle.std.specs.Prelude.{◌≡◌, ◌≤◌, ◌∷◌, ℕ, Contains, List, length, map};
 ghost use Rattle.widl_idl.specs.DefinitionTerms.{DefsTerm, SpaceTerm, sig_term};
 ghost use Rattle.widl_idl.specs.declared.signature.Sig as signatures;
-ghost use Rattle.widl_overload.specs.Served.{IsServed};
 ghost use Rattle.widl_overload.specs.Sets.{TupleTerm, effective_tuples};
 ghost use Rattle.widl_store.specs.Bounds.{AreFewObjects, AreSharesKept, AreWithinShares};
 ghost use Rattle.widl_store.specs.declared.property.Prop as props;
@@ -12,7 +11,7 @@ ghost use Rattle.widl_store.specs.Inners.{InnerTerm};
 ghost use Rattle.widl_store.specs.Objects.{IsLive, Obj, home_of};
 ghost use Rattle.widl_store.specs.declared.homes.Home as homes;
 ghost use Rattle.widl_store.specs.OperationFunctions.{AreNamed, HaveOneFunctionEach};
-ghost use Rattle.widl_store.specs.Realm.{HasOperationsAlone, realm_over, shortest};
+ghost use Rattle.widl_store.specs.Realm.{realm_over, shortest};
 ghost use Rattle.widl_text.specs.declared.key.Key as keys;
 ghost use Rattle.widl_value.specs.declared.object.ObjRef as references;
 ghost use Rattle.widl_value.specs.declared.object.Shape as shapes;
@@ -25,11 +24,6 @@ pub fn references_stay_live()
     ensures deleted { (objects : List Obj) (id : ℕ) (key : keys.Key) (p : references.ObjRef) → IsLive objects p → IsLive (deleted objects id key) p }
     ensures added { (objects : List Obj) (inner : InnerTerm) (shape : shapes.Shape) (proto p : references.ObjRef) → IsLive objects p → IsLive (added objects (Some proto) shape inner) p }
     ensures inner { (objects : List Obj) (id : ℕ) (inner : InnerTerm) (p : references.ObjRef) → IsLive objects p → IsLive (with_inner objects id inner) p }
-{}
-
-/// That a list over which scripts can be run today is one that the first store is made for.
-pub fn served_lists_have_operations_alone()
-    ensures { (list : DefsTerm) → IsServed list → HasOperationsAlone list }
 {}
 
 /// That the length of an operation's function is that of the shortest tuple of its effective overload set

@@ -1,8 +1,13 @@
 //! The joined lists of the rules on default values, on what is inherited, and on overloads.
 
 ghost use Rattle.std.specs.Prelude.{◌≡◌, [], ◌∷◌, List, IfOk};
+ghost use Rattle.widl_fits.specs.Hierarchies.{IsHierarchy};
 ghost use Rattle.widl_idl.specs.Counts.{IsNumberedList};
+ghost use Rattle.widl_idl.specs.MergingRules.{parent_links};
 ghost use Rattle.widl_idl.specs.PlainTrees.{PlainDefinition, plain_definitions};
+ghost use Rattle.widl_inheritance.specs.HoldingGraph.{AreWithin};
+ghost use Rattle.widl_inheritance.specs.ReachedFlags.{IsAcyclic};
+ghost use Rattle.widl_overload.specs.Dictionaries.{dictionary_terms};
 ghost use Rattle.widl_overload.specs.declared.validity_rule.ValidityRule.TheVariants as rule;
 ghost use Rattle.widl_valid.specs.Invalidity.{Joins, JoinsOver};
 
@@ -43,6 +48,8 @@ pub fn join_dictionaries(
     defs: &Defs,
     best: Option<Refusal>,
 ) -> Result<Option<Refusal>, AllocError>
+    requires within { AreWithin (dictionary_terms defs.now) }
+    requires hierarchy { IsHierarchy (dictionary_terms defs.now) }
     ensures { IfOk result (λ earliest. (definitions : List PlainDefinition) → JoinsOver (rule.RepeatedDictionaryMember ∷ rule.DictionaryHoldsItself ∷ rule.LongDictionaryChain ∷ []) defs.now definitions best earliest) }
 {
     let dicts = defs.dicts.as_slice();
@@ -63,7 +70,8 @@ pub fn join_defaults<'a>(
     resolver: &Resolver<'_, '_, 'a>,
     best: Option<Refusal>,
 ) -> Result<Option<Refusal>, AllocError>
-    requires { resolver.now ≡ meanings.now }
+    requires same { resolver.now ≡ meanings.now }
+    requires hierarchy { IsHierarchy (dictionary_terms defs.now) }
     ensures { IfOk result (λ earliest. JoinsOver (rule.OtherDefault ∷ rule.NoEmptyDefault ∷ []) defs.now (plain_definitions meanings.now) best earliest) }
 {
     let all = meanings.all();
@@ -80,7 +88,8 @@ pub fn join_iterables(
     parts: &Parts<'_, '_>,
     best: Option<Refusal>,
 ) -> Result<Option<Refusal>, AllocError>
-    requires { parts.now ≡ meanings.now }
+    requires same { parts.now ≡ meanings.now }
+    requires acyclic { IsAcyclic (parent_links (plain_definitions meanings.now)) }
     ensures { IfOk result (λ earliest. Joins (rule.SecondIterable ∷ rule.HiddenIterationMethod ∷ []) (plain_definitions meanings.now) best earliest) }
 {
     let violations = find_iterables(alloc, meanings, parts)?;

@@ -2,7 +2,7 @@
 
 ghost use Rattle.std.specs.Prelude.{◌≤◌, length};
 ghost use Rattle.widl_idl.specs.DefinitionTerms.{defs_term};
-ghost use Rattle.widl_script.specs.Scripts.{HasRules};
+ghost use Rattle.widl_overload.specs.OperationsAlone.{HasOperationsAlone};
 ghost use Rattle.widl_text.specs.Limits.{most_file_bytes};
 
 use super::served::accepted;
@@ -10,8 +10,8 @@ use std::alloc::{AllocError, Global};
 use std::process::Abort;
 use std::test::Fail;
 use widl_lines::ScriptFault;
-use widl_overload::Accepted;
-use widl_script::{has_rules, read_script};
+use widl_overload::{Accepted, has_operations_alone};
+use widl_script::read_script;
 use widl_text::limits::MOST_FILE_BYTES;
 
 mod fitting;
@@ -25,7 +25,7 @@ const PLAIN: &str = "namespace N { any f(any a); undefined g(any a); };";
 /// The identifier of the first rule that a script breaks, its line and its column; `read` where it breaks none.
 fn first_break(alloc: Global, list: &Accepted, script: &[u8]) -> Result<String, AllocError>
     requires short { length script.now ≤ most_file_bytes }
-    requires rules { HasRules (defs_term list.now.defs) }
+    requires rules { HasOperationsAlone (defs_term list.now.defs) }
 {
     match read_script(alloc, script, list) {
         Ok(_) => String::from_str(alloc, "read"),
@@ -46,7 +46,7 @@ fn expect_break(
 ) -> Result<(), Fail> {
     let bytes = script.as_bytes();
     assert!(rt; bytes.len() <= MOST_FILE_BYTES);
-    assert!(rt; has_rules(list));
+    assert!(rt; has_operations_alone(list));
     let found = first_break(alloc, list, bytes)?;
     assert_eq!(rt; found.as_str(), text, "{script}");
     Ok(())

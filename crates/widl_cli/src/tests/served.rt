@@ -6,8 +6,9 @@ ghost use Rattle.widl_text.specs.Limits.{most_file_bytes};
 use std::alloc::{AllocError, Global};
 use std::process::Abort;
 use std::test::Fail;
+use widl_convert::is_served;
 use widl_front::{Texts, Verdict, judge};
-use widl_overload::{Accepted, is_served};
+use widl_overload::Accepted;
 use widl_text::limits::MOST_FILE_BYTES;
 
 /// One text alone.

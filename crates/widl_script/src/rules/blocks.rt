@@ -2,8 +2,10 @@
 
 ghost use Rattle.std.specs.Prelude.{◌≡◌, [], length, IfOk, None};
 ghost use Rattle.widl_first.specs.First.{IsFirst};
+ghost use Rattle.widl_fits.specs.Hierarchies.{IsHierarchy};
 ghost use Rattle.widl_idl.specs.DefinitionTerms.{defs_term};
 ghost use Rattle.widl_lines.specs.TextBreaks.{TextBreak};
+ghost use Rattle.widl_overload.specs.Dictionaries.{dictionary_terms};
 ghost use Rattle.widl_script.specs.BrokenRules.{BreaksBlocks};
 ghost use Rattle.widl_script.specs.LeastBreak.{place_key};
 ghost use Rattle.widl_script.specs.Standings.{standings};
@@ -30,6 +32,7 @@ pub(crate) fn first_block_break(
     around: &[Around],
 ) -> Result<Option<ScriptPlace>, AllocError>
     requires interfaces { (defs_term list.now).ifaces ≡ [] }
+    requires hierarchy { IsHierarchy (dictionary_terms list.now) }
     requires formed { TextBreak 1 [] (plain_lines lines.now) None }
     requires words { words.now ≡ first_words (plain_lines lines.now) }
     requires words_count { length words.now ≡ length lines.now }

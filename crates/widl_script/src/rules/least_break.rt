@@ -2,11 +2,13 @@
 
 ghost use Rattle.std.specs.Prelude.{◌≡◌, [], length, IfOk, None};
 ghost use Rattle.widl_first.specs.First.{IsFirst};
+ghost use Rattle.widl_fits.specs.Hierarchies.{IsHierarchy};
 ghost use Rattle.widl_idl.specs.DefinitionTerms.{defs_term};
 ghost use Rattle.widl_lines.specs.TextBreaks.{TextBreak};
+ghost use Rattle.widl_overload.specs.Dictionaries.{dictionary_terms};
+ghost use Rattle.widl_overload.specs.OperationsAlone.{HasOperationsAlone};
 ghost use Rattle.widl_script.specs.BrokenRules.{BreaksNames};
 ghost use Rattle.widl_script.specs.LeastBreak.{place_key, IsLeastBreak};
-ghost use Rattle.widl_script.specs.Scripts.{HasRules};
 ghost use Rattle.widl_script.specs.Standings.{standings};
 ghost use Rattle.widl_script.specs.Surroundings.{first_words, plain_lines, AreAround};
 
@@ -51,7 +53,8 @@ pub(crate) fn least_break(
     list: &Defs,
     lines: &[LineWords<'_>],
 ) -> Result<Option<ScriptPlace>, AllocError>
-    requires rules { HasRules (defs_term list.now) }
+    requires rules { HasOperationsAlone (defs_term list.now) }
+    requires hierarchy { IsHierarchy (dictionary_terms list.now) }
     requires formed { TextBreak 1 [] (plain_lines lines.now) None }
     ensures { IfOk result (IsLeastBreak (defs_term list.now) (plain_lines lines.now)) }
 {

@@ -1,7 +1,9 @@
 //! What the rules on step lines look up in a list of definitions.
 
 ghost use Rattle.std.specs.Prelude.{◌≡◌, [], IfOk};
+ghost use Rattle.widl_fits.specs.Hierarchies.{IsHierarchy};
 ghost use Rattle.widl_idl.specs.DefinitionTerms.{defs_term};
+ghost use Rattle.widl_overload.specs.Dictionaries.{dictionary_terms};
 ghost use Rattle.widl_script.specs.ListLookups.{AreListTables};
 
 use crate::rules::callbacks_and_pairs::CallbackTakes;
@@ -23,7 +25,8 @@ pub(crate) struct ListTables<'d> {
 impl<'d> ListTables<'d> {
     /// Those of a list without interfaces.
     pub(crate) fn of(alloc: Global, list: &'d Defs) -> Result<ListTables<'d>, AllocError>
-        requires { (defs_term list.now).ifaces ≡ [] }
+        requires interfaces { (defs_term list.now).ifaces ≡ [] }
+        requires hierarchy { IsHierarchy (dictionary_terms list.now) }
         ensures { IfOk result (λ tables. AreListTables (defs_term list.now) tables) }
     {
         let fits = Tables::of(alloc, list)?;

@@ -3,18 +3,17 @@ use Rattle.widl_idl.specs.DefinitionTerms.{defs_term}
 use Rattle.widl_idl.specs.MergedSets.{MergedSet}
 use Rattle.widl_script_tree.specs.Tables.{script_tree}
 use Rattle.widl_engine.specs.ReadOver.{IsReadOver}
-use Rattle.widl_store.proofs.Living.{served_alone}
 use Rattle.widl_cli.proofs.PlainSteps.{plain_steps}
 use Rattle.widl_cli.proofs.ReadScripts.{read_over}
 use Rattle.widl_cli.proofs.ScriptRuns.{ended_run, broken_run, failed_run, ran_over}
 use Rattle.widl_cli.proofs.running.run_read.Goals as goal
 
 pub realm-requires : goal.realm-requires
-realm-requires g c = served_alone (defs_term c.args.accepted.defs) c.requires.served
+realm-requires g c = c.requires.served.0
 
 pub run-end-requires-clause-read : goal.run-end-requires-clause-read
 run-end-requires-clause-read g c =
-    subst (λ (set : MergedSet). IsReadOver (defs_term set.defs) c.args.script.now) (sym c.in-Ok-compile.ensures) (read_over (defs_term c.args.accepted.defs) c.args.script.now c.requires.read.1.answers (served_alone (defs_term c.args.accepted.defs) c.requires.served))
+    subst (λ (set : MergedSet). IsReadOver (defs_term set.defs) c.args.script.now) (sym c.in-Ok-compile.ensures) (read_over (defs_term c.args.accepted.defs) c.args.script.now c.requires.read.1.answers (c.requires.served.0))
 
 pub run-end-requires-clause-plain : goal.run-end-requires-clause-plain
 run-end-requires-clause-plain g c = plain_steps (script_tree c.args.script.now) _ c.requires.read.1.script.spelled

@@ -2,12 +2,11 @@ use Rattle.std.proofs.Common.{subst}
 use Rattle.widl_idl.specs.DefinitionTerms.{defs_term}
 use Rattle.widl_lines.specs.declared.script_place.ScriptFault.{ScriptFault}
 use Rattle.widl_script.specs.Outcomes.{IsRefusal}
-use Rattle.widl_store.proofs.Living.{served_alone}
 use Rattle.widl_cli.proofs.Answered.{break_answered, run_answered}
 use Rattle.widl_cli.proofs.running.run_script.Goals as goal
 
 pub read_script-requires-clause-rules : goal.read_script-requires-clause-rules
-read_script-requires-clause-rules g c = served_alone (defs_term c.args.accepted.defs) c.requires.served
+read_script-requires-clause-rules g c = c.requires.served.0
 
 pub returns-in-Ok : goal.returns-in-Ok
 returns-in-Ok g c = run_answered (defs_term c.args.accepted.defs) c.args.text.now c.args.budget _ _ _ _ _ (c.run_read.ensures c.args.text.now c.in-Ok.ensures.ok)

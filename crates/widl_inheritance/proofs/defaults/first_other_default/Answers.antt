@@ -11,6 +11,6 @@ pub returns : goal.returns
 returns c =
     IfOk-weaker c.first_other.result _ _
     (λ found f. subst (λ xs. FirstWhere (Somewhere (IsOtherDefault (defs_term c.args.defs.now) (plain_definitions c.args.resolver.now)) xs) found)
-    (ap listed_defaults c.as_slice.ensures.value ∙ c.in_ok-defaults.ensures ∙ ap defaults_of c.requires)
+    (ap listed_defaults c.as_slice.ensures.value ∙ c.in_ok-defaults.ensures ∙ ap defaults_of c.requires.listed)
     (f (defs_term c.args.defs.now) c.in_ok-tables.ensures))
     c.first_other.ensures

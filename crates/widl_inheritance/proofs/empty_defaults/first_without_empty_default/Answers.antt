@@ -11,6 +11,6 @@ pub returns : goal.returns
 returns c =
     IfOk-weaker c.first_lacking.result _ _
     (λ found f. subst (λ xs. FirstWhere (Somewhere (LacksEmptyDefault (defs_term c.args.defs.now) (plain_definitions c.args.resolver.now)) xs) found)
-    (ap listed_arguments c.as_slice.ensures.value ∙ c.in_ok-lists.ensures ∙ ap call_lists_of c.requires)
+    (ap listed_arguments c.as_slice.ensures.value ∙ c.in_ok-lists.ensures ∙ ap call_lists_of c.requires.listed)
     (f (defs_term c.args.defs.now) c.in_ok-tables.ensures))
     c.first_lacking.ensures

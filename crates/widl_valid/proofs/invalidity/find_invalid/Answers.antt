@@ -1,11 +1,45 @@
-use Rattle.std.proofs.Common.{◌≡◌, refl, sym, ap, ◌∙◌}
+use Rattle.std.proofs.Common.{◌≡◌, refl, sym, ap, subst, ◌∙◌}
+use Rattle.widl_idl.specs.declared.defs.Defs.{Defs}
 use Rattle.widl_idl.specs.Meanings.{definitions_of}
+use Rattle.widl_idl.specs.MergingRules.{parent_links}
 use Rattle.widl_idl.specs.PlainTrees.{plain_definitions}
+use Rattle.widl_idl.specs.declared.merging_rule.MergingRule.TheVariants as merging
+use Rattle.widl_fits.specs.Hierarchies.{IsHierarchy}
+use Rattle.widl_fits.proofs.MergedHierarchies.{merged_hierarchy}
+use Rattle.widl_fits.proofs.MergedParents.{none_back}
+use Rattle.widl_inheritance.specs.HoldingGraph.{AreWithin}
+use Rattle.widl_inheritance.specs.ReachedFlags.{IsAcyclic}
+use Rattle.widl_inheritance.proofs.MergedTypes.{merged_within}
+use Rattle.widl_overload.specs.Dictionaries.{dictionary_terms}
 use Rattle.widl_names.specs.Listings.{listed_definitions}
 use Rattle.widl_names.proofs.NameMeanings.{all_plain}
 use Rattle.widl_idl.proofs.Steps.{no_rules}
 use Rattle.widl_overload.specs.Validity.{BreaksValidity, validity_number}
 use Rattle.widl_valid.proofs.invalidity.find_invalid.Goals as goal
+
+pub join_iterables-requires : goal.join_iterables-requires
+join_iterables-requires c =
+    let set = c.args.merged.now in
+    let fragments = c.as_slice-fragments.ensures ∙ c.fragments.ensures.fragments in
+    let there : definitions_of set.fragments ≡ listed_definitions c.as_slice-all.result.now = sym (ap listed_definitions c.as_slice-all.ensures.value ∙ c.in_ok-definitions.ensures ∙ ap definitions_of fragments) in
+    let meant : definitions_of set.fragments ≡ plain_definitions c.in_ok-meanings.meanings = there ∙ all_plain c.as_slice-all.result.now c.in_ok-meanings.meanings (sym c.in_ok-meanings.ensures) in
+    record {
+      same = c.in_ok-parts.ensures;
+      acyclic = subst (λ ds. IsAcyclic (parent_links ds)) meant (none_back (definitions_of set.fragments) (c.fragments.ensures.merged.unbroken.merging merging.InheritsFromItself));
+    }
+
+pub join_dictionaries-requires : goal.join_dictionaries-requires
+join_dictionaries-requires c =
+    let set = c.args.merged.now in
+    record {
+      within = subst (λ (d : Defs). AreWithin (dictionary_terms d)) (sym c.defs-defs.ensures.defs) (merged_within set.defs set.fragments c.defs-defs.ensures.merged);
+      hierarchy = subst (λ (d : Defs). IsHierarchy (dictionary_terms d)) (sym c.defs-defs.ensures.defs) (merged_hierarchy set.defs set.fragments c.defs-defs.ensures.merged);
+    }
+
+pub join_defaults-requires-clause-hierarchy : goal.join_defaults-requires-clause-hierarchy
+join_defaults-requires-clause-hierarchy c =
+    let set = c.args.merged.now in
+    subst (λ (d : Defs). IsHierarchy (dictionary_terms d)) (sym c.defs-defs.ensures.defs) (merged_hierarchy set.defs set.fragments c.defs-defs.ensures.merged)
 
 pub returns : goal.returns
 returns c =

@@ -12,16 +12,16 @@ use Rattle.widl_overload.specs.declared.validity_rule.ValidityRule.TheVariants a
 use Rattle.widl_idl.proofs.Steps.{first_rule_by}
 use Rattle.widl_valid.proofs.joined_inherited.join_defaults.Goals as goal
 
-pub first_without_empty_default-requires : goal.first_without_empty_default-requires
-first_without_empty_default-requires c = all_plain c.all-all.result.now c.args.meanings.now c.all-all.ensures ∙ ap plain_definitions (sym c.requires)
+pub first_without_empty_default-requires-clause-listed : goal.first_without_empty_default-requires-clause-listed
+first_without_empty_default-requires-clause-listed c = all_plain c.all-all.result.now c.args.meanings.now c.all-all.ensures ∙ ap plain_definitions (sym c.requires.same)
 
-pub first_other_default-requires : goal.first_other_default-requires
-first_other_default-requires c = all_plain c.all-all.result.now c.args.meanings.now c.all-all.ensures ∙ ap plain_definitions (sym c.requires)
+pub first_other_default-requires-clause-listed : goal.first_other_default-requires-clause-listed
+first_other_default-requires-clause-listed c = all_plain c.all-all.result.now c.args.meanings.now c.all-all.ensures ∙ ap plain_definitions (sym c.requires.same)
 
 pub returns : goal.returns
 returns c = λ set list same others earliest.
     let b = BreaksValidity set in
-    let meant : definitions_of set.fragments ≡ plain_definitions c.args.resolver.now = same ∙ ap plain_definitions (sym c.requires) in
+    let meant : definitions_of set.fragments ≡ plain_definitions c.args.resolver.now = same ∙ ap plain_definitions (sym c.requires.same) in
     let there : (P : DefsTerm → List PlainDefinition → Violation → Type 0) (found : Option Violation) → FirstWhere (P (defs_term c.args.defs.now) (plain_definitions c.args.resolver.now)) found → FirstWhere (P (defs_term set.defs) (definitions_of set.fragments)) found
     = λ P found l. subst (λ (d : Defs). FirstWhere (P (defs_term d) (definitions_of set.fragments)) found) (sym list) (subst (λ ds. FirstWhere (P (defs_term c.args.defs.now) ds) found) (sym meant) l) in
     first_rule_by validity_number b rule.OtherDefault _ _ _ _ _ c.number-2.ensures (there HasOtherDefault _ c.in_ok-found-2.ensures) c.joined.ensures

@@ -3,12 +3,20 @@ use Rattle.widl_idl.specs.declared.defs.Defs.{Defs}
 use Rattle.widl_idl.specs.declared.violation.Violation.{Violation}
 use Rattle.widl_idl.specs.DefinitionTerms.{DictTerm, dict_term}
 use Rattle.widl_idl.specs.First.{FirstWhere}
+use Rattle.widl_fits.specs.Hierarchies.{IsHierarchy}
+use Rattle.widl_inheritance.specs.HoldingGraph.{AreWithin}
 use Rattle.widl_overload.specs.Dictionaries.{dictionary_terms}
 use Rattle.widl_overload.specs.DictionaryRules.{BeginsLongChain, HasNameTwice, HoldsItself}
 use Rattle.widl_overload.specs.Validity.{BreaksValidity, validity_number}
 use Rattle.widl_overload.specs.declared.validity_rule.ValidityRule.TheVariants as rule
 use Rattle.widl_idl.proofs.Steps.{first_rule_by}
 use Rattle.widl_valid.proofs.joined_inherited.join_dictionaries.Goals as goal
+
+pub of-requires : goal.of-requires
+of-requires c = subst (λ ds. AreWithin (map dict_term ds)) (sym c.as_slice-dicts.ensures) c.requires.within
+
+pub first_long_chain-requires-clause-hierarchy : goal.first_long_chain-requires-clause-hierarchy
+first_long_chain-requires-clause-hierarchy c = subst (λ ds. IsHierarchy (map dict_term ds)) (sym c.as_slice-dicts.ensures) c.requires.hierarchy
 
 pub returns : goal.returns
 returns c = λ definitions set list same others earliest.

@@ -1,12 +1,10 @@
--- The lists of definitions over which scripts can be run today. It grows with each kind of definition that a run supports, and goes with the last.
-use Rattle.std.specs.Prelude.{◌≡◌, ◌&&◌, Bool, true, false, List, [], ◌∷◌}
+-- The lists of definitions over which scripts can be run today. It grows with each type whose conversion is built, and goes with the last.
+-- Source: this program's own.
+use Rattle.std.specs.Prelude.{◌≡◌, ◌&&◌, Bool, true, false}
 use Rattle.std.specs.List.{list_all}
 use Rattle.widl_idl.specs.DefinitionTerms.{ArgTerm, DefsTerm, OpNameTerm, SigTerm, SpaceTerm}
 use Rattle.widl_idl.specs.Terms.{TypeTerm, AnyType, UndefinedType, BooleanType, IntegerType, StringType, EnumerationType, ObjectType}
-
-abbrev pub is_none : {X : Type 0} → List X → Bool
-is_none [] = true
-is_none (x ∷ xs) = false
+use Rattle.widl_overload.specs.OperationsAlone.{HasOperationsAlone, is_none}
 
 -- a type whose values are converted by themselves or by their primitive values: no container, no union, no interface
 abbrev pub is_scalar : TypeTerm → Bool
@@ -32,20 +30,16 @@ is_served_signature s = list_all is_served_argument s.args && is_scalar_or_undef
 abbrev pub is_served_name : OpNameTerm → Bool
 is_served_name o = list_all is_served_signature o.sigs
 
-abbrev pub has_operations_alone : SpaceTerm → Bool
-has_operations_alone n = is_none n.members.attrs && is_none n.members.consts
-
--- a namespace with operations alone, each of them served
 abbrev pub is_served_namespace : SpaceTerm → Bool
-is_served_namespace n = has_operations_alone n && list_all is_served_name n.members.ops
+is_served_namespace n = list_all is_served_name n.members.ops
 
 -- beside namespaces there are only enumerations
 abbrev pub has_namespaces_alone : DefsTerm → Bool
-has_namespaces_alone defs = is_none defs.ifaces && is_none defs.dicts && is_none defs.callback_fns && is_none defs.callback_ifaces
+has_namespaces_alone defs = is_none defs.dicts && is_none defs.callback_fns && is_none defs.callback_ifaces
 
--- namespaces and enumerations alone, each namespace served
-abbrev pub is_served_list : DefsTerm → Bool
-is_served_list defs = has_namespaces_alone defs && list_all is_served_namespace defs.spaces
+abbrev pub has_served_operations : DefsTerm → Bool
+has_served_operations defs = has_namespaces_alone defs && list_all is_served_namespace defs.spaces
 
+-- namespaces of operations alone and enumerations, each operation served
 abbrev pub IsServed : DefsTerm → Type 0
-IsServed defs = is_served_list defs ≡ true
+IsServed defs = HasOperationsAlone defs × (has_served_operations defs ≡ true)

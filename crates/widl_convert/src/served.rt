@@ -1,13 +1,13 @@
-//! Which lists of definitions a run supports today. This file goes when it supports all.
+//! Over which lists of definitions scripts can be run today. This file goes when they can be run over all.
 
 ghost use Rattle.std.specs.Prelude.{◌≡◌, ◌↔◌, IsTrue};
 ghost use Rattle.std.specs.List.{list_all};
 ghost use Rattle.widl_idl.specs.DefinitionTerms.{arg_term, defs_term, op_name_term, sig_term, space_term};
 ghost use Rattle.widl_idl.specs.Terms.{type_term};
-ghost use Rattle.widl_overload.specs.Served.{IsServed, has_namespaces_alone, has_operations_alone, is_scalar, is_scalar_or_undefined, is_served_argument, is_served_list, is_served_name, is_served_namespace, is_served_signature};
+ghost use Rattle.widl_convert.specs.Served.{IsServed, has_namespaces_alone, has_served_operations, is_scalar, is_scalar_or_undefined, is_served_argument, is_served_name, is_served_namespace, is_served_signature};
 
-use crate::accepted::Accepted;
 use widl_idl::{Arg, Defs, IdlType, OpName, Sig, Space};
+use widl_overload::{Accepted, has_operations_alone};
 
 /// Whether a script can be run over an accepted set today: beside enumerations it has namespaces alone, with
 /// operations alone, whose types are `any`, booleans, integers, texts, enumerations and `object`, or
@@ -15,11 +15,11 @@ use widl_idl::{Arg, Defs, IdlType, OpName, Sig, Space};
 pub fn is_served(accepted: &Accepted) -> bool
     ensures { IsTrue result ↔ IsServed (defs_term accepted.now.defs) }
 {
-    is_served_list(accepted.defs())
+    has_operations_alone(accepted) && has_served_operations(accepted.defs())
 }
 
-fn is_served_list(defs: &Defs) -> bool
-    ensures { result ≡ is_served_list (defs_term defs.now) }
+fn has_served_operations(defs: &Defs) -> bool
+    ensures { result ≡ has_served_operations (defs_term defs.now) }
 {
     has_namespaces_alone(defs) && are_served_namespaces(defs.spaces.as_slice())
 }
@@ -27,10 +27,7 @@ fn is_served_list(defs: &Defs) -> bool
 fn has_namespaces_alone(defs: &Defs) -> bool
     ensures { result ≡ has_namespaces_alone (defs_term defs.now) }
 {
-    defs.ifaces.len() == 0
-        && defs.dicts.len() == 0
-        && defs.callback_fns.len() == 0
-        && defs.callback_ifaces.len() == 0
+    defs.dicts.len() == 0 && defs.callback_fns.len() == 0 && defs.callback_ifaces.len() == 0
 }
 
 fn are_served_namespaces(spaces: &[Space]) -> bool
@@ -39,17 +36,11 @@ fn are_served_namespaces(spaces: &[Space]) -> bool
     spaces.iter().all(is_served_namespace)
 }
 
-/// Whether a namespace has operations alone, each of them supported.
+/// Whether each operation of a namespace is supported.
 fn is_served_namespace(space: &Space) -> bool
     ensures { result ≡ is_served_namespace (space_term space.now) }
 {
-    has_operations_alone(space) && are_served_operations(space.ops.as_slice())
-}
-
-fn has_operations_alone(space: &Space) -> bool
-    ensures { result ≡ has_operations_alone (space_term space.now) }
-{
-    space.attrs.len() == 0 && space.consts.len() == 0
+    are_served_operations(space.ops.as_slice())
 }
 
 fn are_served_operations(ops: &[OpName]) -> bool

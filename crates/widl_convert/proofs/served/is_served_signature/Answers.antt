@@ -3,9 +3,9 @@ use Rattle.std.specs.List.{list_all}
 use Rattle.std.proofs.Common.{map}
 use Rattle.widl_idl.specs.DefinitionTerms.{arg_term}
 use Rattle.widl_idl.specs.Terms.{type_term}
-use Rattle.widl_overload.specs.Served.{is_scalar_or_undefined, is_served_argument}
+use Rattle.widl_convert.specs.Served.{is_scalar_or_undefined, is_served_argument}
 use Rattle.widl_overload.proofs.OverTerms.{over_terms}
-use Rattle.widl_overload.proofs.served.is_served_signature.Goals as goal
+use Rattle.widl_convert.proofs.served.is_served_signature.Goals as goal
 
 pub returns-then-are_served_arguments : goal.returns-then-are_served_arguments
 returns-then-are_served_arguments c =

@@ -2,9 +2,9 @@ use Rattle.std.proofs.Common.{sym, ap, ◌&&◌, ◌∙◌}
 use Rattle.std.specs.List.{list_all}
 use Rattle.std.proofs.Common.{map}
 use Rattle.widl_idl.specs.DefinitionTerms.{space_term}
-use Rattle.widl_overload.specs.Served.{has_operations_alone}
+use Rattle.widl_overload.specs.OperationsAlone.{has_operations_alone}
 use Rattle.widl_overload.proofs.OverTerms.{over_terms}
-use Rattle.widl_script.proofs.ruled_lists.is_ruled_list.Goals as goal
+use Rattle.widl_overload.proofs.operations_alone.has_operations_only.Goals as goal
 
 pub returns-then-has_no_interfaces : goal.returns-then-has_no_interfaces
 returns-then-has_no_interfaces c =

@@ -2,9 +2,9 @@ use Rattle.std.proofs.Common.{sym, ap, ◌&&◌, ◌∙◌}
 use Rattle.std.specs.List.{list_all}
 use Rattle.std.proofs.Common.{map}
 use Rattle.widl_idl.specs.DefinitionTerms.{defs_term, space_term}
-use Rattle.widl_overload.specs.Served.{is_served_namespace}
+use Rattle.widl_convert.specs.Served.{is_served_namespace}
 use Rattle.widl_overload.proofs.OverTerms.{over_terms}
-use Rattle.widl_overload.proofs.served.is_served_list.Goals as goal
+use Rattle.widl_convert.proofs.served.has_served_operations.Goals as goal
 
 pub returns-then-has_namespaces_alone : goal.returns-then-has_namespaces_alone
 returns-then-has_namespaces_alone c =
