@@ -20,8 +20,46 @@ RUNS = 5
 MIB = 1 << 20
 ANY = "namespace N { any f(any a); };\n"
 OCTET = "namespace N { undefined f(octet a); };\n"
+UNION = "namespace N { undefined f((boolean or octet or DOMString or sequence<long> or record<DOMString, long>)... a); };\n"
 ENFORCED = "namespace N { undefined f([EnforceRange] octet a); };\n"
 METHOD = "function v()\n  return 300\nend\nlet o = object()\nset o.valueOf = v\n"
+SEQUENCE = "namespace N { undefined f(sequence<any> q); };\n"
+# an iterator that never ends
+ITERATOR = """function start()
+  return this
+end
+function step()
+  return turn
+end
+let turn = object()
+define turn.value = 1
+let o = object()
+define o[@iterator] = start
+define o.next = step
+"""
+RECORD = "namespace N { undefined f(record<DOMString, long> r); };\n"
+
+
+def many(form, count):
+    return "".join(form.format(number) for number in range(count))
+
+
+def dictionary(count):
+    """A dictionary of so many members."""
+    return "dictionary D { " + many("long m{}; ", count) + "};\nnamespace N { undefined f(optional D d = {}); };\n"
+
+
+def line(count):
+    """Dictionaries, each of which inherits from the one before, and of which the first alone has a member."""
+    rest = "".join(f"dictionary D{number}:D{number - 1}{{}};" for number in range(1, count))
+    return "dictionary D0 { long a; };\n" + rest + f"namespace N {{ undefined f(optional D{count - 1} d = {{}}); }};\n"
+
+
+def keys(count):
+    """An object of so many properties."""
+    return "let o = object()\n" + many("define o.k{} = 1\n", count)
+
+
 # a script that uses up a budget: its fragment, what comes once, and the line that comes again and again
 BUDGETS = {
     "statements alone": (ANY, "let x = 0\n", "let x = 1\n"),
@@ -29,14 +67,18 @@ BUDGETS = {
     "calls of a function": (ANY, "function f(a)\n  return a\nend\n", "do f(1)\n"),
     "calls of an operation": (ANY, "steps N.f#0\n  return arg 0\nend\n", "do N.f(1)\n"),
     "calls that convert a number": (OCTET, "", "do N.f(300)\n"),
+    "calls that convert a number to a union": (UNION, "", "do N.f(300)\n"),
     "conversions by a `valueOf`": (OCTET, METHOD, "do N.f(o)\n"),
     "reads by a getter": (ANY, "function g()\n  return 1\nend\nlet o = object()\ndefine o.a get g\n", "do o.a\n"),
     "new objects": (ANY, "", "do object()\n"),
+    "turns of an iterator": (SEQUENCE, ITERATOR, "do N.f(o)\n"),
+    "keys of a record": (RECORD, keys(256), "do N.f(o)\n"),
+    "ten members of an object": (dictionary(10), "let o = object()\n", "do N.f(o)\n"),
+    "30,000 members of an object": (dictionary(30_000), "let o = object()\n", "do N.f(o)\n"),
+    "30,000 members of nothing": (dictionary(30_000), "", "do N.f()\n"),
+    "one member of one dictionary": (line(1), "let o = object()\n", "do N.f(o)\n"),
+    "one member above 25,000 dictionaries": (line(25_000), "let o = object()\n", "do N.f(o)\n"),
 }
-
-
-def many(form, count):
-    return "".join(form.format(number) for number in range(count))
 
 
 def filled(line):
@@ -65,7 +107,9 @@ WHOLE = {
     "12,000 calls that convert a number": ([OCTET], "do N.f(300)\n" * 12_000),
     "1 MiB of objects, calls and shown values": ([ANY], filled("let o = object()\nset o.a = N.f(o)\nshow o.a\n")),
     "1 MiB of conversions that fail": ([ENFORCED], METHOD + "try\ndo N.f(o)\ncatch e\nend\n" * 40_000),
+    "a record of 50,000 keys": ([RECORD], keys(50_000) + "do N.f(o)\n"),
     "one call of 300,000 arguments": (["namespace N { undefined f(octet... a); };\n"], "do N.f(1" + ",1" * 299_999 + ")\n"),
+    "one call of 300,000 arguments of a union": ([UNION], "do N.f(1" + ",true" * 299_999 + ")\n"),
     "10,000 calls of 64 overloads, with 64 arguments": (
         [overloads()], "function g(a)\ndo N.f(a" + ",a" * 63 + ")\nend\n" + nested("do g(7)\n", 10_000)),
     "10,000 calls with one of 50,000 values": (
@@ -77,7 +121,7 @@ WHOLE = {
         ["namespace N { };\n"] + [f"partial namespace N {{ undefined f{part}(octet a); }};\n" for part in range(63)],
         many("do N.f{}(300)\n", 63) * 200),
     "64 files and a script, each of 1 MiB of blanks": ([" " * MIB] * 64, " " * MIB),
-    "a type that isn't served, and a script of 1 MiB": ([ANY, "namespace M { undefined f(long? a); };\n"], filled("do N.f(1)\n")),
+    "a type that isn't served, and a script of 1 MiB": ([ANY, "namespace M { undefined f(Promise<any> a); };\n"], filled("do N.f(1)\n")),
 }
 
 

@@ -18,7 +18,7 @@ use Rattle.widl_value.specs.declared.object.ObjRef.{ObjRef}
 use Rattle.widl_value.specs.declared.object.Shape.TheVariants as shapes
 use Rattle.widl_value.specs.declared.value.Value.{Value}
 use Rattle.widl_value.specs.declared.value.Value.TheVariants as values
-use Rattle.widl_value.specs.IdlTerms.{IdlTerm, UndefinedValue, NullValue, MissingValue, BooleanValue, IntegerValue, StringValue, EnumerationValue, ObjectValue, AnyValue, SequenceValue, RecordValue, DictionaryValue, PromiseValue}
+use Rattle.widl_value.specs.IdlTerms.{IdlTerm, UndefinedValue, NullValue, MissingValue, BooleanValue, IntegerValue, StringValue, EnumerationValue, ObjectValue, AnyValue, SequenceValue, RecordValue, DictionaryValue, PromiseValue, no_members}
 use Rattle.widl_scalar.specs.Primitives.{length_of}
 use Rattle.widl_store.specs.declared.inner.Builtin.{Builtin}
 use Rattle.widl_store.specs.declared.inner.Builtin.TheVariants as builtins
@@ -113,7 +113,7 @@ module _ (built : BuiltCalls) (list : DefsTerm) (blocks : StepsOf) (chains_end :
   fine_default (InterfaceType n) = an_end _
   fine_default (CallbackFunctionType n) = an_end _
   fine_default (CallbackInterfaceType n) = an_end _
-  fine_default (DictionaryType n) = fine_if tasks (built.conversions.to_type (DictionaryType n)) _ _ (fine_if tasks (requires_member list n) _ _ (an_end _) (converts (Convert (DictionaryType n) values.Undefined))) (an_end _)
+  fine_default (DictionaryType n) = fine_if tasks (built.conversions.to_script (DictionaryValue n no_members)) _ _ (fine_if tasks (requires_member list n) _ _ (an_end _) (converts (Convert (DictionaryType n) values.Undefined))) (an_end _)
   fine_default ObjectType = an_end _
   fine_default (SequenceType t) = an_end _
   fine_default (RecordType key t) = an_end _

@@ -8,7 +8,9 @@ use Rattle.widl_value.specs.declared.object.ObjRef.{ObjRef}
 use Rattle.widl_value.specs.declared.value.Value.{Value}
 use Rattle.widl_store.specs.declared.inner.Builtin.{Builtin}
 use Rattle.widl_convert.specs.AskTerms.{Fits, IsFree, OfKind}
+use Rattle.widl_calls.specs.declared.array_turns.ArrayWait.{ArrayWait}
 use Rattle.widl_calls.specs.declared.moves.CallMove.{CallMove}
+use Rattle.widl_calls.specs.ArrayWaits.{array_kind_for, array_patience}
 use Rattle.widl_calls.specs.BuiltCalls.{calls_built_today}
 use Rattle.widl_calls.specs.CallRules.{call_rule}
 use Rattle.widl_calls.specs.CallTasks.{Function}
@@ -24,3 +26,8 @@ function_leads list steps f what this args construct (Err e) x = tt
 pub none_left : (list : DefsTerm) (r : Result CallMove AllocError) → IfOk r (λ m. (list : DefsTerm) → call_weight list m ≡ 0) → IfOk r (λ m. IsFree OfKind → call_weight list m < 1)
 none_left list (Ok m) x = λ free. omega (arith, x list)
 none_left list (Err e) x = tt
+
+-- after an answer in a function of arrays less is left
+pub less_after : (list : DefsTerm) (w : ArrayWait) (r : Result CallMove AllocError) → IfOk r (λ m. (list : DefsTerm) → IsFree (array_kind_for w) → call_weight list m < array_patience w) → IfOk r (λ m. IsFree (array_kind_for w) → call_weight list m < array_patience w)
+less_after list w (Ok m) x = x list
+less_after list w (Err e) x = tt

@@ -27,9 +27,9 @@ abbrev pub is_built_owner : Owner → Part → Bool
 is_built_owner (owners.Space n) part = is_built_part part
 is_built_owner (owners.Iface n) part = false
 
--- of the intrinsic functions #8, #9; and #15 to #17, which no run does
+-- of the intrinsic functions #8 and #9 of objects, #12 to #14 by which arrays are iterated over; and #15 to #17, which no run does
 abbrev pub is_built_function : Builtin → Bool
-is_built_function (builtins.Intrinsic number) = nat_eq number 8 || nat_eq number 9 || nat_eq number 15 || nat_eq number 16 || nat_eq number 17
+is_built_function (builtins.Intrinsic number) = nat_eq number 8 || nat_eq number 9 || nat_eq number 12 || nat_eq number 13 || nat_eq number 14 || nat_eq number 15 || nat_eq number 16 || nat_eq number 17
 is_built_function (builtins.Callee callee) = is_built_owner callee.owner callee.part
 is_built_function (builtins.InterfaceObject iface) = false
 is_built_function (builtins.Pairs iface what) = false

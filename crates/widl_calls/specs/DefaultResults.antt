@@ -6,10 +6,10 @@ use Rattle.widl_dialog.specs.Dialog.{End, Steps}
 use Rattle.widl_idl.specs.DefinitionTerms.{DefsTerm}
 use Rattle.widl_idl.specs.Terms.{TypeTerm, AnyType, UndefinedType, BooleanType, IntegerType, StringType, EnumerationType, DictionaryType, SequenceType, RecordType, NullableType}
 use Rattle.widl_value.specs.declared.value.Value.TheVariants as values
-use Rattle.widl_value.specs.IdlTerms.{UndefinedValue, NullValue, BooleanValue, IntegerValue, StringValue, EnumerationValue, AnyValue, SequenceValue, RecordValue, no_values, no_entries}
+use Rattle.widl_value.specs.IdlTerms.{UndefinedValue, NullValue, BooleanValue, IntegerValue, StringValue, EnumerationValue, AnyValue, SequenceValue, RecordValue, DictionaryValue, no_values, no_entries, no_members}
 use Rattle.widl_trace.specs.declared.code.Code.TheVariants as code
 use Rattle.widl_convert.specs.Built.{Built}
-use Rattle.widl_convert.specs.MemberOrder.{DeclaredMember, members_in_order}
+use Rattle.widl_tables.specs.MemberOrder.{DeclaredMember, members_in_order}
 use Rattle.widl_convert.specs.Tasks.{Convert}
 use Rattle.widl_convert.specs.Words.{gives, fails, not_built}
 use Rattle.widl_calls.specs.CallTasks.{Of, CallTalk}
@@ -33,5 +33,5 @@ default_result built list (EnumerationType n) = gives (EnumerationValue n 0)
 default_result built list (SequenceType t) = gives (SequenceValue no_values)
 default_result built list (RecordType key t) = gives (RecordValue no_entries)
 default_result built list (NullableType t) = gives NullValue
-default_result built list (DictionaryType n) = if built.to_type (DictionaryType n) then dictionary_result list n else not_built
+default_result built list (DictionaryType n) = if built.to_script (DictionaryValue n no_members) then dictionary_result list n else not_built
 default_result built list _ = fails code.NoDefault

@@ -9,15 +9,18 @@ use Rattle.widl_idl.specs.Terms.{TypeTerm}
 use Rattle.widl_value.specs.declared.value.Value.{Value}
 use Rattle.widl_value.specs.declared.value.Value.TheVariants as values
 use Rattle.widl_value.specs.IdlTerms.{IdlTerm, idl_term}
+use Rattle.widl_scalar.specs.Primitives.{length_of}
 use Rattle.widl_store.specs.declared.inner.Builtin.{Builtin}
 use Rattle.widl_store.specs.declared.inner.Builtin.TheVariants as builtins
 use Rattle.widl_script_tree.specs.declared.steps.StepLine.{StepLine}
+use Rattle.widl_convert.specs.declared.outcome.Want.TheVariants as wants
 use Rattle.widl_convert.specs.AskTerms.{AnswerTerm, Fits, ask_term}
 use Rattle.widl_convert.specs.Frames.{end_of}
 use Rattle.widl_convert.specs.Loads.{load, object_load}
 use Rattle.widl_convert.specs.Stack.{rest, quiet}
-use Rattle.widl_convert.specs.Tasks.{TaskEnd, Convert, Resolve, Out}
-use Rattle.widl_convert.specs.Words.{done, normal}
+use Rattle.widl_convert.specs.Tasks.{TaskEnd, Convert, Resolve, Scalar, Out}
+use Rattle.widl_convert.specs.Words.{done, normal, number}
+use Rattle.widl_calls.specs.declared.array_turns.ArrayTurn.{ArrayTurn}
 use Rattle.widl_calls.specs.declared.frames.CallFrame.{CallFrame}
 use Rattle.widl_calls.specs.declared.frames.CallFrame.TheVariants as frames
 use Rattle.widl_calls.specs.declared.jobs.CallJob.{CallJob}
@@ -28,6 +31,8 @@ use Rattle.widl_calls.specs.declared.overload.Overload.{Overload}
 use Rattle.widl_calls.specs.declared.waits.CallWait.{CallWait}
 use Rattle.widl_calls.specs.declared.waits.CallWait.TheVariants as waits
 use Rattle.widl_convert.specs.Built.{built_today}
+use Rattle.widl_calls.specs.ArrayFunctions.{given_in_turn, with_length}
+use Rattle.widl_calls.specs.ArrayWaits.{array_after, array_patience, cursor_load, moved_load}
 use Rattle.widl_calls.specs.BuiltCalls.{calls_built_today}
 use Rattle.widl_calls.specs.CallRules.{call_rule}
 use Rattle.widl_calls.specs.CallTasks.{CallTask, Of, Function, Lines, CallTalk, NamedValues}
@@ -51,12 +56,18 @@ call_job_of list steps (jobs.Resolve callee args) = Of (Resolve callee args.valu
 call_job_of list steps (jobs.Lines o read) = Lines (type_for list o) (named_terms read) (lines_in list steps o)
 call_job_of list steps (jobs.OfUndefined o) = Of (Convert (type_for list o) values.Undefined)
 call_job_of list steps (jobs.Out o value) = Of (Out (type_for list o) (idl_term value))
+call_job_of list steps (jobs.ToLength v) = Of (Scalar wants.Length v)
 
 -- 2. What comes after the end of a task
+
+-- a turn goes on with the length of its array
+abbrev pub length_to : ArrayTurn → TaskEnd → CallTalk
+length_to t = given_in_turn t.iterator t.next (number (λ n. with_length t.iterator t.of t.next (length_of n)))
 
 abbrev pub call_returned_to : DefsTerm → StepsOf → CallFrame → TaskEnd → CallTalk
 call_returned_to list steps (frames.Chosen callee) = chosen list steps callee
 call_returned_to list steps (frames.Result o) = result (type_for list o)
+call_returned_to list steps (frames.Length t) = length_to t
 
 -- 3. What comes after an answer
 
@@ -71,6 +82,7 @@ call_after list steps (waits.Noted o read) = done (Steps (Lines (type_for list o
 call_after list steps (waits.Line o read) = done (first_line list (type_for list o) (named_terms read) (lines_in list steps o))
 call_after list steps (waits.Tag o) = normal (with_tag o)
 call_after list steps waits.Kind = by_kind
+call_after list steps (waits.Array w) = array_after w
 
 -- 4. Moves
 
@@ -97,15 +109,20 @@ chosen_load = 1
 abbrev pub result_load : ℕ
 result_load = 3 + object_load
 
+-- one for the length of an array, with which an iterator may end
+abbrev pub length_load : ℕ
+length_load = 1 + moved_load
+
 abbrev pub call_frame_load : CallFrame → ℕ
 call_frame_load (frames.Chosen callee) = chosen_load
 call_frame_load (frames.Result o) = result_load
+call_frame_load (frames.Length t) = length_load
 
 abbrev pub operation_load : DefsTerm → Callee → List Value → ℕ
 operation_load list callee args = 1 + chosen_load + inner_load (load list (Resolve callee args))
 
 abbrev pub function_load : DefsTerm → Builtin → List Value → ℕ
-function_load list (builtins.Intrinsic number) args = 0
+function_load list (builtins.Intrinsic number) args = cursor_load
 function_load list (builtins.Callee callee) args = operation_load list callee args
 function_load list (builtins.InterfaceObject iface) args = 0
 function_load list (builtins.Pairs iface what) args = 0
@@ -117,6 +134,7 @@ job_load list (jobs.Resolve callee args) = inner_load (load list (Resolve callee
 job_load list (jobs.Lines o read) = 0
 job_load list (jobs.OfUndefined o) = inner_load (load list (Convert (type_for list o) values.Undefined))
 job_load list (jobs.Out o value) = inner_load (load list (Out (type_for list o) (idl_term value)))
+job_load list (jobs.ToLength v) = inner_load (load list (Scalar wants.Length v))
 
 -- what a wait does after the answer to an ask that takes no charge
 abbrev pub call_patience : DefsTerm → CallWait → ℕ
@@ -125,6 +143,7 @@ call_patience list (waits.Noted o read) = 0
 call_patience list (waits.Line o read) = 0
 call_patience list (waits.Tag o) = 0
 call_patience list waits.Kind = 1
+call_patience list (waits.Array w) = array_patience w
 
 abbrev pub call_weight : DefsTerm → CallMove → ℕ
 call_weight list (moves.Asks p) = call_patience list p.wait

@@ -10,6 +10,7 @@ pub mod FoundSteps
 pub mod CallLaws
 pub mod NamedTerms
 pub mod Kinds
+pub mod ArrayWaits
 pub mod Waits
 pub mod Frames
 pub mod Stack

@@ -3,6 +3,7 @@ use Rattle.widl_convert.specs.declared.asker.Asker.{Asker}
 use Rattle.widl_convert.specs.AskTerms.{AskKind, OfGet, OfKind, OfUnit, OfNote}
 use Rattle.widl_calls.specs.declared.waits.CallWait.{CallWait}
 use Rattle.widl_calls.specs.declared.waits.CallWait.TheVariants as waits
+use Rattle.widl_calls.specs.ArrayWaits.{array_kind_for}
 use Rattle.widl_calls.specs.Kinds.{kind_in}
 
 abbrev pub call_kind_for : CallWait → AskKind
@@ -11,3 +12,4 @@ call_kind_for (waits.Noted overload read) = OfNote
 call_kind_for (waits.Line overload read) = OfUnit
 call_kind_for (waits.Tag o) = OfGet
 call_kind_for waits.Kind = OfKind
+call_kind_for (waits.Array w) = array_kind_for w

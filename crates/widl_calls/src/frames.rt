@@ -2,6 +2,7 @@
 //!
 //! Each goes on with one kind of end, and passes any other on.
 
+use crate::array_turns::ArrayTurn;
 use crate::overload::Overload;
 use widl_idl::Callee;
 
@@ -12,4 +13,6 @@ pub enum CallFrame {
     Chosen(Callee),
     /// It is the IDL value of an overload's result.
     Result(Overload),
+    /// It is the length of the array of this turn.
+    Length(ArrayTurn),
 }

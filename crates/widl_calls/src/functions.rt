@@ -5,13 +5,15 @@ ghost use Rattle.widl_idl.specs.DefinitionTerms.{DefsTerm, defs_term};
 ghost use Rattle.widl_calls.specs.Operations.{StepsOf};
 ghost use Rattle.widl_value.specs.declared.object.ObjRef.{ObjRef as FunctionRef};
 ghost use Rattle.widl_convert.specs.Words.{not_built};
+ghost use Rattle.widl_calls.specs.ArrayWaits.{cursor_load};
 ghost use Rattle.widl_calls.specs.BuiltCalls.{calls_built_today, is_built_function};
 ghost use Rattle.widl_calls.specs.CallRules.{call_rule, intrinsic};
 ghost use Rattle.widl_calls.specs.CallTasks.{Function};
 ghost use Rattle.widl_calls.specs.Frames.{call_dialog, call_weight, function_load};
 
 use crate::arguments::Arguments;
-use crate::ends::{NEVER_RUN, NOT_BUILT, reaches};
+use crate::array_functions::{next, values};
+use crate::ends::{NEVER_RUN, NOT_BUILT, reaches, returns};
 use crate::moves::CallMove;
 use crate::object_functions::{to_string, value_of};
 use crate::operations::operation;
@@ -51,11 +53,14 @@ pub(crate) fn function(
 /// `AllocError` where there is no memory.
 fn intrinsic(alloc: Global, number: u8, this: Value) -> Result<CallMove, AllocError>
     ensures dialog { IfOk result (λ m. (list : DefsTerm) (steps : StepsOf) → call_dialog list steps m ≡ (if is_built_function (Builtin.Intrinsic number) then intrinsic number this else not_built)) }
-    ensures weight { IfOk result (λ m. (list : DefsTerm) → call_weight list m ≡ 0) }
+    ensures weight { IfOk result (λ m. (list : DefsTerm) → call_weight list m ≤ cursor_load) }
 {
     match number {
         8 => to_string(alloc, this),
         9 => Ok(value_of(this)),
+        12 => Ok(values(this)),
+        13 => Ok(next(this)),
+        14 => Ok(returns(this)),
         15 | 16 | 17 => Ok(reaches(NEVER_RUN)),
         _ => Ok(reaches(NOT_BUILT)),
     }

@@ -46,4 +46,6 @@ pub enum CallJob {
         /// The result.
         value: IdlValue,
     },
+    /// A value of the script to a length.
+    ToLength(Value),
 }

@@ -11,6 +11,8 @@
 #![tactic(auto)]
 
 mod arguments;
+mod array_functions;
+mod array_turns;
 mod call_asker;
 mod conversions;
 mod default_results;

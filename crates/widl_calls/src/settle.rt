@@ -43,7 +43,7 @@ pub(crate) fn settle(
                 let Some(frame) = pop(frames) else {
                     return CallSettled::Ends(ending);
                 };
-                match returned(tables, script, frame, ending) {
+                match returned(alloc, tables, script, frame, ending) {
                     Ok(next) => current = next,
                     Err(_) => return CallSettled::Memory,
                 }

@@ -12,6 +12,7 @@ ghost use Rattle.widl_calls.specs.Frames.{CallLeads, call_after, call_dialog, ca
 ghost use Rattle.widl_calls.specs.Waits.{call_kind_for};
 
 use crate::arguments::Arguments;
+use crate::array_functions::{array_answered, length_given};
 use crate::conversions::{begins, goes_on};
 use crate::ends::gives;
 use crate::frames::CallFrame;
@@ -24,7 +25,7 @@ use crate::overload::Overload;
 use crate::step_lines::{first_line, lines};
 use crate::waits::CallWait;
 use std::alloc::{AllocError, Global};
-use widl_convert::{Answer, Asker, Ending};
+use widl_convert::{Answer, Asker, Ending, Want};
 use widl_idl::{Callee, IdlType};
 use widl_script_tree::Script;
 use widl_tables::Tables;
@@ -56,6 +57,7 @@ pub(crate) fn begin(
         CallJob::Lines { overload, read } => Ok(lines(alloc, tables, script, overload, read)),
         CallJob::OfUndefined(overload) => of_undefined(alloc, tables, overload),
         CallJob::Out { overload, value } => out(alloc, tables, overload, value),
+        CallJob::ToLength(value) => to_length(alloc, tables, value),
     }
 }
 
@@ -112,6 +114,18 @@ fn out(
     }
 }
 
+/// The conversion of a value of the script to a length begins.
+///
+/// # Errors
+///
+/// `AllocError` where there is no memory.
+fn to_length(alloc: Global, tables: &Tables, value: Value) -> Result<CallMove, AllocError>
+    ensures leads { IfOk result (λ m. (steps : StepsOf) → CallLeads (defs_term tables.now.defs) steps (call_rule calls_built_today (defs_term tables.now.defs) steps (call_job_of (defs_term tables.now.defs) steps (CallJob.ToLength value))) (call_dialog (defs_term tables.now.defs) steps m)) }
+    ensures weight { IfOk result (λ m. call_weight (defs_term tables.now.defs) m ≤ job_load (defs_term tables.now.defs) (CallJob.ToLength value)) }
+{
+    begins(tables, Asker::start_scalar(alloc, Want::Length, value)?)
+}
+
 /// The move after an answer.
 ///
 /// # Errors
@@ -137,6 +151,7 @@ pub(crate) fn answered(
         CallWait::Line { overload, read } => first_line(alloc, tables, script, overload, read),
         CallWait::Tag(obj) => with_answer(alloc, obj, answer),
         CallWait::Kind => by_kind(alloc, answer),
+        CallWait::Array(wait) => array_answered(alloc, wait, answer),
     }
 }
 
@@ -146,6 +161,7 @@ pub(crate) fn answered(
 ///
 /// `AllocError` where there is no memory.
 pub(crate) fn returned(
+    alloc: Global,
     tables: &Tables,
     script: &Script,
     frame: CallFrame,
@@ -157,5 +173,6 @@ pub(crate) fn returned(
     match frame {
         CallFrame::Chosen(callee) => chosen(tables, script, callee, ending),
         CallFrame::Result(overload) => Ok(result(overload, ending)),
+        CallFrame::Length(turn) => length_given(alloc, turn, ending),
     }
 }

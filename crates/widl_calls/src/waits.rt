@@ -1,5 +1,6 @@
 //! Waits: what a call needs of an answer, and what it still needs then.
 
+use crate::array_turns::ArrayWait;
 use crate::inside::Inside;
 use crate::overload::Overload;
 use crate::step_lines::NamedValue;
@@ -28,4 +29,6 @@ pub enum CallWait {
     Tag(ObjRef),
     /// `toString`, for the kind of an object without a tag.
     Kind,
+    /// A function of arrays or of their iterators.
+    Array(ArrayWait),
 }

@@ -10,6 +10,9 @@ use std::process::Abort;
 use std::test::Fail;
 use widl_sink::{MemorySink, Numbers, SureSink};
 
+mod arrays;
+mod containers;
+mod dictionaries;
 mod faults;
 mod first_stores;
 mod fragments;
@@ -25,6 +28,7 @@ mod scripts;
 mod served;
 mod sizes;
 mod suspended;
+mod unions;
 mod validity;
 
 const FRAGMENT: &str = "namespace N { undefined f(octet a); };";

@@ -1,5 +1,5 @@
 -- What the steps of containers ask themselves, at most.
-use Rattle.std.proofs.Common.{◌≡◌, ℕ, false, if◌then◌else◌, List, [], ◌∷◌, ◌++◌, refl}
+use Rattle.std.proofs.Common.{◌≡◌, ℕ, false, List, [], ◌∷◌, ◌++◌, refl}
 use Rattle.std.specs.Prelude.{codes}
 use mathlib.Core.Logic.{inl, inr}
 use Rattle.widl_dialog.specs.Dialog.{End, Say, Steps}

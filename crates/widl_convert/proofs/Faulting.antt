@@ -45,14 +45,14 @@ use Rattle.widl_convert.specs.Built.{Built}
 use Rattle.widl_convert.specs.Defaults.{default, literal_value, defaults_from}
 use Rattle.widl_convert.specs.Dictionaries.{with_value, undefined_member, member_value, member, members, to_dictionary}
 use Rattle.widl_convert.specs.Laws.{Said, FaultsEnd}
-use Rattle.widl_convert.specs.MemberOrder.{DeclaredMember, members_in_order}
+use Rattle.widl_tables.specs.MemberOrder.{DeclaredMember, members_in_order}
 use Rattle.widl_convert.specs.Nullables.{to_nullable}
 use Rattle.widl_convert.specs.Primitives.{tried, found_ordinary, try_method, ordinary, primitive_result, found_method, object_to_primitive, to_primitive}
 use Rattle.widl_convert.specs.Records.{is_enumerable, flags_in, keys_in, key_value, named, with_entry, entry_value, own_entry, entries, to_record}
 use Rattle.widl_convert.specs.Resolution.{with_entries, argument_task, argument, without_method, looked_for, sequence_given, from_method, probed, picked, arguments}
 use Rattle.widl_convert.specs.Results.{entry_names, entry_items, member_names, member_items, container_ask, item_task, out_items, out_units, to_script}
 use Rattle.widl_convert.specs.Rules.{rule}
-use Rattle.widl_convert.specs.Scalars.{to_number, to_text, to_scalar, integer_result, string_result, is_bytes, to_string, null_or_string, enumeration_result, to_type}
+use Rattle.widl_convert.specs.Scalars.{to_number, to_text, to_scalar, integer_result, string_result, is_bytes, to_string, null_or_string, enumeration_result, to_plain, convert_plain, to_type}
 use Rattle.widl_convert.specs.Sequences.{element, told_done, turn_given, turns, with_next, with_iterator, sequence_from, found_iterator_method, to_sequence, element_of, element_within}
 use Rattle.widl_convert.specs.Tasks.{Container, ArrayOf, ObjectOf, Task, Primitive, Scalar, Convert, SequenceFrom, Turns, Entries, Members, Resolve, Arguments, Default, Defaults, Out, OutItems, OutUnits, TaskEnd, Rethrow, Talk, TalkOf}
 use Rattle.widl_convert.specs.Unions.{to_member, without_iterator, member_from, member_probed, member_picked}
@@ -258,20 +258,43 @@ module _ (built : Built) (list : DefsTerm) where
   pass_dictionary n (values.Sym i) = pass_end _
   pass_dictionary n (values.Obj o) = pass_on (Members n (Some o) (members_in_order list n) [])
 
-  pass_nullable : (t : TypeTerm) (v : Value) → Is (to_nullable t v)
-  pass_nullable t values.Undefined = pass_end _
-  pass_nullable t values.Null = pass_end _
-  pass_nullable t (values.Bool b) = pass_on (Convert t _)
-  pass_nullable t (values.Num n) = pass_on (Convert t _)
-  pass_nullable t (values.Str units) = pass_on (Convert t _)
-  pass_nullable t (values.Sym n) = pass_on (Convert t _)
-  pass_nullable t (values.Obj o) = pass_on (Convert t _)
+  pass_nullable : (inner : Value → Talk) → ((v : Value) → Is (inner v)) → (v : Value) → Is (to_nullable inner v)
+  pass_nullable inner all values.Undefined = pass_end _
+  pass_nullable inner all values.Null = pass_end _
+  pass_nullable inner all (values.Bool b) = all _
+  pass_nullable inner all (values.Num n) = all _
+  pass_nullable inner all (values.Str units) = all _
+  pass_nullable inner all (values.Sym n) = all _
+  pass_nullable inner all (values.Obj o) = all _
 
-  pass_to_member : (t : Option TypeTerm) (v : Value) → Is (to_member t v)
-  pass_to_member (Some t) v = pass_on (Convert t v)
+  -- 3.2 All types, and default values
+
+  pass_plain : (t : TypeTerm) (v : Value) → Is (to_plain list t v)
+  pass_plain AnyType v = pass_end _
+  pass_plain UndefinedType v = pass_end _
+  pass_plain BooleanType v = pass_end _
+  pass_plain (IntegerType kind mode) v = pass_number (Scalar wants.Number v) _ (λ n. pass_integer_result (integer_of n kind mode))
+  pass_plain (StringType kind null_empty) v = pass_null_or_string null_empty kind v
+  pass_plain (EnumerationType n) v = pass_text (Scalar wants.Text v) _ (λ units. pass_enumeration_result n (value_place list.choices n units))
+  pass_plain ObjectType v = pass_object _ _ (λ o. pass_end _) v
+  pass_plain (InterfaceType n) v = pass_end _
+  pass_plain (CallbackFunctionType n) v = pass_end _
+  pass_plain (CallbackInterfaceType n) v = pass_end _
+  pass_plain (DictionaryType n) v = pass_dictionary n v
+  pass_plain (SequenceType t) v = pass_sequence t v
+  pass_plain (RecordType key t) v = pass_record key t v
+  pass_plain (PromiseType t) v = pass_end _
+  pass_plain (NullableType t) v = pass_end _
+  pass_plain (UnionType ts) v = pass_end _
+
+  pass_convert_plain : (t : TypeTerm) (v : Value) → Is (convert_plain built list t v)
+  pass_convert_plain t v = pass_if (built.to_type t) _ _ (pass_plain t v) (pass_end _)
+
+  pass_to_member : (t : Option TypeTerm) (v : Value) → Is (to_member (convert_plain built list) t v)
+  pass_to_member (Some t) v = pass_convert_plain t v
   pass_to_member None v = pass_end _
 
-  pass_without_iterator : (ts : TypeTerms) (v : Value) (p : Pick) → Is (without_iterator ts v p)
+  pass_without_iterator : (ts : TypeTerms) (v : Value) (p : Pick) → Is (without_iterator (convert_plain built list) ts v p)
   pass_without_iterator ts v (Entry place) = pass_to_member (slice_get (flattened_members ts) place) v
   pass_without_iterator ts v (Probe place) = pass_end _
   pass_without_iterator ts v Refuse = pass_end _
@@ -280,33 +303,18 @@ module _ (built : Built) (list : DefsTerm) where
   pass_member_from o method (Some t) = pass_on (SequenceFrom t o method)
   pass_member_from o method None = pass_end _
 
-  pass_member_picked : (ts : TypeTerms) (v : Value) (p : Pick) → Is (member_picked built list ts v p)
+  pass_member_picked : (ts : TypeTerms) (v : Value) (p : Pick) → Is (member_picked (convert_plain built list) built list ts v p)
   pass_member_picked ts v (Entry place) = pass_to_member (slice_get (flattened_members ts) place) v
   pass_member_picked ts v (Probe place) =
-      pass_object _ _ (λ o. pass_ask _ (member_probed built list ts place o)
+      pass_object _ _ (λ o. pass_ask _ (member_probed (convert_plain built list) built list ts place o)
       (pass_method _ _ (pass_without_iterator ts (values.Obj o) (pick_member_of list ts (class_of (values.Obj o)) true))
       (λ method. pass_if (built.to_type (SequenceType AnyType)) _ _ (pass_member_from o method (option_and_then element_of (slice_get (flattened_members ts) place))) (pass_end _)))) v
   pass_member_picked ts v Refuse = pass_end _
 
-  -- 3.2 All types, and default values
-
   pass_type : (t : TypeTerm) (v : Value) → Is (to_type built list t v)
-  pass_type AnyType v = pass_end _
-  pass_type UndefinedType v = pass_end _
-  pass_type BooleanType v = pass_end _
-  pass_type (IntegerType kind mode) v = pass_number (Scalar wants.Number v) _ (λ n. pass_integer_result (integer_of n kind mode))
-  pass_type (StringType kind null_empty) v = pass_null_or_string null_empty kind v
-  pass_type (EnumerationType n) v = pass_text (Scalar wants.Text v) _ (λ units. pass_enumeration_result n (value_place list.choices n units))
-  pass_type ObjectType v = pass_object _ _ (λ o. pass_end _) v
-  pass_type (InterfaceType n) v = pass_end _
-  pass_type (CallbackFunctionType n) v = pass_end _
-  pass_type (CallbackInterfaceType n) v = pass_end _
-  pass_type (DictionaryType n) v = pass_dictionary n v
-  pass_type (SequenceType t) v = pass_sequence t v
-  pass_type (RecordType key t) v = pass_record key t v
-  pass_type (PromiseType t) v = pass_end _
-  pass_type (NullableType t) v = pass_nullable t v
+  pass_type (NullableType t) v = pass_nullable (to_type built list t) (pass_type t) v
   pass_type (UnionType ts) v = pass_if (includes_nullable_type (UnionType ts) && is_null_or_undefined (class_of v)) _ _ (pass_end _) (pass_member_picked ts v (pick_member_of list ts (class_of v) false))
+  pass_type t v = pass_plain t v
 
   pass_literal : (t : TypeTerm) (l : Literal) → Is (literal_value list t l)
   pass_literal t literals.Null = pass_end _

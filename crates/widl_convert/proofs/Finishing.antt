@@ -60,14 +60,14 @@ use Rattle.widl_convert.specs.Built.{Built}
 use Rattle.widl_convert.specs.Defaults.{default, literal_value, defaults_from}
 use Rattle.widl_convert.specs.Dictionaries.{with_value, undefined_member, member_value, member, members, to_dictionary}
 use Rattle.widl_convert.specs.Laws.{AsksAreTalked, ChainsEnd}
-use Rattle.widl_convert.specs.MemberOrder.{DeclaredMember, members_in_order}
+use Rattle.widl_tables.specs.MemberOrder.{DeclaredMember, members_in_order}
 use Rattle.widl_convert.specs.Nullables.{to_nullable}
 use Rattle.widl_convert.specs.Primitives.{tried, found_ordinary, try_method, ordinary, primitive_result, found_method, object_to_primitive, to_primitive}
 use Rattle.widl_convert.specs.Resolution.{with_entries, default_at, takes_default, argument_task, argument, without_method, looked_for, sequence_given, from_method, probed, picked, of_several}
 use Rattle.widl_convert.specs.Records.{is_enumerable, flags_in, keys_in, key_value, with_entry, entry_value, own_entry, entries, to_record}
 use Rattle.widl_convert.specs.Results.{entry_names, entry_items, member_names, member_items, container_ask, item_task, out_items, out_units, to_script}
 use Rattle.widl_convert.specs.Rules.{rule}
-use Rattle.widl_convert.specs.Scalars.{to_number, to_text, to_scalar, integer_result, string_result, is_bytes, to_string, null_or_string, enumeration_result, to_integer, to_enumeration, to_type, convert}
+use Rattle.widl_convert.specs.Scalars.{to_number, to_text, to_scalar, integer_result, string_result, is_bytes, to_string, null_or_string, enumeration_result, to_integer, to_enumeration, to_plain, convert_plain, to_type, convert}
 use Rattle.widl_convert.specs.Sequences.{element, told_done, turn_given, turns, with_next, with_iterator, sequence_from, found_iterator_method, to_sequence, element_of, element_within}
 use Rattle.widl_convert.specs.Tasks.{Container, ArrayOf, ObjectOf, OutItems, OutUnits, SequenceFrom, Turns, Entries, Members, Task, Primitive, Scalar, Convert, Resolve, Arguments, Default, Defaults, Out, TaskEnd, Gives, Plain, Throw, Rethrow, Talk, TalkOf}
 use Rattle.widl_convert.specs.Unions.{to_member, without_iterator, member_from, member_probed, member_picked, to_union}
@@ -285,115 +285,105 @@ module _ (built : Built) (list : DefsTerm) (chains_end : ChainsEnd built list) w
   ends_dictionary n made (values.Str units) = (an_end _).ends
   ends_dictionary n made (values.Sym i) = (an_end _).ends
 
-  fine_nullable : (t : TypeTerm) → Converts t → (v : Value) → Is (to_nullable t v)
-  fine_nullable t all values.Undefined = an_end _
-  fine_nullable t all values.Null = an_end _
-  fine_nullable t all (values.Bool b) = goes (Convert t _) (all _)
-  fine_nullable t all (values.Num n) = goes (Convert t _) (all _)
-  fine_nullable t all (values.Str units) = goes (Convert t _) (all _)
-  fine_nullable t all (values.Sym n) = goes (Convert t _) (all _)
-  fine_nullable t all (values.Obj o) = goes (Convert t _) (all _)
+  ends_nullable : (inner : Value → Talk) → ((v : Value) → Finishes steps Fits (inner v)) → (v : Value) → Finishes steps Fits (to_nullable inner v)
+  ends_nullable inner all values.Undefined = (an_end _).ends
+  ends_nullable inner all values.Null = (an_end _).ends
+  ends_nullable inner all (values.Bool b) = all _
+  ends_nullable inner all (values.Num n) = all _
+  ends_nullable inner all (values.Str units) = all _
+  ends_nullable inner all (values.Sym n) = all _
+  ends_nullable inner all (values.Obj o) = all _
 
-  fine_member_at : (types : List TypeTerm) → AllByRecursion Converts types → (place : ℕ) (v : Value) → Is (to_member (slice_get types place) v)
-  fine_member_at [] all place v = an_end _
-  fine_member_at (t ∷ types) all zero v = goes (Convert t v) (all.0 v)
-  fine_member_at (t ∷ types) all (suc place) v = fine_member_at types all.1 place v
+  -- 2.5.1 Types that are neither nullable nor unions; of these two it has no steps
 
-  fine_without_iterator : (ts : TypeTerms) → AllByRecursion Converts (flattened_members ts) → (v : Value) (p : Pick) → Is (without_iterator ts v p)
-  fine_without_iterator ts all v (Entry place) = fine_member_at (flattened_members ts) all place v
-  fine_without_iterator ts all v (Probe place) = an_end _
-  fine_without_iterator ts all v Refuse = an_end _
+  ends_plain : (t : TypeTerm) → AreMade t → (v : Value) → Finishes steps Fits (to_plain list t v)
+  ends_plain AnyType made v = (an_end _).ends
+  ends_plain UndefinedType made v = (an_end _).ends
+  ends_plain BooleanType made v = (an_end _).ends
+  ends_plain (IntegerType kind mode) made v = (fine_integer kind mode v).ends
+  ends_plain (StringType kind null_empty) made v = (fine_null_or_string null_empty kind v).ends
+  ends_plain (EnumerationType n) made v = (fine_enumeration n v).ends
+  ends_plain ObjectType made v = (fine_object steps _ _ (λ o. an_end _) v).ends
+  ends_plain (InterfaceType n) made v = (an_end _).ends
+  ends_plain (CallbackFunctionType n) made v = (an_end _).ends
+  ends_plain (CallbackInterfaceType n) made v = (an_end _).ends
+  ends_plain (DictionaryType n) made v = ends_dictionary n (made n (0, (omega arith), refl)) v
+  ends_plain (SequenceType t) made v = (fine_sequence t v).ends
+  ends_plain (RecordType key t) made v = ends_record key t v
+  ends_plain (PromiseType t) made v = (an_end _).ends
+  ends_plain (NullableType t) made v = (an_end _).ends
+  ends_plain (UnionType ts) made v = (an_end _).ends
 
-  fine_member_from : (o method : ObjRef) (t : Option TypeTerm) → Is (member_from o method t)
-  fine_member_from o method (Some t) = goes (SequenceFrom t o method) (fine_sequence_from t o method).ends
-  fine_member_from o method None = an_end _
+  abbrev ConvertsPlain : TypeTerm → Type 0
+  ConvertsPlain t = (v : Value) → Finishes steps Fits (convert_plain built list t v)
 
-  fine_member_picked : (ts : TypeTerms) → AllByRecursion Converts (flattened_members ts) → (v : Value) (p : Pick) → Is (member_picked built list ts v p)
-  fine_member_picked ts all v (Entry place) = fine_member_at (flattened_members ts) all place v
-  fine_member_picked ts all v (Probe place) =
-      fine_object steps _ _ (λ o. fine_ask steps _ (member_probed built list ts place o) tt
-      (fine_method steps _ _ (fine_without_iterator ts all (values.Obj o) (pick_member_of list ts (class_of (values.Obj o)) true))
-      (λ method. fine_if steps (built.to_type (SequenceType AnyType)) _ _ (fine_member_from o method (option_and_then element_of (slice_get (flattened_members ts) place))) (an_end _)))) v
-  fine_member_picked ts all v Refuse = an_end _
+  ends_convert_plain : (t : TypeTerm) → AreMade t → ConvertsPlain t
+  ends_convert_plain t made v = finishes_if (built.to_type t) _ _ (ends_plain t made v) (an_end _).ends
 
-  fine_union : (ts : TypeTerms) → AllByRecursion Converts (flattened_members ts) → (v : Value) → Is (to_union built list ts v)
-  fine_union ts all v =
-      fine_if steps (includes_nullable_type (UnionType ts) && is_null_or_undefined (class_of v)) _ _ (an_end _) (fine_member_picked ts all v (pick_member_of list ts (class_of v) false))
+  -- 2.5.2 Unions: a conversion by a member ends, and so does one that asks, where the answer is thrown
 
-  -- a type that is neither nullable nor a union
-  abbrev IsAlone : TypeTerm → Type 0
-  IsAlone (NullableType t) = ⊥
-  IsAlone (UnionType ts) = ⊥
-  IsAlone t = Unit {0}
+  ends_to_member : (types : List TypeTerm) → AllByRecursion ConvertsPlain types → (place : ℕ) (v : Value) → Finishes steps Fits (to_member (convert_plain built list) (slice_get types place) v)
+  ends_to_member [] all place v = (an_end _).ends
+  ends_to_member (t ∷ types) all zero v = all.0 v
+  ends_to_member (t ∷ types) all (suc place) v = ends_to_member types all.1 place v
 
-  ends_alone : (t : TypeTerm) → IsAlone t → AreMade t → (v : Value) → Finishes steps Fits (to_type built list t v)
-  ends_alone AnyType a made v = (an_end _).ends
-  ends_alone UndefinedType a made v = (an_end _).ends
-  ends_alone BooleanType a made v = (an_end _).ends
-  ends_alone (IntegerType kind mode) a made v = (fine_integer kind mode v).ends
-  ends_alone (StringType kind null_empty) a made v = (fine_null_or_string null_empty kind v).ends
-  ends_alone (EnumerationType n) a made v = (fine_enumeration n v).ends
-  ends_alone ObjectType a made v = (fine_object steps _ _ (λ o. an_end _) v).ends
-  ends_alone (InterfaceType n) a made v = (an_end _).ends
-  ends_alone (CallbackFunctionType n) a made v = (an_end _).ends
-  ends_alone (CallbackInterfaceType n) a made v = (an_end _).ends
-  ends_alone (DictionaryType n) a made v = ends_dictionary n (made n (0, (omega arith), refl)) v
-  ends_alone (SequenceType t) a made v = (fine_sequence t v).ends
-  ends_alone (RecordType key t) a made v = ends_record key t v
-  ends_alone (PromiseType t) a made v = (an_end _).ends
-  ends_alone (NullableType t) a made v = absurd a
-  ends_alone (UnionType ts) a made v = absurd a
+  ends_to_probe : (ts : TypeTerms) (place : ℕ) (v : Value) → Finishes steps Fits (member_picked (convert_plain built list) built list ts v (Probe place))
+  ends_to_probe ts place (values.Obj o) = thrown_out _ (member_probed (convert_plain built list) built list ts place o) tt
+  ends_to_probe ts place values.Undefined = (an_end _).ends
+  ends_to_probe ts place values.Null = (an_end _).ends
+  ends_to_probe ts place (values.Bool b) = (an_end _).ends
+  ends_to_probe ts place (values.Num n) = (an_end _).ends
+  ends_to_probe ts place (values.Str units) = (an_end _).ends
+  ends_to_probe ts place (values.Sym n) = (an_end _).ends
 
-  alone : (t : TypeTerm) → IsAlone t → AreMade t → Converts t
-  alone t a made = converts_by t (ends_alone t a made)
+  ends_member_picked : (ts : TypeTerms) → AllByRecursion ConvertsPlain (flattened_members ts) → (v : Value) (p : Pick) → Finishes steps Fits (member_picked (convert_plain built list) built list ts v p)
+  ends_member_picked ts all v (Entry place) = ends_to_member (flattened_members ts) all place v
+  ends_member_picked ts all v (Probe place) = ends_to_probe ts place v
+  ends_member_picked ts all v Refuse = (an_end _).ends
 
-  all_appended : (types more : List TypeTerm) → AllByRecursion Converts types → AllByRecursion Converts more → AllByRecursion Converts (types ++ more)
+  ends_union : (ts : TypeTerms) → AllByRecursion ConvertsPlain (flattened_members ts) → (v : Value) → Finishes steps Fits (to_union (convert_plain built list) built list ts v)
+  ends_union ts all v =
+      finishes_if (includes_nullable_type (UnionType ts) && is_null_or_undefined (class_of v)) _ _ (an_end _).ends (ends_member_picked ts all v (pick_member_of list ts (class_of v) false))
+
+  all_appended : (types more : List TypeTerm) → AllByRecursion ConvertsPlain types → AllByRecursion ConvertsPlain more → AllByRecursion ConvertsPlain (types ++ more)
   all_appended [] more x y = y
   all_appended (t ∷ types) more x y = (x.0, all_appended types more x.1 y)
 
   mutual
-    ends_flat : (t : TypeTerm) → AreMade t → AllByRecursion Converts (flattened_member t)
+    ends_flat : (t : TypeTerm) → AreMade t → AllByRecursion ConvertsPlain (flattened_member t)
     ends_flat (NullableType t) made = ends_flat t made
     ends_flat (UnionType ts) made = ends_flats ts made
-    ends_flat AnyType made = (alone AnyType tt made, tt)
-    ends_flat UndefinedType made = (alone UndefinedType tt made, tt)
-    ends_flat BooleanType made = (alone BooleanType tt made, tt)
-    ends_flat (IntegerType kind mode) made = (alone (IntegerType kind Wrap) tt made, tt)
-    ends_flat (StringType kind null_empty) made = (alone (StringType kind false) tt made, tt)
-    ends_flat (EnumerationType n) made = (alone (EnumerationType n) tt made, tt)
-    ends_flat ObjectType made = (alone ObjectType tt made, tt)
-    ends_flat (InterfaceType n) made = (alone (InterfaceType n) tt made, tt)
-    ends_flat (CallbackFunctionType n) made = (alone (CallbackFunctionType n) tt made, tt)
-    ends_flat (CallbackInterfaceType n) made = (alone (CallbackInterfaceType n) tt made, tt)
-    ends_flat (DictionaryType n) made = (alone (DictionaryType n) tt made, tt)
-    ends_flat (SequenceType t) made = (alone (SequenceType t) tt made, tt)
-    ends_flat (RecordType key t) made = (alone (RecordType key t) tt made, tt)
-    ends_flat (PromiseType t) made = (alone (PromiseType t) tt made, tt)
+    ends_flat AnyType made = (ends_convert_plain AnyType made, tt)
+    ends_flat UndefinedType made = (ends_convert_plain UndefinedType made, tt)
+    ends_flat BooleanType made = (ends_convert_plain BooleanType made, tt)
+    ends_flat (IntegerType kind mode) made = (ends_convert_plain (IntegerType kind Wrap) made, tt)
+    ends_flat (StringType kind null_empty) made = (ends_convert_plain (StringType kind false) made, tt)
+    ends_flat (EnumerationType n) made = (ends_convert_plain (EnumerationType n) made, tt)
+    ends_flat ObjectType made = (ends_convert_plain ObjectType made, tt)
+    ends_flat (InterfaceType n) made = (ends_convert_plain (InterfaceType n) made, tt)
+    ends_flat (CallbackFunctionType n) made = (ends_convert_plain (CallbackFunctionType n) made, tt)
+    ends_flat (CallbackInterfaceType n) made = (ends_convert_plain (CallbackInterfaceType n) made, tt)
+    ends_flat (DictionaryType n) made = (ends_convert_plain (DictionaryType n) made, tt)
+    ends_flat (SequenceType t) made = (ends_convert_plain (SequenceType t) made, tt)
+    ends_flat (RecordType key t) made = (ends_convert_plain (RecordType key t) made, tt)
+    ends_flat (PromiseType t) made = (ends_convert_plain (PromiseType t) made, tt)
 
-    ends_flats : (ts : TypeTerms) → ((n : ℕ) → Contains (dictionaries_in_all ts) n → IsMade n) → AllByRecursion Converts (flattened_members ts)
+    ends_flats : (ts : TypeTerms) → ((n : ℕ) → Contains (dictionaries_in_all ts) n → IsMade n) → AllByRecursion ConvertsPlain (flattened_members ts)
     ends_flats no_types made = tt
     ends_flats (more_types t ts) made =
         all_appended (flattened_member t) (flattened_members ts)
         (ends_flat t (λ n inside. made n (Contains-append_left (dictionaries_in t) (dictionaries_in_all ts) n inside)))
         (ends_flats ts (λ n inside. made n (Contains-append_right (dictionaries_in t) (dictionaries_in_all ts) n inside)))
 
+  -- 2.5.3 All types
+
+  ends_type : (t : TypeTerm) → AreMade t → (v : Value) → Finishes steps Fits (to_type built list t v)
+  ends_type (NullableType t) made v = ends_nullable (to_type built list t) (ends_type t made) v
+  ends_type (UnionType ts) made v = ends_union ts (ends_flats ts made) v
+  ends_type t made v = ends_plain t made v
+
   converts : (t : TypeTerm) → AreMade t → Converts t
-  converts (NullableType t) made = converts_by (NullableType t) (λ v. (fine_nullable t (converts t made) v).ends)
-  converts (UnionType ts) made = converts_by (UnionType ts) (λ v. (fine_union ts (ends_flats ts made) v).ends)
-  converts AnyType made = alone AnyType tt made
-  converts UndefinedType made = alone UndefinedType tt made
-  converts BooleanType made = alone BooleanType tt made
-  converts (IntegerType kind mode) made = alone (IntegerType kind mode) tt made
-  converts (StringType kind null_empty) made = alone (StringType kind null_empty) tt made
-  converts (EnumerationType n) made = alone (EnumerationType n) tt made
-  converts ObjectType made = alone ObjectType tt made
-  converts (InterfaceType n) made = alone (InterfaceType n) tt made
-  converts (CallbackFunctionType n) made = alone (CallbackFunctionType n) tt made
-  converts (CallbackInterfaceType n) made = alone (CallbackInterfaceType n) tt made
-  converts (DictionaryType n) made = alone (DictionaryType n) tt made
-  converts (SequenceType t) made = alone (SequenceType t) tt made
-  converts (RecordType key t) made = alone (RecordType key t) tt made
-  converts (PromiseType t) made = alone (PromiseType t) tt made
+  converts t made = converts_by t (ends_type t made)
 
   -- 2.6 Default values and the members of dictionaries
 
@@ -485,23 +475,61 @@ module _ (built : Built) (list : DefsTerm) (chains_end : ChainsEnd built list) w
   fine_dictionary n (values.Str units) = an_end _
   fine_dictionary n (values.Sym i) = an_end _
 
+  fine_plain : (t : TypeTerm) (v : Value) → Is (to_plain list t v)
+  fine_plain AnyType v = an_end _
+  fine_plain UndefinedType v = an_end _
+  fine_plain BooleanType v = an_end _
+  fine_plain (IntegerType kind mode) v = fine_integer kind mode v
+  fine_plain (StringType kind null_empty) v = fine_null_or_string null_empty kind v
+  fine_plain (EnumerationType n) v = fine_enumeration n v
+  fine_plain ObjectType v = fine_object steps _ _ (λ o. an_end _) v
+  fine_plain (InterfaceType n) v = an_end _
+  fine_plain (CallbackFunctionType n) v = an_end _
+  fine_plain (CallbackInterfaceType n) v = an_end _
+  fine_plain (DictionaryType n) v = fine_dictionary n v
+  fine_plain (SequenceType t) v = fine_sequence t v
+  fine_plain (RecordType key t) v = fine_record key t v
+  fine_plain (PromiseType t) v = an_end _
+  fine_plain (NullableType t) v = an_end _
+  fine_plain (UnionType ts) v = an_end _
+
+  fine_to_member : (t : Option TypeTerm) (v : Value) → Is (to_member (convert_plain built list) t v)
+  fine_to_member (Some t) v = fine_if steps (built.to_type t) _ _ (fine_plain t v) (an_end _)
+  fine_to_member None v = an_end _
+
+  fine_without_iterator : (ts : TypeTerms) (v : Value) (p : Pick) → Is (without_iterator (convert_plain built list) ts v p)
+  fine_without_iterator ts v (Entry place) = fine_to_member (slice_get (flattened_members ts) place) v
+  fine_without_iterator ts v (Probe place) = an_end _
+  fine_without_iterator ts v Refuse = an_end _
+
+  fine_member_from : (o method : ObjRef) (t : Option TypeTerm) → Is (member_from o method t)
+  fine_member_from o method (Some t) = goes (SequenceFrom t o method) (fine_sequence_from t o method).ends
+  fine_member_from o method None = an_end _
+
+  fine_member_picked : (ts : TypeTerms) (v : Value) (p : Pick) → Is (member_picked (convert_plain built list) built list ts v p)
+  fine_member_picked ts v (Entry place) = fine_to_member (slice_get (flattened_members ts) place) v
+  fine_member_picked ts v (Probe place) =
+      fine_object steps _ _ (λ o. fine_ask steps _ (member_probed (convert_plain built list) built list ts place o) tt
+      (fine_method steps _ _ (fine_without_iterator ts (values.Obj o) (pick_member_of list ts (class_of (values.Obj o)) true))
+      (λ method. fine_if steps (built.to_type (SequenceType AnyType)) _ _ (fine_member_from o method (option_and_then element_of (slice_get (flattened_members ts) place))) (an_end _)))) v
+  fine_member_picked ts v Refuse = an_end _
+
+  fine_union : (ts : TypeTerms) (v : Value) → Is (to_union (convert_plain built list) built list ts v)
+  fine_union ts v = fine_if steps (includes_nullable_type (UnionType ts) && is_null_or_undefined (class_of v)) _ _ (an_end _) (fine_member_picked ts v (pick_member_of list ts (class_of v) false))
+
+  fine_nullable : (inner : Value → Talk) → ((v : Value) → Is (inner v)) → (v : Value) → Is (to_nullable inner v)
+  fine_nullable inner all values.Undefined = an_end _
+  fine_nullable inner all values.Null = an_end _
+  fine_nullable inner all (values.Bool b) = all _
+  fine_nullable inner all (values.Num n) = all _
+  fine_nullable inner all (values.Str units) = all _
+  fine_nullable inner all (values.Sym n) = all _
+  fine_nullable inner all (values.Obj o) = all _
+
   fine_type : (t : TypeTerm) (v : Value) → Is (to_type built list t v)
-  fine_type AnyType v = an_end _
-  fine_type UndefinedType v = an_end _
-  fine_type BooleanType v = an_end _
-  fine_type (IntegerType kind mode) v = fine_integer kind mode v
-  fine_type (StringType kind null_empty) v = fine_null_or_string null_empty kind v
-  fine_type (EnumerationType n) v = fine_enumeration n v
-  fine_type ObjectType v = fine_object steps _ _ (λ o. an_end _) v
-  fine_type (InterfaceType n) v = an_end _
-  fine_type (CallbackFunctionType n) v = an_end _
-  fine_type (CallbackInterfaceType n) v = an_end _
-  fine_type (DictionaryType n) v = fine_dictionary n v
-  fine_type (SequenceType t) v = fine_sequence t v
-  fine_type (RecordType key t) v = fine_record key t v
-  fine_type (PromiseType t) v = an_end _
-  fine_type (NullableType t) v = fine_nullable t (all_convert t) v
-  fine_type (UnionType ts) v = fine_union ts (ends_flats ts (λ n inside. is_made n)) v
+  fine_type (NullableType t) v = fine_nullable (to_type built list t) (fine_type t) v
+  fine_type (UnionType ts) v = fine_union ts v
+  fine_type t v = fine_plain t v
 
   fine_convert : (t : TypeTerm) (v : Value) → Is (convert built list t v)
   fine_convert t v = fine_if steps (built.to_type t) _ _ (fine_type t v) (an_end _)

@@ -6,13 +6,21 @@ pub mod Faulting
 pub mod ContainerAsks
 pub mod NameOrder
 pub mod MemberReads
+pub mod MemberValues
+pub mod Turning
 pub mod ValidChains
 pub mod Bytes
 pub mod Suspending
 pub mod Resuming
 pub mod Standing
 pub mod Resolving
-pub mod Enumerations
+pub mod FirstAmong
+pub mod RecordEntries
+pub mod UnionWalks
+pub mod UnionMembers
+pub mod ServedTypes
+pub mod TypeLoads
 pub mod ValueCounts
 pub mod Worked
 mod Talks
+pub mod LevelMembers

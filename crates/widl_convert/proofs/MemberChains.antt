@@ -1,5 +1,5 @@
 -- The dictionaries in the types of a dictionary's members, inherited ones included, are held in it.
-use Rattle.std.proofs.Common.{◌≡◌, ℕ, zero, suc, ◌+◌, Bool, true, false, if◌then◌else◌, List, [], ◌∷◌, ◌++◌, length, Option, None, Some, refl, sym, subst, arith}
+use Rattle.std.proofs.Common.{◌≡◌, ℕ, zero, suc, ◌+◌, List, [], ◌∷◌, ◌++◌, length, Option, None, Some, refl, sym, subst, arith}
 use Rattle.std.specs.Prelude.{Contains, flat_map, slice_get}
 use Rattle.std.specs.List.{AllByRecursion}
 use Rattle.std.specs.Option.{option_map_or, option_to_list}
@@ -9,7 +9,8 @@ use Rattle.widl_graph.specs.Reaching.{Reaches, one, Step}
 use Rattle.widl_graph.proofs.Reach.{after_step}
 use Rattle.widl_idl.specs.DefinitionTerms.{DefsTerm, DictTerm, MemberTerm}
 use Rattle.widl_overload.specs.Dictionaries.{HoldsIn, IsOfLine, dictionaries_in, dictionary_parents}
-use Rattle.widl_convert.specs.MemberOrder.{DeclaredMember, parent_in, line_within, line_of, declared_from, declared_by, comes_after, with_member, by_name, members_in_order}
+use Rattle.widl_tables.specs.MemberOrder.{DeclaredMember, parent_in, line_within, line_of, declared_from, declared_by, by_name, members_in_order}
+use Rattle.widl_tables.proofs.NameOrder.{all_by_name}
 
 -- 1. Generic
 
@@ -25,22 +26,7 @@ all_flat : {X Y : Type 0} (P : Y → Type 0) (f : X → List Y) (xs : List X) �
 all_flat P f [] all = tt
 all_flat P f (x ∷ xs) all = all_joined P (f x) (flat_map f xs) all.0 (all_flat P f xs all.1)
 
--- 2. Sorting keeps what holds of each member
-
-module _ (P : DeclaredMember → Type 0) where
-  put : (b : Bool) (m other : DeclaredMember) (members : List DeclaredMember) → P m → AllByRecursion P (other ∷ members) → AllByRecursion P (with_member m members) → AllByRecursion P (if b then other ∷ with_member m members else m ∷ other ∷ members)
-  put true m other members x all later = (all.0, later)
-  put false m other members x all later = (x, all)
-
-  all_with : (m : DeclaredMember) (members : List DeclaredMember) → P m → AllByRecursion P members → AllByRecursion P (with_member m members)
-  all_with m [] x all = (x, tt)
-  all_with m (other ∷ members) x all = put (comes_after m other) m other members x all (all_with m members x all.1)
-
-  all_by_name : (members : List DeclaredMember) → AllByRecursion P members → AllByRecursion P (by_name members)
-  all_by_name [] all = tt
-  all_by_name (m ∷ members) all = all_with m (by_name members) all.0 (all_by_name members all.1)
-
--- 3. A line has the dictionary itself and those from which it inherits
+-- 2. A line has the dictionary itself and those from which it inherits
 
 module _ (dicts : List DictTerm) where
   abbrev pub HeldBy : ℕ → DeclaredMember → Type 0
@@ -80,7 +66,7 @@ module _ (dicts : List DictTerm) where
   itself_of_line : (n x : ℕ) → ◌≡◌ {A = Option ℕ} (Some n) (Some x) → IsOfLine dicts n x
   itself_of_line n x e = inl (cc)
 
--- 4. All members
+-- 3. All members
 
 pub all_held : (list : DefsTerm) (n : ℕ) → AllByRecursion (HeldBy list.dicts n) (members_in_order list n)
 all_held list n =

@@ -14,23 +14,23 @@ use Rattle.widl_value.specs.declared.value.Value.{Value}
 use Rattle.widl_value.specs.IdlTerms.{IdlTerm}
 use Rattle.widl_tables.specs.declared.kept_type.Kept.{Kept}
 use Rattle.widl_tables.specs.declared.pick.Pick.{Pick}
-use Rattle.widl_tables.specs.declared.pick.Pick.TheVariants.{Entry}
+use Rattle.widl_tables.specs.declared.pick.Pick.TheVariants.{Entry, Probe, Refuse}
 use Rattle.widl_tables.specs.Kept.{argcount_of, declared_args, entries_for, entries_of, entry_alone, entry_for, kept_tuples, longest, numbers_of, overloads_of, telling_place, choosing_place}
 use Rattle.widl_tables.specs.Picks.{pick_kept, pick_of}
 use Rattle.widl_tables.specs.Standing.{has_entry}
 use Rattle.widl_tables.proofs.Entries.{number_of_entry, numbers_more}
 use Rattle.widl_tables.proofs.FewOverloads.{place_or_0}
-use Rattle.widl_tables.proofs.PickLaws.{entry_is_kept}
+use Rattle.widl_tables.proofs.PickLaws.{entry_is_kept, probe_is_kept}
 use Rattle.widl_tables.proofs.Picking.{of_several}
 use Rattle.widl_convert.specs.Entries.{AreSeveral, IsAtPlace, IsOpen, after_arguments, entries_left, entry_in, left_from, place_in, rise, sole}
 use Rattle.widl_convert.specs.Built.{built_today}
-use Rattle.widl_convert.specs.Resolution.{argument, argument_given, argument_task, arguments, of_several as several_by, picked, resolve, with_entries, without_method}
+use Rattle.widl_convert.specs.Resolution.{argument, argument_given, argument_task, arguments, looked_for, of_several as several_by, picked, resolve, with_entries, without_method}
 use Rattle.widl_convert.specs.Tasks.{Arguments, Defaults, Talk}
 
 -- 1. The arguments
 
 -- the next one is taken, and another value stands in its place
-next_argument : {X : Type 0} (args : List X) (m k : ℕ) (v x : X) → k < m → slice_get args k ≡ Some v → drop k (take m args) ≡ v ∷ drop (k + 1) (take m (set args k x))
+pub next_argument : {X : Type 0} (args : List X) (m k : ℕ) (v x : X) → k < m → slice_get args k ≡ Some v → drop k (take m args) ≡ v ∷ drop (k + 1) (take m (set args k x))
 next_argument [] m k v x below is = absurd (grind arith)
 next_argument (a ∷ args) zero k v x below is = absurd (omega arith)
 next_argument (a ∷ args) (suc m) zero v x below is = (let same : a ≡ v = cc in ap (λ (w : _). w ∷ take m args) same)
@@ -120,14 +120,16 @@ pick_is list kept overload place class probed p several none here is =
     ap (λ o. pick_of list (entries_left list kept o) place class probed) none
     ∙ of_several list (λ (e : ℕ). entry_for e (declared_args list kept.callee e) kept.argcount) kept.overloads kept.place place class probed several.several here ∙ sym is
 
-pub entry_picked : (list : DefsTerm) (kept : Kept) (overload : Option ℕ) (place e : ℕ) (class : Class) (probed : Bool) → AreSeveral kept → overload ≡ None
-    → pick_of list (entries_left list kept overload) place class probed ≡ Entry e → entry_alone e (entries_left list kept overload) ≡ entry_in list kept e ∷ []
-entry_picked list kept overload place e class probed several none is =
+alone_left : (list : DefsTerm) (kept : Kept) (overload : Option ℕ) (e : ℕ) → AreSeveral kept → overload ≡ None → Contains (numbers_of (entries_left list kept overload)) e → entry_alone e (entries_left list kept overload) ≡ entry_in list kept e ∷ []
+alone_left list kept overload e several none has =
     let f : ℕ → TupleTerm = λ (n : ℕ). entry_for n (declared_args list kept.callee n) kept.argcount in
     let same : entries_left list kept overload ≡ map f kept.overloads = ap (entries_left list kept) none in
     ap (entry_alone e) same
-    ∙ alone_is f (λ n. number_of_entry n (declared_args list kept.callee n) kept.argcount) e kept.overloads several.rising
-    (entry_is_kept list (map f kept.overloads) place class probed e (sym (ap (λ entries. pick_of list entries place class probed) same) ∙ is))
+    ∙ alone_is f (λ n. number_of_entry n (declared_args list kept.callee n) kept.argcount) e kept.overloads several.rising (subst (λ (entries : List TupleTerm). Contains (numbers_of entries) e) same has)
+
+pub entry_picked : (list : DefsTerm) (kept : Kept) (overload : Option ℕ) (place e : ℕ) (class : Class) (probed : Bool) → AreSeveral kept → overload ≡ None
+    → pick_of list (entries_left list kept overload) place class probed ≡ Entry e → entry_alone e (entries_left list kept overload) ≡ entry_in list kept e ∷ []
+entry_picked list kept overload place e class probed several none is = alone_left list kept overload e several none (entry_is_kept list (entries_left list kept overload) place class probed e is)
 
 -- 4. What an overload declares
 
@@ -183,6 +185,32 @@ unprobed_entry list kept overload e class v left made p several there same is pi
     = ap (λ (c : Class). pick_of list (entries_left list kept overload) (length made) c true) (sym same) ∙ pick_is list kept overload (length made) class true p several there.none there.here picks ∙ is in
     ap (without_method list kept.callee (entries_left list kept overload) (place_in kept) v left made) pick
     ∙ ap (λ (entries : List TupleTerm). argument list kept.callee entries (place_in kept) v left made) (entry_picked list kept overload (length made) e (class_of v) true several there.none pick)
+
+-- with a method the sequence is made for the entry for whose type it was looked, and for none where it was looked for none
+pub looked_at : (list : DefsTerm) (kept : Kept) (overload : Option ℕ) (class : Class) (v : Value) (made : List IdlTerm) (p q : Pick) → AreSeveral kept → IsAtPlace kept overload (length made)
+    → class ≡ class_of v → p ≡ q → p ≡ pick_kept list (entries_for list kept.callee kept.argcount kept.overloads) kept.place class false
+    → pick_of list (entries_left list kept overload) (length made) (class_of v) false ≡ q
+looked_at list kept overload class v made p q several there same is picks =
+    ap (λ (c : Class). pick_of list (entries_left list kept overload) (length made) c false) (sym same) ∙ pick_is list kept overload (length made) class false p several there.none there.here picks ∙ is
+
+pub looked_entry : (list : DefsTerm) (kept : Kept) (overload : Option ℕ) (e : ℕ) (class : Class) (v : Value) (made : List IdlTerm) (p : Pick) → AreSeveral kept → IsAtPlace kept overload (length made)
+    → class ≡ class_of v → p ≡ Probe e → p ≡ pick_kept list (entries_for list kept.callee kept.argcount kept.overloads) kept.place class false
+    → looked_for (entries_left list kept overload) (pick_of list (entries_left list kept overload) (length made) (class_of v) false) ≡ entry_in list kept e ∷ []
+looked_entry list kept overload e class v made p several there same is picks =
+    let pick : pick_of list (entries_left list kept overload) (length made) (class_of v) false ≡ Probe e = looked_at list kept overload class v made p (Probe e) several there same is picks in
+    ap (looked_for (entries_left list kept overload)) pick
+    ∙ alone_left list kept overload e several there.none (probe_is_kept list (entries_left list kept overload) (length made) (class_of v) false e pick)
+
+looked_otherwise : (entries : List TupleTerm) (p : Pick) → ((e : ℕ) → p ≡ Probe e → ⊥) → looked_for entries p ≡ []
+looked_otherwise entries (Entry e) not = refl
+looked_otherwise entries (Probe e) not = absurd (not e refl)
+looked_otherwise entries Refuse not = refl
+
+pub looked_nowhere : (list : DefsTerm) (kept : Kept) (overload : Option ℕ) (class : Class) (v : Value) (made : List IdlTerm) (p : Pick) → AreSeveral kept → IsAtPlace kept overload (length made)
+    → class ≡ class_of v → ((e : ℕ) → p ≡ Probe e → ⊥) → p ≡ pick_kept list (entries_for list kept.callee kept.argcount kept.overloads) kept.place class false
+    → looked_for (entries_left list kept overload) (pick_of list (entries_left list kept overload) (length made) (class_of v) false) ≡ []
+looked_nowhere list kept overload class v made p several there same not picks =
+    ap (looked_for (entries_left list kept overload)) (looked_at list kept overload class v made p p several there same refl picks) ∙ looked_otherwise (entries_left list kept overload) p not
 
 -- 6. Where it begins
 

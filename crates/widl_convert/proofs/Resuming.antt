@@ -1,9 +1,9 @@
 -- What a suspended conversation answers is what comes next.
-use Rattle.std.proofs.Common.{◌≡◌, List, [], Option, Some, None, sym, ap, subst, ◌∙◌}
+use Rattle.std.proofs.Common.{◌≡◌, ◌+◌, ◌<◌, ◌≤◌, List, [], Option, Some, None, sym, ap, subst, ◌∙◌, arith}
 use Rattle.widl_dialog.specs.Conversation.{Next, Asks, Ends}
 use Rattle.widl_dialog.specs.Dialog.{Say, bind}
 use Rattle.widl_dialog.specs.Position.{At}
-use Rattle.widl_dialog.specs.Stack.{under, longer}
+use Rattle.widl_dialog.specs.Stack.{stack_load, under, longer}
 use Rattle.widl_dialog.proofs.Bind.{bind_end}
 use Rattle.widl_dialog.proofs.Positions.{here, at_then, next_ask, next_end}
 use Rattle.widl_dialog.proofs.Stacking as stacking
@@ -20,8 +20,9 @@ use Rattle.widl_convert.specs.AskTerms.{AskTerm, AskKind, AnswerTerm, BeginAnswe
 use Rattle.widl_convert.specs.Built.{built_today}
 use Rattle.widl_convert.specs.Frames.{after, move_dialog, returned_to}
 use Rattle.widl_convert.specs.Laws.{Said}
+use Rattle.widl_convert.specs.Loads.{frame_load, patience, weight}
 use Rattle.widl_convert.specs.Rules.{rule}
-use Rattle.widl_convert.specs.Stack.{Awaits, Expects, IsReached, IsTold, Leads, Resumes, Stands, Tells, kind_of_last, left, moves_on, next_said, pending, rest, waiting}
+use Rattle.widl_convert.specs.Stack.{Awaits, Expects, IsCalmer, IsQuietState, IsReached, IsTold, Leads, Resumes, Stands, Tells, kind_of_last, left, moves_on, next_said, pause, pending, quiet, rest, waiting}
 use Rattle.widl_convert.specs.Tasks.{Task, TaskEnd, Talk}
 use Rattle.widl_convert.specs.Waits.{kind_for}
 
@@ -43,6 +44,15 @@ resumed list old new a m p fs n same is leads fits is_state is_frames is_next =
       ap waiting is_state ∙ ap (λ (k : AskKind). let o : Option AskKind = Some k in o) (sym fits),
       at_then (rule built_today list) Fits (goes_on list old a m same is leads) (here (rule built_today list) Fits path),
     )
+
+-- it asks, and less is left than before
+pub calm_at_ask : (list : DefsTerm) (old new : Asker) (m : Move) (p : Asking) (fs : List Frame) (n : NextAnswer) {state : State} → state ≡ old.state → (IsQuietState state → weight list m < pause list state) → stack_load (frame_load list) fs + patience p.wait ≤ stack_load (frame_load list) old.frames + weight list m → new.state ≡ Waits p.wait → new.frames ≡ fs → n ≡ next.Ask p.ask → IsCalmer list old new n
+calm_at_ask list old new m p fs n same small less is_state is_frames is_next =
+    subst (IsCalmer list old new) (sym is_next) (λ free.
+    (let first : weight list m < pause list old.state = subst (λ (s : State). IsQuietState s → weight list m < pause list s) same small free in
+    let left_now : quiet list new ≡ stack_load (frame_load list) fs + patience p.wait =
+    ap (λ (l : List Frame). stack_load (frame_load list) l + pause list new.state) is_frames ∙ ap (λ (s : State). stack_load (frame_load list) fs + pause list s) is_state in
+    omega (arith, left_now, first, less)))
 
 -- the answer that fits what is waited for is expected
 pub expects : (asker : Asker) (k : AskKind) (a : AnswerTerm) → pending asker ≡ Some k → IsWanted k a → Expects asker a

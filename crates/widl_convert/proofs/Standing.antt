@@ -33,8 +33,8 @@ module _ (list : DefsTerm) where
       ap (λ (o : AskTerm). let s : Option AskTerm = Some o in s) ask
 
   pub goes_on : EachAnswerGoesOn list
-  goes_on asker task said ask a stands fits =
-      let z = (all_talked built_today list (λ n e. absurd (cc)) task said ask a fits).0 (asks asker task said ask stands) in
+  goes_on chains_end asker task said ask a stands fits =
+      let z = (all_talked built_today list chains_end task said ask a fits).0 (asks asker task said ask stands) in
       let whole : IsTalk (rule built_today list) task ((said ++ (ask, a) ∷ []) ++ z.0) z.1 =
       subst (λ (talk : Said). IsTalk (rule built_today list) task talk z.1) (sym (append_assoc said ((ask, a) ∷ []) z.0)) z.2 in
       beginnings (rule built_today list) task (said ++ (ask, a) ∷ []) z.0 z.1 whole

@@ -1,5 +1,7 @@
 -- Each move of a suspended conversation leads on, and leaves less without a charge.
 use Rattle.std.proofs.Common.{◌≡◌, ℕ, ◌+◌, ◌≤◌, ◌<◌, List, [], ◌∷◌, ◌++◌, sym, ap, subst, ◌∙◌, arith}
+use Rattle.std.specs.Prelude.{Result, Ok, Err, IfOk}
+use Rattle.std.specs.declared.alloc.AllocError.{AllocError}
 use Rattle.widl_dialog.specs.Stack.{stack_load}
 use Rattle.widl_dialog.proofs.Positions.{here}
 use Rattle.widl_dialog.proofs.Stacking as stacking
@@ -17,6 +19,12 @@ use Rattle.widl_convert.specs.Loads.{end_load, frame_load, load, weight}
 use Rattle.widl_convert.specs.Rules.{rule}
 use Rattle.widl_convert.specs.Stack.{Follows, Leads}
 use Rattle.widl_convert.specs.Tasks.{Talk}
+
+-- 0. Over one list
+
+pub over_list : (list : DefsTerm) (d e : Talk) (r : Result Move AllocError) → d ≡ e → IfOk r (λ m. (l : DefsTerm) → move_dialog l m ≡ d) → IfOk r (λ m. move_dialog list m ≡ e)
+over_list list d e (Ok m) same x = x list ∙ same
+over_list list d e (Err none) same x = tt
 
 -- 1. The measure
 

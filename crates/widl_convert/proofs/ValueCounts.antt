@@ -48,11 +48,11 @@ use Rattle.widl_convert.specs.Primitives.{tried, found_ordinary, try_method, ord
 use Rattle.widl_convert.specs.Resolution.{with_entries, default_at, takes_default, argument, without_method, probed, picked, of_several, from_method, looked_for, sequence_given}
 use Rattle.widl_convert.specs.ResolutionLaws.{OthersAreNotLookedAt, ValuesAreCounted, before_variadic, value_count}
 use Rattle.widl_convert.specs.Rules.{rule}
-use Rattle.widl_convert.specs.Scalars.{to_number, to_text, to_scalar, integer_result, string_result, is_bytes, to_string, null_or_string, enumeration_result, to_type}
+use Rattle.widl_convert.specs.Scalars.{to_number, to_text, to_scalar, integer_result, string_result, is_bytes, to_string, null_or_string, enumeration_result, to_plain, convert_plain, to_type}
 use Rattle.widl_convert.specs.Sequences.{element, element_of, element_within, found_iterator_method, if_sequences, sequence_from, to_sequence, told_done, turn_given, turns, with_iterator, with_next}
 use Rattle.widl_convert.specs.Records.{entries, entry_value, flags_in, is_enumerable, named, to_record}
 use Rattle.widl_convert.specs.Dictionaries.{member_given, member_value, members, to_dictionary, undefined_member}
-use Rattle.widl_convert.specs.MemberOrder.{DeclaredMember}
+use Rattle.widl_tables.specs.MemberOrder.{DeclaredMember}
 use Rattle.widl_convert.specs.Nullables.{to_nullable}
 use Rattle.widl_convert.specs.Unions.{member_from, member_picked, member_probed, to_member, to_union, without_iterator}
 use Rattle.widl_tables.specs.Tests.{is_null_or_undefined}
@@ -262,16 +262,29 @@ module _ (built : Built) (list : DefsTerm) where
   no_to_dictionary n (values.Obj o) = λ s g. g
   no_to_dictionary n v = tt
 
-  no_to_nullable : (t : TypeTerm) (v : Value) → No (to_nullable t v)
-  no_to_nullable t values.Undefined = tt
-  no_to_nullable t values.Null = tt
-  no_to_nullable t v = λ s g. g
+  no_to_nullable : (inner : Value → Talk) → ((v : Value) → No (inner v)) → (v : Value) → No (to_nullable inner v)
+  no_to_nullable inner all values.Undefined = tt
+  no_to_nullable inner all values.Null = tt
+  no_to_nullable inner all v = all v
 
-  no_to_member : (t : Option TypeTerm) (v : Value) → No (to_member t v)
-  no_to_member (Some t) v = λ s g. g
+  no_plain : (t : TypeTerm) (v : Value) → No (to_plain list t v)
+  no_plain (IntegerType kind mode) v = λ r h. no_number _ (λ n. no_integer (integer_of n kind mode)) r h
+  no_plain (StringType kind null_empty) v = no_null_or_string null_empty kind v
+  no_plain (EnumerationType n) v = λ r h. no_text _ (λ units. no_enumeration n (value_place list.choices n units)) r h
+  no_plain ObjectType v = no_object code.NotObject _ (λ o. tt) v
+  no_plain (SequenceType t) v = no_to_sequence t v
+  no_plain (RecordType key t) v = no_to_record key t v
+  no_plain (DictionaryType n) v = no_to_dictionary n v
+  no_plain t v = tt
+
+  no_convert_plain : (t : TypeTerm) (v : Value) → No (convert_plain built list t v)
+  no_convert_plain t v = no_if (built.to_type t) _ not_built (no_plain t v) tt
+
+  no_to_member : (t : Option TypeTerm) (v : Value) → No (to_member (convert_plain built list) t v)
+  no_to_member (Some t) v = no_convert_plain t v
   no_to_member None v = tt
 
-  no_without_iterator : (ts : TypeTerms) (v : Value) (p : Pick) → No (without_iterator ts v p)
+  no_without_iterator : (ts : TypeTerms) (v : Value) (p : Pick) → No (without_iterator (convert_plain built list) ts v p)
   no_without_iterator ts v (Entry place) = no_to_member (slice_get (flattened_members ts) place) v
   no_without_iterator ts v p = tt
 
@@ -279,29 +292,22 @@ module _ (built : Built) (list : DefsTerm) where
   no_member_from o method (Some t) = λ s g. g
   no_member_from o method None = tt
 
-  no_member_probed : (ts : TypeTerms) (place : ℕ) (o : ObjRef) (v : Value) → No (member_probed built list ts place o v)
+  no_member_probed : (ts : TypeTerms) (place : ℕ) (o : ObjRef) (v : Value) → No (member_probed (convert_plain built list) built list ts place o v)
   no_member_probed ts place o v = no_method _ _ (no_without_iterator ts (values.Obj o) (pick_member_of list ts (class_of (values.Obj o)) true))
       (λ method. no_if (built.to_type (SequenceType AnyType)) _ not_built (no_member_from o method (option_and_then element_of (slice_get (flattened_members ts) place))) tt) v
 
-  no_member_picked : (ts : TypeTerms) (v : Value) (p : Pick) → No (member_picked built list ts v p)
+  no_member_picked : (ts : TypeTerms) (v : Value) (p : Pick) → No (member_picked (convert_plain built list) built list ts v p)
   no_member_picked ts v (Entry place) = no_to_member (slice_get (flattened_members ts) place) v
-  no_member_picked ts v (Probe place) = no_object code.Union _ (λ o a. no_normal (member_probed built list ts place o) (no_member_probed ts place o) a) v
+  no_member_picked ts v (Probe place) = no_object code.Union _ (λ o a. no_normal (member_probed (convert_plain built list) built list ts place o) (no_member_probed ts place o) a) v
   no_member_picked ts v Refuse = tt
 
-  no_to_union : (ts : TypeTerms) (v : Value) → No (to_union built list ts v)
+  no_to_union : (ts : TypeTerms) (v : Value) → No (to_union (convert_plain built list) built list ts v)
   no_to_union ts v = no_if (includes_nullable_type (UnionType ts) && is_null_or_undefined (class_of v)) _ _ tt (no_member_picked ts v (pick_member_of list ts (class_of v) false))
 
   no_type : (t : TypeTerm) (v : Value) → No (to_type built list t v)
-  no_type (IntegerType kind mode) v = λ r h. no_number _ (λ n. no_integer (integer_of n kind mode)) r h
-  no_type (StringType kind null_empty) v = no_null_or_string null_empty kind v
-  no_type (EnumerationType n) v = λ r h. no_text _ (λ units. no_enumeration n (value_place list.choices n units)) r h
-  no_type ObjectType v = no_object code.NotObject _ (λ o. tt) v
-  no_type (SequenceType t) v = no_to_sequence t v
-  no_type (RecordType key t) v = no_to_record key t v
-  no_type (DictionaryType n) v = no_to_dictionary n v
-  no_type (NullableType t) v = no_to_nullable t v
+  no_type (NullableType t) v = no_to_nullable (to_type built list t) (no_type t) v
   no_type (UnionType ts) v = no_to_union ts v
-  no_type t v = tt
+  no_type t v = no_plain t v
 
   no_literal : (t : TypeTerm) (l : Literal) → No (literal_value list t l)
   no_literal t literals.EmptyDict = λ r h. h

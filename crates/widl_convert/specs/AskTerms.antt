@@ -96,7 +96,8 @@ kind_of (NewArrayIteratorAsk obj) = OfNewArrayIterator
 kind_of (CursorAsk obj) = OfCursor
 kind_of (SetCursorAsk obj next turn) = OfSetCursor
 
--- units of the budget are taken for the others: for the line of a read, a call or an event, for an object that is made
+-- units of the budget are taken for the others: for the line of a read, a call or an event, for an object that is made. Own keys and own
+-- properties have lines too; they are counted here as if they took nothing, which only makes the bound on what comes between two charges stricter.
 abbrev pub IsFree : AskKind → Type 0
 IsFree OfGet = ⊥
 IsFree OfCall = ⊥

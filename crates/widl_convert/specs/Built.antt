@@ -20,13 +20,13 @@ is_built_type (EnumerationType n) = true
 is_built_type (InterfaceType n) = false
 is_built_type (CallbackFunctionType n) = false
 is_built_type (CallbackInterfaceType n) = false
-is_built_type (DictionaryType n) = false
+is_built_type (DictionaryType n) = true
 is_built_type ObjectType = true
-is_built_type (SequenceType t) = false
-is_built_type (RecordType key t) = false
+is_built_type (SequenceType t) = true
+is_built_type (RecordType key t) = true
 is_built_type (PromiseType t) = false
-is_built_type (NullableType t) = false
-is_built_type (UnionType ts) = false
+is_built_type (NullableType t) = is_built_type t
+is_built_type (UnionType ts) = true
 
 abbrev pub is_built_value : IdlTerm → Bool
 is_built_value UndefinedValue = true

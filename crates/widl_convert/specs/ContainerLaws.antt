@@ -15,11 +15,12 @@ use Rattle.widl_idl.specs.Terms.{TypeTerm, StringType, DictionaryType, SequenceT
 use Rattle.widl_value.specs.declared.object.ObjRef.{ObjRef}
 use Rattle.widl_value.specs.declared.value.Value.{Value}
 use Rattle.widl_value.specs.declared.value.Value.TheVariants as values
-use Rattle.widl_value.specs.IdlTerms.{IdlTerm}
-use Rattle.widl_convert.specs.AskTerms.{AskTerm, AnswerTerm, GetAsk, CallAsk, OwnKeysAsk, OwnAsk}
+use Rattle.widl_value.specs.IdlTerms.{IdlTerm, SequenceValue, DictionaryValue, packed_values, packed_members}
+use Rattle.widl_scalar.specs.Primitives.{truth_of}
+use Rattle.widl_convert.specs.AskTerms.{AskTerm, AnswerTerm, GetAsk, CallAsk, OwnKeysAsk, OwnAsk, NormalAnswer}
 use Rattle.widl_convert.specs.Built.{Built}
 use Rattle.widl_convert.specs.Laws.{Said, IsTalk}
-use Rattle.widl_convert.specs.MemberOrder.{DeclaredMember, by_name, members_in_order}
+use Rattle.widl_tables.specs.MemberOrder.{DeclaredMember, by_name, members_in_order}
 use Rattle.widl_convert.specs.Rules.{rule}
 use Rattle.widl_convert.specs.Sequences.{iterator_symbol}
 use Rattle.widl_convert.specs.Tasks.{Task, Convert, SequenceFrom, Turns, Entries, Default, TaskEnd, Gives, Talk}
@@ -53,6 +54,23 @@ pub record SequencesAskOnce (built : Built) (list : DefsTerm) (t : TypeTerm) : T
   pub next : (o method : ObjRef) → AsksAtMost ((λ q. q ≡ CallAsk method (values.Obj o) []) ∷ IsGet (codes "next") ∷ []) (AreFirstTurns t) (rule built list (SequenceFrom t o method))
   pub turn : (iterator next : ObjRef) (made : List IdlTerm) → AsksAtMost ((λ q. q ≡ CallAsk next (values.Obj iterator) []) ∷ IsGet (codes "done") ∷ IsGet (codes "value") ∷ []) (IsElementOrTurns t iterator next) (rule built list (Turns t iterator next made))
 
+-- the turns that give these elements, in their order: each calls `next`, and reads `done` of what it gives; where that isn't true it reads
+-- `value` and has the conversation of the element, and else it is the last
+abbrev pub AreTurns : Built → DefsTerm → TypeTerm → ObjRef → ObjRef → List IdlTerm → Said → Type 0
+AreTurns built list t iterator next [] talk =
+    (turn : ObjRef) × (is_done : Value) × (truth_of is_done ≡ true)
+    × (talk ≡ (CallAsk next (values.Obj iterator) [], NormalAnswer (values.Obj turn)) ∷ (GetAsk turn (keys.Name (codes "done")), NormalAnswer is_done) ∷ [])
+AreTurns built list t iterator next (w ∷ elements) talk =
+    (turn : ObjRef) × (is_done : Value) × (v : Value) × (part : Said) × (more : Said) × (truth_of is_done ≡ false)
+    × (talk ≡ (CallAsk next (values.Obj iterator) [], NormalAnswer (values.Obj turn)) ∷ (GetAsk turn (keys.Name (codes "done")), NormalAnswer is_done) ∷ (GetAsk turn (keys.Name (codes "value")), NormalAnswer v) ∷ (part ++ more))
+    × IsTalk (rule built list) (Convert t v) part (Gives w) × AreTurns built list t iterator next elements more
+
+-- a sequence of so many elements comes of one turn more, in each whole conversation that gives it
+abbrev pub SequencesTakeTurns : Built → DefsTerm → Type 0
+SequencesTakeTurns built list =
+    (t : TypeTerm) (iterator next : ObjRef) (made : List IdlTerm) (talk : Said) (w : IdlTerm) → IsTalk (rule built list) (Turns t iterator next made) talk (Gives w)
+    → (elements : List IdlTerm) × (w ≡ SequenceValue (packed_values (made ++ elements))) × AreTurns built list t iterator next elements talk
+
 -- 3. A record asks for the own keys once; for each key it looks at the own property once, and reads it once, by the same key
 
 abbrev pub AreEntries : TextKind → TypeTerm → ObjRef → Task → Type 0
@@ -84,7 +102,20 @@ abbrev pub MembersAreReadInOrder : Built → DefsTerm → Type 0
 MembersAreReadInOrder built list =
     (n : ℕ) (o : ObjRef) (talk : Said) (w : IdlTerm) → built.to_type (DictionaryType n) ≡ true → IsTalk (rule built list) (Convert (DictionaryType n) (values.Obj o)) talk (Gives w) → ReadsInOrder built list o (members_in_order list n) talk
 
--- 5. The members that one dictionary declares, in order: the same ones, and none with a lesser name than the one before it
+-- 5. The members of a dictionary's value are some of its own and inherited ones, in their order, each once
+
+abbrev pub AreMembersOf : List DeclaredMember → List (ℕ × ℕ × IdlTerm) → Type 0
+AreMembersOf [] made = made ≡ []
+AreMembersOf (m ∷ left) made = AreMembersOf left made ⊎ ((w : IdlTerm) × (more : List (ℕ × ℕ × IdlTerm)) × (made ≡ (m.dictionary, m.number, w) ∷ more) × AreMembersOf left more)
+
+abbrev pub IsDictionaryOf : DefsTerm → ℕ → IdlTerm → Type 0
+IsDictionaryOf list n w = (made : List (ℕ × ℕ × IdlTerm)) × (w ≡ DictionaryValue n (packed_members made)) × AreMembersOf (members_in_order list n) made
+
+abbrev pub MembersStandInOrder : Built → DefsTerm → Type 0
+MembersStandInOrder built list =
+    (n : ℕ) (v : Value) (talk : Said) (w : IdlTerm) → built.to_type (DictionaryType n) ≡ true → IsTalk (rule built list) (Convert (DictionaryType n) v) talk (Gives w) → IsDictionaryOf list n w
+
+-- 6. The members that one dictionary declares, in order: the same ones, and none with a lesser name than the one before it
 pub record IsOrdered (members ordered : List DeclaredMember) : Type 0 where
   pub same : IsPermutation members ordered
   pub ascending : IsSortedByKey (λ (m : DeclaredMember). m.member.name) (slice_cmp nat_cmp) ordered

@@ -11,7 +11,7 @@ use Rattle.widl_value.specs.declared.value.Value.TheVariants as values
 use Rattle.widl_value.specs.IdlTerms.{IdlTerm, DictionaryValue, packed_members}
 use Rattle.widl_trace.specs.declared.code.Code.TheVariants as code
 use Rattle.widl_convert.specs.AskTerms.{GetAsk, UnitAsk}
-use Rattle.widl_convert.specs.MemberOrder.{DeclaredMember, members_in_order}
+use Rattle.widl_tables.specs.MemberOrder.{DeclaredMember, members_in_order}
 use Rattle.widl_convert.specs.Tasks.{Convert, Default, Members, Talk, TaskEnd}
 use Rattle.widl_convert.specs.Words.{done, gives, fails, normal, given}
 

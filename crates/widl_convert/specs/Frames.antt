@@ -1,17 +1,23 @@
 -- For proofs and contracts alone; no step names these words. What a suspended conversation still does: the dialog of each thing that it is made of.
-use Rattle.std.specs.Prelude.{ℕ, ◌+◌, List, [], ◌∷◌, ◌++◌, length, codes}
+use Rattle.std.specs.Prelude.{ℕ, ◌+◌, false, List, [], ◌∷◌, ◌++◌, drop, length, map, codes, option_map}
 use Rattle.widl_dialog.specs.Dialog.{End, Say, Steps}
+use Rattle.widl_text.specs.declared.key.Key.{Key}
 use Rattle.widl_idl.specs.declared.callee.Callee.{Callee}
 use Rattle.widl_idl.specs.DefinitionTerms.{DefsTerm}
-use Rattle.widl_idl.specs.Terms.{type_term}
+use Rattle.widl_idl.specs.declared.types.IdlType.{IdlType}
+use Rattle.widl_idl.specs.Flattened.{unannotated}
+use Rattle.widl_idl.specs.Terms.{StringType, type_term}
 use Rattle.widl_overload.specs.Sets.{TupleTerm}
+use Rattle.widl_value.specs.declared.idl_value.IdlValue.{IdlValue}
 use Rattle.widl_value.specs.declared.number.Number.{Number}
 use Rattle.widl_value.specs.declared.object.ObjRef.{ObjRef}
 use Rattle.widl_value.specs.declared.value.Value.{Value}
-use Rattle.widl_value.specs.IdlTerms.{IdlTerm, idl_term, idl_terms}
+use Rattle.widl_value.specs.declared.value.Value.TheVariants as values
+use Rattle.widl_value.specs.IdlTerms.{IdlTerm, entry_term, idl_term, idl_terms, member_terms}
 use Rattle.widl_scalar.specs.Enumerations.{value_place}
 use Rattle.widl_scalar.specs.Scalars.{integer_of}
 use Rattle.widl_tables.specs.Kept.{declared_args, entry_for, type_at}
+use Rattle.widl_tables.specs.MemberOrder.{members_in_order}
 use Rattle.widl_trace.specs.declared.code.Code.TheVariants as code
 use Rattle.widl_convert.specs.declared.frames.Frame.{Frame}
 use Rattle.widl_convert.specs.declared.frames.Frame.TheVariants as frames
@@ -35,19 +41,33 @@ use Rattle.widl_convert.specs.declared.primitive.Otherwise.{Otherwise}
 use Rattle.widl_convert.specs.declared.primitive.Otherwise.TheVariants.{ValueOf, ToString, Nothing}
 use Rattle.widl_convert.specs.declared.primitive.PrimitiveWait.{PrimitiveWait}
 use Rattle.widl_convert.specs.declared.primitive.PrimitiveWait.TheVariants.{Method, MethodResult, Ordinary, OrdinaryResult}
+use Rattle.widl_convert.specs.declared.record.NamedProperty.{NamedProperty}
+use Rattle.widl_convert.specs.declared.record.Properties.{Properties}
+use Rattle.widl_convert.specs.declared.record.Property.{Property}
+use Rattle.widl_convert.specs.declared.record.Recorded.{Recorded}
 use Rattle.widl_convert.specs.declared.resolution.Resolution.{Resolution}
+use Rattle.widl_convert.specs.declared.sequence.Iteration.{Iteration}
+use Rattle.widl_convert.specs.declared.sequence.SequenceWait.{SequenceWait}
+use Rattle.widl_convert.specs.declared.sequence.SequenceWait.TheVariants as sequences
+use Rattle.widl_convert.specs.declared.union.UnionProbe.{UnionProbe}
+use Rattle.widl_convert.specs.declared.waits.MemberWait.{MemberWait}
 use Rattle.widl_convert.specs.declared.waits.ValueWait.{ValueWait}
 use Rattle.widl_convert.specs.declared.waits.ValueWait.TheVariants as value_waits
 use Rattle.widl_convert.specs.declared.waits.Wait.{Wait}
 use Rattle.widl_convert.specs.declared.waits.Wait.TheVariants as waits
 use Rattle.widl_convert.specs.AskTerms.{AnswerTerm, ask_term}
+use Rattle.widl_convert.specs.Dictionaries.{member_value, with_value}
+use Rattle.widl_convert.specs.Members.{declared_at, member_at, members_left}
 use Rattle.widl_convert.specs.Entries.{declared_type, entries_left, left_from, place_in}
 use Rattle.widl_convert.specs.Primitives.{found_method, found_ordinary, primitive_result, tried, try_method}
 use Rattle.widl_convert.specs.Built.{built_today}
+use Rattle.widl_convert.specs.Records.{entry_value, key_value, keys_in, named_entry, own_entry, with_entry}
 use Rattle.widl_convert.specs.Resolution.{default_at, probed}
-use Rattle.widl_convert.specs.Scalars.{enumeration_result, integer_result, length_value, string_result}
-use Rattle.widl_convert.specs.Tasks.{Task, Primitive, Scalar, Convert, Resolve, Arguments, Default, Defaults, Out, TaskEnd, Gives, Plain, Picks, Throw, Rethrow, Profile, Talk}
-use Rattle.widl_convert.specs.Words.{fails, given, normal, number, returned, returns, text}
+use Rattle.widl_convert.specs.Scalars.{convert_plain, enumeration_result, integer_result, length_value, string_result}
+use Rattle.widl_convert.specs.Sequences.{element, found_iterator_method, if_sequences, told_done, turn_given, with_iterator, with_next}
+use Rattle.widl_convert.specs.Tasks.{Task, Primitive, Scalar, Convert, SequenceFrom, Turns, Entries, Members, Resolve, Arguments, Default, Defaults, Out, TaskEnd, Gives, Plain, Picks, Throw, Rethrow, Profile, Talk}
+use Rattle.widl_convert.specs.Unions.{member_from, to_member}
+use Rattle.widl_convert.specs.Words.{done, fails, given, method_or, normal, number, returned, returns, text}
 
 -- 1. Tasks and their ends
 
@@ -59,15 +79,37 @@ resolution_task list r place made = Arguments r.kept.callee (entries_left list r
 abbrev pub taken : (DefsTerm → Callee → List TupleTerm → ℕ → Value → List Value → List IdlTerm → Talk) → DefsTerm → Resolution → Value → Talk
 taken step list r v = step list r.kept.callee (entries_left list r.kept r.overload) (place_in r.kept) v (left_from (length (idl_terms r.made) + 1) r.kept r.args) (idl_terms r.made)
 
+-- the turns of an iterator go on after these elements
+abbrev pub iteration_task : Iteration → List IdlTerm → Task
+iteration_task i made = Turns (type_term i.element) i.iterator i.next made
+
+-- the entries of a record so far
+abbrev pub entries_in : List (List ℕ × IdlValue) → List (List ℕ × IdlTerm)
+entries_in made = map entry_term made
+
+-- the keys of an object that are left, and the record that goes on with them after these entries
+abbrev pub keys_left : Properties → List Key
+keys_left p = drop p.next p.keys
+
+abbrev pub properties_task : Properties → List (List ℕ × IdlTerm) → Task
+properties_task p made = Entries p.of.kind (type_term p.of.ty) p.of.obj (keys_left p) made
+
 abbrev pub job_of : DefsTerm → Job → Task
 job_of list (jobs.Primitive hint v) = Primitive hint v
 job_of list (jobs.Scalar want v) = Scalar want v
 job_of list (jobs.Convert t v) = Convert (type_term t) v
 job_of list (jobs.Argument at count v) = Convert (type_at (entry_for at.overload (declared_args list at.callee at.overload) count) at.place) v
+job_of list (jobs.SequenceFrom s) = SequenceFrom (type_term s.element) s.obj s.method
+job_of list (jobs.Turns i) = iteration_task i (idl_terms i.made)
+job_of list (jobs.Entries p) = properties_task p.value (entries_in p.value.made)
 job_of list (jobs.Resolve call) = Resolve call.callee call.args
 job_of list (jobs.Arguments r) = resolution_task list r (length (idl_terms r.made)) (idl_terms r.made)
 job_of list (jobs.Default at) = Default (declared_type list at.callee at.overload at.place) (default_at list at.callee at.overload at.place)
 job_of list (jobs.Defaults b) = Defaults b.callee b.overload (idl_terms b.made)
+job_of list (jobs.Dictionary n o) = Members n o (members_in_order list n) []
+job_of list (jobs.Members f) = Members f.dictionary f.object (members_left list f.left) (member_terms f.made)
+job_of list (jobs.Member at v) = Convert (member_at list at).ty v
+job_of list (jobs.MemberDefault at) = Default (member_at list at).ty (member_at list at).value
 job_of list (jobs.Out t w) = Out (type_term t) (idl_term w)
 
 abbrev pub outcome_end : Outcome → TaskEnd
@@ -99,14 +141,48 @@ primitive_to (OrdinaryResult o otherwise) = tried (otherwise_of otherwise o)
 abbrev pub probe_to : DefsTerm → Resolution → ObjRef → Value → Talk
 probe_to list r o = probed built_today list r.kept.callee (entries_left list r.kept r.overload) (place_in r.kept) o (left_from (length (idl_terms r.made) + 1) r.kept r.args) (idl_terms r.made)
 
+abbrev pub sequence_to : SequenceWait → Value → Talk
+sequence_to (sequences.Method t o) = found_iterator_method (type_term t) o
+sequence_to (sequences.Iterator t) = with_iterator (type_term t)
+sequence_to (sequences.Next t iterator) = with_next (type_term t) iterator
+sequence_to (sequences.Turn i) = turn_given (type_term i.element) i.iterator i.next (idl_terms i.made)
+sequence_to (sequences.Done i turn) = told_done (type_term i.element) i.iterator i.next (idl_terms i.made) turn
+sequence_to (sequences.Element i) = element (type_term i.element) i.iterator i.next (idl_terms i.made)
+
+abbrev pub property_to : NamedProperty → Value → Talk
+property_to p = entry_value p.left.value.of.kind (type_term p.left.value.of.ty) p.left.value.of.obj (keys_left p.left.value) (entries_in p.left.value.made) p.name
+
+-- the member is taken
+abbrev pub member_to : DefsTerm → MemberWait → Value → Talk
+member_to list w = member_value w.filling.dictionary w.filling.object (declared_at list w.at) (members_left list w.filling.left) (member_terms w.filling.made)
+
+-- the sequence of a union, by the method; or the member that takes an object without one
+abbrev pub union_to : DefsTerm → UnionProbe → Value → Talk
+union_to list p =
+    method_or (to_member (convert_plain built_today list) (option_map (λ (t : IdlType). unannotated (type_term t)) p.otherwise) (values.Obj p.obj))
+    (λ method. if_sequences built_today (member_from p.obj method (option_map type_term p.element)))
+
 abbrev pub value_to : DefsTerm → ValueWait → Value → Talk
 value_to list (value_waits.Primitive w) = primitive_to w
 value_to list (value_waits.Probe p) = probe_to list p.resolution p.obj
+value_to list (value_waits.Sequence w) = sequence_to w
+value_to list (value_waits.Property p) = property_to p
+value_to list (value_waits.Member w) = member_to list w
+value_to list (value_waits.UnionProbe p) = union_to list p
 
 -- 3. What comes after an answer
 
+abbrev pub keys_to : Recorded → AnswerTerm → Talk
+keys_to r a = Steps (Entries r.kind (type_term r.ty) r.obj (keys_in a) []) End
+
+abbrev pub own_to : Property → AnswerTerm → Talk
+own_to p = own_entry p.left.value.of.kind (type_term p.left.value.of.ty) p.left.value.of.obj p.key (keys_left p.left.value) (entries_in p.left.value.made)
+
 abbrev pub after : DefsTerm → Wait → AnswerTerm → Talk
 after list (waits.Value w) = normal (value_to list w)
+after list (waits.Keys r) = keys_to r
+after list (waits.Own p) = own_to p
+after list (waits.Unit w) = done (member_to list w values.Undefined)
 
 -- 4. What comes after the end of a task
 
@@ -124,12 +200,23 @@ text_to list (texts.Enumeration n) units = enumeration_result n (value_place lis
 abbrev pub idl_to : DefsTerm → IdlFrame → IdlTerm → Talk
 idl_to list (idls.Argument r) w = Steps (resolution_task list r (length (idl_terms r.made) + 1) (idl_terms r.made ++ w ∷ [])) End
 idl_to list (idls.Defaulted b) w = Steps (Defaults b.callee b.overload (idl_terms b.made ++ w ∷ [])) End
+idl_to list (idls.Element i) w = Steps (iteration_task i (idl_terms i.made ++ w ∷ [])) End
+idl_to list (idls.Property p) w = Steps (properties_task p.left.value (with_entry p.name w (entries_in p.left.value.made))) End
+idl_to list (idls.Member m) w = Steps (Members m.filling.dictionary m.filling.object (members_left list m.filling.left) (with_value (declared_at list m.at) w (member_terms m.filling.made))) End
+
+abbrev pub named_to : Property → TaskEnd → Talk
+named_to p = named_entry p.left.value.of.kind (type_term p.left.value.of.ty) p.left.value.of.obj p.key (keys_left p.left.value) (entries_in p.left.value.made)
+
+-- an enumerable property goes on with the key of its entry
+abbrev pub enumerable_to : Property → Talk
+enumerable_to p = Steps (Convert (StringType p.left.value.of.kind false) (key_value p.key)) (named_to p)
 
 abbrev pub returned_to : DefsTerm → Frame → TaskEnd → Talk
 returned_to list (frames.Value f) = returned (plain_to f)
 returned_to list (frames.Number f) = number (number_to f)
 returned_to list (frames.Text f) = text (text_to list f)
 returned_to list (frames.Idl f) = given (idl_to list f)
+returned_to list (frames.Key p) = named_to p
 
 -- 5. Moves
 

@@ -1,5 +1,4 @@
 pub mod AskTerms
-pub mod MemberOrder
 pub mod Tasks
 pub mod Words
 pub mod Built
@@ -19,7 +18,9 @@ pub mod Rules
 pub mod Laws
 pub mod ResolutionLaws
 pub mod ContainerLaws
+pub mod UnionLaws
 pub mod Waits
+pub mod Members
 pub mod Frames
 pub mod Loads
 pub mod Stack

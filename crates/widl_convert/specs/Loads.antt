@@ -1,7 +1,8 @@
 -- For proofs and contracts alone; no step names these words. How many moves without a charge a suspended conversation still makes, at most.
-use Rattle.std.specs.Prelude.{ℕ, ◌+◌, ◌-◌, ◌*◌, length}
+use Rattle.std.specs.Prelude.{ℕ, ◌+◌, ◌-◌, ◌*◌, ◌^◌, length}
 use Rattle.widl_idl.specs.declared.callee.Callee.{Callee}
 use Rattle.widl_idl.specs.DefinitionTerms.{DefsTerm}
+use Rattle.widl_idl.specs.Terms.{TypeTerm, StringType}
 use Rattle.widl_value.specs.declared.value.Value.{Value}
 use Rattle.widl_value.specs.declared.value.Value.TheVariants as values
 use Rattle.widl_value.specs.IdlTerms.{idl_terms}
@@ -18,7 +19,7 @@ use Rattle.widl_convert.specs.declared.resolution.Resolution.{Resolution}
 use Rattle.widl_convert.specs.declared.waits.Wait.{Wait}
 use Rattle.widl_convert.specs.declared.waits.Wait.TheVariants as waits
 use Rattle.widl_convert.specs.Entries.{left_from}
-use Rattle.widl_convert.specs.Frames.{job_of, end_of}
+use Rattle.widl_convert.specs.Frames.{job_of, end_of, keys_left}
 use Rattle.widl_convert.specs.Tasks.{Task, Primitive, Scalar, Convert, Resolve, Arguments, Default, Defaults, Out, TaskEnd, Plain, SequenceFrom, Turns, Entries, Members, OutItems, OutUnits}
 
 -- the way of an object to its Number or String, which no value but an object takes
@@ -34,9 +35,26 @@ scalar_load wants.Number v = if_object v
 scalar_load wants.Text v = if_object v
 scalar_load wants.Length v = 2 + if_object v
 
--- the way of a value to an IDL value of a type
+-- the way of a value to an IDL value of a type over a Number or a String
+abbrev pub scalar_conversion_load : ℕ
+scalar_conversion_load = 7
+
+-- a key of an object, with the way on to the next
+abbrev pub entry_load : ℕ
+entry_load = 3 + scalar_conversion_load
+
+-- the keys of an object, of which a list has fewer than 2 ^ 64
+abbrev pub keys_load : ℕ
+keys_load = 2 + entry_load * 2 ^ 64
+
+-- the way of a value to an IDL value of a type: of no type longer than over the keys of an object
 abbrev pub conversion_load : ℕ
-conversion_load = 7
+conversion_load = keys_load
+
+-- the keys themselves become texts
+abbrev pub type_load : TypeTerm → ℕ
+type_load (StringType kind null_empty) = scalar_conversion_load
+type_load _ = conversion_load
 
 -- a default value may be a conversion
 abbrev pub default_load : ℕ
@@ -62,16 +80,16 @@ arguments_load list callee left = argument_load * left + room list callee
 abbrev pub load : DefsTerm → Task → ℕ
 load list (Primitive hint v) = 0
 load list (Scalar want v) = scalar_load want v
-load list (Convert t v) = conversion_load
+load list (Convert t v) = type_load t
+load list (SequenceFrom t o method) = 0
+load list (Turns t iterator next made) = 0
+load list (Entries key t o left made) = entry_load * length left
 load list (Resolve callee args) = 1 + arguments_load list callee (length args)
 load list (Arguments callee entries place left made) = arguments_load list callee (length left)
 load list (Default t l) = default_load
 load list (Defaults callee overload made) = defaults_load list callee overload (length made)
 load list (Out t w) = object_load
--- of containers no task is begun today
-load list (SequenceFrom t o method) = 0
-load list (Turns t iterator next made) = 0
-load list (Entries key t o left made) = 0
+-- of these no task is begun today
 load list (Members n o left made) = 0
 load list (OutItems container left made) = 0
 load list (OutUnits left container made) = 0
@@ -89,16 +107,23 @@ taken_load list r = argument_load + arguments_load list r.kept.callee (length (l
 abbrev pub idl_frame_load : DefsTerm → IdlFrame → ℕ
 idl_frame_load list (idls.Argument r) = 2 + arguments_load list r.kept.callee (length (left_from (length (idl_terms r.made) + 1) r.kept r.args))
 idl_frame_load list (idls.Defaulted b) = 2 + defaults_load list b.callee b.overload (length (idl_terms b.made) + 1)
+idl_frame_load list (idls.Element i) = 2
+idl_frame_load list (idls.Property p) = 2 + entry_load * length (keys_left p.left.value)
+idl_frame_load list (idls.Member w) = 2
 
 abbrev pub frame_load : DefsTerm → Frame → ℕ
 frame_load list (frames.Value f) = 4
 frame_load list (frames.Number f) = 1
 frame_load list (frames.Text f) = 1
 frame_load list (frames.Idl f) = idl_frame_load list f
+frame_load list (frames.Key p) = 1
 
 -- what a wait does after the answer to an ask that takes no charge
 abbrev pub patience : Wait → ℕ
 patience (waits.Value w) = 0
+patience (waits.Keys r) = keys_load
+patience (waits.Own p) = entry_load + entry_load * length (keys_left p.left.value)
+patience (waits.Unit w) = 0
 
 abbrev pub weight : DefsTerm → Move → ℕ
 weight list (moves.Asks p) = patience p.wait

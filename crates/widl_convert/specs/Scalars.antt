@@ -104,22 +104,30 @@ enumeration_result n None = fails code.Enum
 abbrev pub to_enumeration : DefsTerm → ℕ → Value → Talk
 to_enumeration list n v = Steps (Scalar wants.Text v) (text (λ units. enumeration_result n (value_place list.choices n units)))
 
--- 7. All types. Of the types that are left out here no conversion has steps yet.
+-- 7. Types that are neither nullable nor unions. Of those that are left out here no conversion has steps yet.
+
+abbrev pub to_plain : DefsTerm → TypeTerm → Value → Talk
+to_plain list AnyType v = gives (AnyValue v)
+to_plain list UndefinedType v = gives UndefinedValue
+to_plain list BooleanType v = gives (BooleanValue (truth_of v))
+to_plain list (IntegerType kind mode) v = to_integer kind mode v
+to_plain list (StringType kind null_empty) v = null_or_string null_empty kind v
+to_plain list (EnumerationType n) v = to_enumeration list n v
+to_plain list ObjectType v = object code.NotObject (λ o. gives (ObjectValue o)) v
+to_plain list (SequenceType t) v = to_sequence t v
+to_plain list (RecordType key t) v = to_record key t v
+to_plain list (DictionaryType n) v = to_dictionary list n v
+to_plain list _ v = not_built
+
+abbrev pub convert_plain : Built → DefsTerm → TypeTerm → Value → Talk
+convert_plain built list t v = if built.to_type t then to_plain list t v else not_built
+
+-- 8. All types
 
 abbrev pub to_type : Built → DefsTerm → TypeTerm → Value → Talk
-to_type built list AnyType v = gives (AnyValue v)
-to_type built list UndefinedType v = gives UndefinedValue
-to_type built list BooleanType v = gives (BooleanValue (truth_of v))
-to_type built list (IntegerType kind mode) v = to_integer kind mode v
-to_type built list (StringType kind null_empty) v = null_or_string null_empty kind v
-to_type built list (EnumerationType n) v = to_enumeration list n v
-to_type built list ObjectType v = object code.NotObject (λ o. gives (ObjectValue o)) v
-to_type built list (SequenceType t) v = to_sequence t v
-to_type built list (RecordType key t) v = to_record key t v
-to_type built list (DictionaryType n) v = to_dictionary list n v
-to_type built list (NullableType t) v = to_nullable t v
-to_type built list (UnionType ts) v = to_union built list ts v
-to_type built list _ v = not_built
+to_type built list (NullableType t) v = to_nullable (to_type built list t) v
+to_type built list (UnionType ts) v = to_union (convert_plain built list) built list ts v
+to_type built list t v = to_plain list t v
 
 abbrev pub convert : Built → DefsTerm → TypeTerm → Value → Talk
 convert built list t v = if built.to_type t then to_type built list t v else not_built

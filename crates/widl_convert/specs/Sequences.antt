@@ -2,7 +2,7 @@
 -- Source: Web IDL, "Sequences" (JavaScript binding), "creating a sequence from an iterable"; ECMA-262, GetMethod, GetIteratorFromMethod,
 -- IteratorStep, IteratorValue.
 use Rattle.std.specs.Prelude.{ℕ, if◌then◌else◌, List, [], ◌∷◌, ◌++◌, Option, None, Some, codes}
-use Rattle.std.specs.Option.{option_map_or}
+use Rattle.std.specs.Option.{option_or}
 use Rattle.widl_dialog.specs.Dialog.{End, Say, Steps}
 use Rattle.widl_text.specs.declared.key.Key.TheVariants as keys
 use Rattle.widl_idl.specs.Flattened.{flattened_member}
@@ -31,7 +31,7 @@ element_of _ = None
 
 abbrev pub element_among : List TypeTerm → Option TypeTerm
 element_among [] = None
-element_among (t ∷ types) = option_map_or (λ (e : TypeTerm). Some e) (element_of t) (element_among types)
+element_among (t ∷ types) = option_or (element_of t) (element_among types)
 
 abbrev pub element_within : TypeTerm → Option TypeTerm
 element_within t = element_among (flattened_member t)

@@ -17,7 +17,7 @@ use Rattle.widl_convert.specs.declared.settle.Settled.TheVariants as settled
 use Rattle.widl_convert.specs.AskTerms.{AskTerm, AskKind, AnswerTerm, BeginAnswer, Fits, IsFree, IsWanted, ask_term, kind_of}
 use Rattle.widl_convert.specs.Built.{built_today}
 use Rattle.widl_convert.specs.Frames.{after, end_of, job_of, move_dialog, outcome_end, returned_to}
-use Rattle.widl_convert.specs.Laws.{Said, IsNext, HasOneNext}
+use Rattle.widl_convert.specs.Laws.{Said, ChainsEnd, IsNext, HasOneNext}
 use Rattle.widl_convert.specs.Loads.{frame_load, load, patience, weight}
 use Rattle.widl_convert.specs.Rules.{rule}
 use Rattle.widl_convert.specs.Tasks.{Task, TaskEnd, Throw, Rethrow, Profile, Talk}
@@ -154,7 +154,7 @@ Settles list d bound frames settled.Memory = Unit {0}
 abbrev pub HasOneLast : DefsTerm → Type 0
 HasOneLast list = (asker : Asker) (task : Task) (said : Said) (last other : Option AskTerm) → Stands list asker task said last → Stands list asker task said other → other ≡ last
 
--- after each answer that fits the ask that waits exactly one thing comes next
+-- after each answer that fits the ask that waits exactly one thing comes next, over a list in which no chain of too many dictionaries begins
 abbrev pub EachAnswerGoesOn : DefsTerm → Type 0
 EachAnswerGoesOn list =
-    (asker : Asker) (task : Task) (said : Said) (ask : AskTerm) (a : AnswerTerm) → Stands list asker task said (Some ask) → Fits ask a → HasOneNext (rule built_today list) task (said ++ (ask, a) ∷ [])
+    ChainsEnd built_today list → (asker : Asker) (task : Task) (said : Said) (ask : AskTerm) (a : AnswerTerm) → Stands list asker task said (Some ask) → Fits ask a → HasOneNext (rule built_today list) task (said ++ (ask, a) ∷ [])

@@ -15,7 +15,7 @@ use Rattle.widl_trace.specs.declared.code.Code.{Code}
 use Rattle.widl_convert.specs.declared.hint.Hint.{Hint}
 use Rattle.widl_convert.specs.declared.outcome.Want.{Want}
 use Rattle.widl_convert.specs.AskTerms.{AskTerm, AnswerTerm}
-use Rattle.widl_convert.specs.MemberOrder.{DeclaredMember}
+use Rattle.widl_tables.specs.MemberOrder.{DeclaredMember}
 
 -- what is made on the way to script: an array, or an object with properties of these names
 pub data Container : Type 0 where

@@ -20,40 +20,40 @@ use Rattle.widl_tables.specs.Tests.{is_null_or_undefined}
 use Rattle.widl_convert.specs.AskTerms.{GetAsk}
 use Rattle.widl_convert.specs.Built.{Built}
 use Rattle.widl_convert.specs.Sequences.{iterator_symbol, element_of, if_sequences}
-use Rattle.widl_convert.specs.Tasks.{Convert, SequenceFrom, Talk}
+use Rattle.widl_convert.specs.Tasks.{SequenceFrom, Talk}
 use Rattle.widl_convert.specs.Words.{gives, fails, normal, object, method_or}
 
--- The member that a value picks
+-- Members are flattened: none of them is nullable or a union. How a value is converted to such a type is given, as `to_plain`.
 
 -- a value is converted to the member at a place, which the union has
-abbrev pub to_member : Option TypeTerm → Value → Talk
-to_member (Some t) v = Steps (Convert t v) End
-to_member None v = fails code.Union
+abbrev pub to_member : (TypeTerm → Value → Talk) → Option TypeTerm → Value → Talk
+to_member to_plain (Some t) v = to_plain t v
+to_member to_plain None v = fails code.Union
 
 -- without a method `@iterator` the later members are tried
-abbrev pub without_iterator : TypeTerms → Value → Pick → Talk
-without_iterator ts v (Entry place) = to_member (slice_get (flattened_members ts) place) v
-without_iterator ts v (Probe place) = fails code.Union
-without_iterator ts v Refuse = fails code.Union
+abbrev pub without_iterator : (TypeTerm → Value → Talk) → TypeTerms → Value → Pick → Talk
+without_iterator to_plain ts v (Entry place) = to_member to_plain (slice_get (flattened_members ts) place) v
+without_iterator to_plain ts v (Probe place) = fails code.Union
+without_iterator to_plain ts v Refuse = fails code.Union
 
 -- with it, the sequence is made from the object and the method
 abbrev pub member_from : ObjRef → ObjRef → Option TypeTerm → Talk
 member_from o method (Some t) = Steps (SequenceFrom t o method) End
 member_from o method None = fails code.Union
 
-abbrev pub member_probed : Built → DefsTerm → TypeTerms → ℕ → ObjRef → Value → Talk
-member_probed built list ts place o =
-    method_or (without_iterator ts (values.Obj o) (pick_member_of list ts (class_of (values.Obj o)) true))
+abbrev pub member_probed : (TypeTerm → Value → Talk) → Built → DefsTerm → TypeTerms → ℕ → ObjRef → Value → Talk
+member_probed to_plain built list ts place o =
+    method_or (without_iterator to_plain ts (values.Obj o) (pick_member_of list ts (class_of (values.Obj o)) true))
     (λ method. if_sequences built (member_from o method (option_and_then element_of (slice_get (flattened_members ts) place))))
 
-abbrev pub member_picked : Built → DefsTerm → TypeTerms → Value → Pick → Talk
-member_picked built list ts v (Entry place) = to_member (slice_get (flattened_members ts) place) v
-member_picked built list ts v (Probe place) = object code.Union (λ o. Say (GetAsk o (keys.Sym iterator_symbol)) (normal (member_probed built list ts place o))) v
-member_picked built list ts v Refuse = fails code.Union
+abbrev pub member_picked : (TypeTerm → Value → Talk) → Built → DefsTerm → TypeTerms → Value → Pick → Talk
+member_picked to_plain built list ts v (Entry place) = to_member to_plain (slice_get (flattened_members ts) place) v
+member_picked to_plain built list ts v (Probe place) = object code.Union (λ o. Say (GetAsk o (keys.Sym iterator_symbol)) (normal (member_probed to_plain built list ts place o))) v
+member_picked to_plain built list ts v Refuse = fails code.Union
 
 -- where a nullable type is included, undefined and null are null
-abbrev pub to_union : Built → DefsTerm → TypeTerms → Value → Talk
-to_union built list ts v =
+abbrev pub to_union : (TypeTerm → Value → Talk) → Built → DefsTerm → TypeTerms → Value → Talk
+to_union to_plain built list ts v =
     if includes_nullable_type (UnionType ts) && is_null_or_undefined (class_of v)
     then gives NullValue
-    else member_picked built list ts v (pick_member_of list ts (class_of v) false)
+    else member_picked to_plain built list ts v (pick_member_of list ts (class_of v) false)

@@ -1,25 +1,30 @@
-//! Values to IDL values of the types that need no more than a Number or a String.
+//! Values to IDL values: to all types, and the ways of those that need no more than a Number or a String.
 
 ghost use Rattle.std.specs.Prelude.{◌≡◌, ◌≤◌, IfOk};
 ghost use Rattle.widl_dialog.specs.Dialog.{Steps};
 ghost use Rattle.widl_idl.specs.DefinitionTerms.{DefsTerm, defs_term};
-ghost use Rattle.widl_idl.specs.Terms.{type_term};
+ghost use Rattle.widl_idl.specs.Terms.{NullableType, type_term};
 ghost use Rattle.widl_scalar.specs.Enumerations.{value_place};
 ghost use Rattle.widl_scalar.specs.Scalars.{integer_of};
 ghost use Rattle.widl_tables.specs.Kept.{declared_args, entry_for, type_at};
 ghost use Rattle.widl_value.specs.IdlTerms.{ObjectValue, StringValue, idl_term};
 ghost use Rattle.widl_convert.specs.Built.{built_today};
 ghost use Rattle.widl_convert.specs.Frames.{move_dialog, number_to, text_to};
-ghost use Rattle.widl_convert.specs.Loads.{conversion_load, weight};
-ghost use Rattle.widl_convert.specs.Scalars.{convert, enumeration_result, integer_result, null_or_string, string_result};
+ghost use Rattle.widl_convert.specs.Loads.{conversion_load, scalar_conversion_load, type_load, weight};
+ghost use Rattle.widl_convert.specs.Scalars.{convert, convert_plain, enumeration_result, integer_result, null_or_string, string_result};
 ghost use Rattle.widl_convert.specs.Tasks.{Scalar};
-ghost use Rattle.widl_convert.specs.Words.{gives, not_built, number, object, text};
+ghost use Rattle.widl_convert.specs.Words.{fails, gives, not_built, number, object, text};
 
+use crate::dictionary::to_dictionary;
 use crate::entry::standing;
 use crate::frames::{Frame, NumberFrame, TextFrame};
 use crate::jobs::{ArgumentPlace, Job};
 use crate::moves::{Ending, Move};
+use crate::nullable::null_of;
 use crate::outcome::{Outcome, Want};
+use crate::record::to_record;
+use crate::sequence::to_sequence;
+use crate::union::{by_member, is_null_of};
 use std::alloc::{AllocError, Global};
 use widl_idl::{IdlType, IntKind, Mode, TextKind};
 use widl_scalar::{is_byte_text, scalar_text, to_int, truth};
@@ -31,46 +36,125 @@ use widl_value::{IdlValue, Number, Value};
 /// The end of the profile for what isn't built.
 const NOT_BUILT: u8 = 99;
 
-/// The first move of a value's conversion to an IDL value of a type.
-pub(crate) fn convert(alloc: Global, ty: &IdlType, value: Value) -> Move
-    ensures dialog { (list : DefsTerm) → move_dialog list result ≡ convert built_today list (type_term ty.now) value }
-    ensures weight { (list : DefsTerm) → weight list result ≤ conversion_load }
+/// The first move of a value's conversion to an IDL value of a type. Where the type is nullable or a
+/// union, it is that of the conversion to a type inside.
+///
+/// A type of a list of definitions nests at most 16 levels, which bounds the recursion.
+///
+/// # Errors
+///
+/// `AllocError` where there is no memory.
+#[cycle(convert)]
+pub(crate) fn convert(
+    alloc: Global,
+    tables: &Tables,
+    ty: &IdlType,
+    value: Value,
+) -> Result<Move, AllocError>
+    ensures dialog { IfOk result (λ m. move_dialog (defs_term tables.now.defs) m ≡ convert built_today (defs_term tables.now.defs) (type_term ty.now) value) }
+    ensures weight { IfOk result (λ m. weight (defs_term tables.now.defs) m ≤ type_load (type_term ty.now)) }
 {
     match ty {
-        IdlType::Any => gives(IdlValue::Any(value)),
-        IdlType::Undefined => gives(IdlValue::Undefined),
-        IdlType::Boolean => gives(IdlValue::Bool(truth(&value))),
-        IdlType::Int(kind, mode) => by_number(NumberFrame::Integer(*kind, *mode), value),
-        IdlType::Text { kind, null_empty } => null_or_string(alloc, *null_empty, *kind, value),
-        IdlType::Choice(number) => by_text(TextFrame::Enumeration(*number), value),
-        IdlType::Object => object(value),
-        IdlType::Interface(_) => not_built(),
-        IdlType::CallbackFn(_) => not_built(),
-        IdlType::CallbackIface(_) => not_built(),
-        IdlType::Dict(_) => not_built(),
-        IdlType::Seq(_) => not_built(),
-        IdlType::Rec(_, _) => not_built(),
-        IdlType::Promise(_) => not_built(),
-        IdlType::Nullable(_) => not_built(),
-        IdlType::Union(_) => not_built(),
+        IdlType::Nullable(inner) => to_nullable(alloc, tables, inner, value),
+        IdlType::Union(members) => if is_null_of(ty, &value) {
+            Ok(gives(IdlValue::Null))
+        } else {
+            by_member(alloc, tables, members, value)
+        },
+        IdlType::Any => convert_plain(alloc, ty, value),
+        IdlType::Undefined => convert_plain(alloc, ty, value),
+        IdlType::Boolean => convert_plain(alloc, ty, value),
+        IdlType::Int(_, _) => convert_plain(alloc, ty, value),
+        IdlType::Text { .. } => convert_plain(alloc, ty, value),
+        IdlType::Choice(number) => Ok(by_text(TextFrame::Enumeration(*number), value)),
+        IdlType::Object => convert_plain(alloc, ty, value),
+        IdlType::Interface(_) => convert_plain(alloc, ty, value),
+        IdlType::CallbackFn(_) => convert_plain(alloc, ty, value),
+        IdlType::CallbackIface(_) => convert_plain(alloc, ty, value),
+        IdlType::Dict(_) => convert_plain(alloc, ty, value),
+        IdlType::Seq(_) => convert_plain(alloc, ty, value),
+        IdlType::Rec(_, _) => convert_plain(alloc, ty, value),
+        IdlType::Promise(_) => convert_plain(alloc, ty, value),
+    }
+}
+
+/// The first move of a value's conversion to a nullable type, by its inner type.
+///
+/// # Errors
+///
+/// `AllocError` where there is no memory.
+#[cycle(convert)]
+#[tactic(auto, using(crate::proofs::TypeLoads::most_of_types))]
+fn to_nullable(
+    alloc: Global,
+    tables: &Tables,
+    inner: &IdlType,
+    value: Value,
+) -> Result<Move, AllocError>
+    ensures dialog { IfOk result (λ m. move_dialog (defs_term tables.now.defs) m ≡ convert built_today (defs_term tables.now.defs) (NullableType (type_term inner.now)) value) }
+    ensures weight { IfOk result (λ m. weight (defs_term tables.now.defs) m ≤ conversion_load) }
+{
+    match value {
+        Value::Undefined => Ok(null_of(inner)),
+        Value::Null => Ok(null_of(inner)),
+        Value::Bool(b) => convert(alloc, tables, inner, Value::Bool(b)),
+        Value::Num(number) => convert(alloc, tables, inner, Value::Num(number)),
+        Value::Str(text) => convert(alloc, tables, inner, Value::Str(text)),
+        Value::Sym(id) => convert(alloc, tables, inner, Value::Sym(id)),
+        Value::Obj(obj) => convert(alloc, tables, inner, Value::Obj(obj)),
+    }
+}
+
+/// The first move of a value's conversion to a type that is neither nullable nor a union.
+///
+/// # Errors
+///
+/// `AllocError` where there is no memory.
+pub(crate) fn convert_plain(alloc: Global, ty: &IdlType, value: Value) -> Result<Move, AllocError>
+    ensures dialog { IfOk result (λ m. (list : DefsTerm) → move_dialog list m ≡ convert_plain built_today list (type_term ty.now) value) }
+    ensures weight { IfOk result (λ m. (list : DefsTerm) → weight list m ≤ type_load (type_term ty.now)) }
+{
+    match ty {
+        IdlType::Any => Ok(gives(IdlValue::Any(value))),
+        IdlType::Undefined => Ok(gives(IdlValue::Undefined)),
+        IdlType::Boolean => Ok(gives(IdlValue::Bool(truth(&value)))),
+        IdlType::Int(kind, mode) => Ok(by_number(NumberFrame::Integer(*kind, *mode), value)),
+        IdlType::Text { kind, null_empty } => {
+            Ok(null_or_string(alloc, *null_empty, *kind, value))
+        }
+        IdlType::Choice(number) => Ok(by_text(TextFrame::Enumeration(*number), value)),
+        IdlType::Object => Ok(object(value)),
+        IdlType::Interface(_) => Ok(not_built()),
+        IdlType::CallbackFn(_) => Ok(not_built()),
+        IdlType::CallbackIface(_) => Ok(not_built()),
+        IdlType::Dict(number) => Ok(to_dictionary(*number, value)),
+        IdlType::Seq(element) => to_sequence(alloc, element, value),
+        IdlType::Rec(key, ty) => to_record(alloc, *key, ty, value),
+        IdlType::Promise(_) => Ok(not_built()),
+        IdlType::Nullable(_) => Ok(not_built()),
+        IdlType::Union(_) => Ok(not_built()),
     }
 }
 
 /// The first move of an argument's conversion to the type at its place of an overload's entry of a
 /// length.
+///
+/// # Errors
+///
+/// `AllocError` where there is no memory.
 pub(crate) fn convert_argument(
     alloc: Global,
     tables: &Tables,
     at: ArgumentPlace,
     length: u32,
     value: Value,
-) -> Move
-    ensures dialog { move_dialog (defs_term tables.now.defs) result ≡ convert built_today (defs_term tables.now.defs) (type_at (entry_for at.overload (declared_args (defs_term tables.now.defs) at.callee at.overload) length) at.place) value }
-    ensures weight { weight (defs_term tables.now.defs) result ≤ conversion_load }
+) -> Result<Move, AllocError>
+    ensures dialog { IfOk result (λ m. move_dialog (defs_term tables.now.defs) m ≡ convert built_today (defs_term tables.now.defs) (type_at (entry_for at.overload (declared_args (defs_term tables.now.defs) at.callee at.overload) length) at.place) value) }
+    ensures weight { IfOk result (λ m. weight (defs_term tables.now.defs) m ≤ type_load (type_at (entry_for at.overload (declared_args (defs_term tables.now.defs) at.callee at.overload) length) at.place)) }
 {
     match standing(tables.list().defs(), at, length) {
-        None => gives(IdlValue::Any(value)),
-        Some(standing) => convert(alloc, standing.ty, value),
+        None => Ok(gives(IdlValue::Any(value))),
+        Some(standing) => convert(alloc, tables, standing.ty, value),
     }
 }
 
@@ -98,10 +182,18 @@ pub(crate) fn not_built() -> Move
     Move::Gives(Ending::Profile(NOT_BUILT))
 }
 
+/// The end with a new TypeError.
+pub(crate) fn throws(reason: Code) -> Move
+    ensures dialog { (list : DefsTerm) → move_dialog list result ≡ fails reason }
+    ensures weight { (list : DefsTerm) → weight list result ≡ 0 }
+{
+    Move::Gives(Ending::Throw(reason))
+}
+
 /// The way over the value's Number.
-fn by_number(frame: NumberFrame, value: Value) -> Move
+pub(crate) fn by_number(frame: NumberFrame, value: Value) -> Move
     ensures dialog { (list : DefsTerm) → move_dialog list result ≡ Steps (Scalar Want.Number value) (number (number_to frame)) }
-    ensures weight { (list : DefsTerm) → weight list result ≤ conversion_load }
+    ensures weight { (list : DefsTerm) → weight list result ≤ scalar_conversion_load }
 {
     Move::Steps(
         Frame::Number(frame),
@@ -115,7 +207,7 @@ fn by_number(frame: NumberFrame, value: Value) -> Move
 /// The way over the value's String.
 fn by_text(frame: TextFrame, value: Value) -> Move
     ensures dialog { (list : DefsTerm) → move_dialog list result ≡ Steps (Scalar Want.Text value) (text (text_to list frame)) }
-    ensures weight { (list : DefsTerm) → weight list result ≤ conversion_load }
+    ensures weight { (list : DefsTerm) → weight list result ≤ scalar_conversion_load }
 {
     Move::Steps(
         Frame::Text(frame),
@@ -127,9 +219,9 @@ fn by_text(frame: TextFrame, value: Value) -> Move
 }
 
 /// The first move of a value's conversion to a string type.
-fn null_or_string(alloc: Global, null_empty: bool, kind: TextKind, value: Value) -> Move
+pub(crate) fn null_or_string(alloc: Global, null_empty: bool, kind: TextKind, value: Value) -> Move
     ensures dialog { (list : DefsTerm) → move_dialog list result ≡ null_or_string null_empty kind value }
-    ensures weight { (list : DefsTerm) → weight list result ≤ conversion_load }
+    ensures weight { (list : DefsTerm) → weight list result ≤ scalar_conversion_load }
 {
     match value {
         Value::Null => if null_empty {

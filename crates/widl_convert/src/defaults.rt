@@ -22,7 +22,7 @@ use crate::moves::{Ending, Move};
 use crate::outcome::Outcome;
 use crate::resolution::Resolution;
 use std::alloc::{AllocError, Global};
-use widl_idl::{Arg, IdlType, IdlTypes, Literal, Optionality};
+use widl_idl::{IdlType, IdlTypes, Literal, Optionality};
 use widl_tables::Tables;
 use widl_text::Units;
 use widl_trace::Code;
@@ -100,22 +100,27 @@ pub(crate) fn default(alloc: Global, tables: &Tables, at: ArgumentPlace) -> Resu
 {
     match declared(tables.list().defs(), at) {
         None => Ok(gives(IdlValue::Missing)),
-        Some(arg) => default_of(alloc, tables, arg),
+        Some(arg) => default_of(alloc, tables, &arg.ty, &arg.value),
     }
 }
 
-/// The same of a declared argument.
+/// The first move to a default value of a type, if there is one.
 ///
 /// # Errors
 ///
 /// `AllocError` where there is no memory.
-fn default_of(alloc: Global, tables: &Tables, arg: &Arg) -> Result<Move, AllocError>
-    ensures dialog { IfOk result (λ m. move_dialog (defs_term tables.now.defs) m ≡ default (defs_term tables.now.defs) (type_term arg.now.ty) arg.now.value) }
+pub(crate) fn default_of(
+    alloc: Global,
+    tables: &Tables,
+    ty: &IdlType,
+    value: &Option<Literal>,
+) -> Result<Move, AllocError>
+    ensures dialog { IfOk result (λ m. move_dialog (defs_term tables.now.defs) m ≡ default (defs_term tables.now.defs) (type_term ty.now) value.now) }
     ensures weight { IfOk result (λ m. weight (defs_term tables.now.defs) m ≤ default_load) }
 {
-    match &arg.value {
+    match value {
         None => Ok(gives(IdlValue::Missing)),
-        Some(literal) => with_literal(alloc, tables, &arg.ty, literal),
+        Some(literal) => with_literal(alloc, tables, ty, literal),
     }
 }
 

@@ -4,7 +4,10 @@
 
 use crate::jobs::Beginning;
 use crate::outcome::Want;
+use crate::record::{NamedProperty, Property};
 use crate::resolution::Resolution;
+use crate::sequence::Iteration;
+use crate::waits::MemberWait;
 use widl_idl::{IntKind, Mode, TextKind};
 
 /// What goes on with a value of the script.
@@ -39,6 +42,12 @@ pub enum IdlFrame {
     Argument(Resolution),
     /// It is that of a declared argument which the call doesn't have.
     Defaulted(Beginning),
+    /// It is the next element of a sequence.
+    Element(Iteration),
+    /// It is that of a record's property.
+    Property(NamedProperty),
+    /// It is that of a member of a dictionary.
+    Member(MemberWait),
 }
 
 /// What waits for the end of a task.
@@ -52,4 +61,6 @@ pub enum Frame {
     Text(TextFrame),
     /// It is an IDL value.
     Idl(IdlFrame),
+    /// It is the key of a record's entry.
+    Key(Property),
 }

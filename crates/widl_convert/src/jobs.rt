@@ -1,10 +1,13 @@
 //! Jobs: the tasks of a conversation.
 
 use crate::hint::Hint;
+use crate::members_left::{MemberPlace, MembersLeft};
 use crate::outcome::Want;
+use crate::record::Properties;
 use crate::resolution::{Call, Resolution};
+use crate::sequence::{Iterable, Iteration};
 use widl_idl::{Callee, IdlType};
-use widl_value::{IdlValue, IdlValues, Value};
+use widl_value::{IdlMembers, IdlValue, IdlValues, ObjRef, Value};
 
 /// A place among the arguments of an overload, where a type stands in the list of definitions.
 #[derive(Clone, Copy)]
@@ -28,7 +31,20 @@ pub struct Beginning {
     pub made: IdlValues,
 }
 
-/// A task with its arguments. Where one is a type of an argument, the place at which it stands is held
+/// A dictionary that is made, as far as its members have come.
+#[derive(Drop)]
+pub struct Filling {
+    /// The dictionary.
+    pub dictionary: u32,
+    /// The object whose properties its members are; without one all are undefined.
+    pub object: Option<ObjRef>,
+    /// The members that are left.
+    pub left: MembersLeft,
+    /// The members before, those that were left out not among them.
+    pub made: IdlMembers,
+}
+
+/// A task with its arguments. Where one is a type of an argument or of a member, the place at which it stands is held
 /// in its stead.
 #[derive(Drop)]
 pub enum Job {
@@ -62,6 +78,12 @@ pub enum Job {
         /// The argument.
         value: Value,
     },
+    /// An object with its method `@iterator` to a sequence.
+    SequenceFrom(Iterable),
+    /// The turns of an iterator that are left.
+    Turns(Iteration),
+    /// The properties of an object that are left, for a record.
+    Entries(Box<Properties>),
     /// The choice of an overload.
     Resolve(Call),
     /// The choice of an overload, from its next argument on.
@@ -70,6 +92,24 @@ pub enum Job {
     Default(ArgumentPlace),
     /// The values of the declared arguments that a call doesn't have.
     Defaults(Beginning),
+    /// The members of a dictionary, from the first on.
+    Dictionary {
+        /// The dictionary.
+        dictionary: u32,
+        /// The object whose properties they are, if there is one.
+        object: Option<ObjRef>,
+    },
+    /// The members of a dictionary that are left.
+    Members(Filling),
+    /// The value of a member to an IDL value of its type.
+    Member {
+        /// The place of the member.
+        at: MemberPlace,
+        /// The value.
+        value: Value,
+    },
+    /// The default value of a member.
+    MemberDefault(MemberPlace),
     /// An IDL value to a value of the script.
     Out {
         /// Its type.

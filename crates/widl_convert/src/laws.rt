@@ -6,10 +6,11 @@ ghost use Rattle.widl_idl.specs.declared.text_kind.TextKind.{TextKind};
 ghost use Rattle.widl_idl.specs.Terms.{TypeTerm};
 ghost use Rattle.widl_value.specs.declared.object.ObjRef.{ObjRef};
 ghost use Rattle.widl_convert.specs.Built.{Built};
-ghost use Rattle.widl_convert.specs.ContainerLaws.{MembersAreReadInOrder, NamesAscend, RecordsAskOnce, SequencesAskOnce};
+ghost use Rattle.widl_convert.specs.ContainerLaws.{MembersAreReadInOrder, MembersStandInOrder, NamesAscend, RecordsAskOnce, SequencesAskOnce, SequencesTakeTurns};
 ghost use Rattle.widl_convert.specs.Laws.{AsksAreTalked, BeginningsHaveOneNext, ChainsEnd, EachTaskEnds, FaultsEnd, PartsMakeWholes, ValidChainsEnd};
 ghost use Rattle.widl_convert.specs.ResolutionLaws.{OthersAreNotLookedAt, ValuesAreCounted};
 ghost use Rattle.widl_convert.specs.Rules.{rule};
+ghost use Rattle.widl_convert.specs.UnionLaws.{UnionsAskAsMembers};
 ghost use Rattle.widl_convert.specs.Stack.{EachAnswerGoesOn, HasOneLast};
 
 /// Exactly one thing comes next after what begins a whole conversation.
@@ -47,7 +48,8 @@ pub fn has_one_last()
     ensures { (list : DefsTerm) → HasOneLast list }
 {}
 
-/// A suspended conversation that stands at an ask has exactly one next, for each answer that fits.
+/// A suspended conversation that stands at an ask has exactly one next, for each answer that fits: over lists
+/// in which no chain of more dictionaries begins than validity allows.
 pub fn answers_go_on()
     ensures { (list : DefsTerm) → EachAnswerGoesOn list }
 {}
@@ -69,6 +71,11 @@ pub fn sequences_ask_once()
     ensures { (built : Built) (list : DefsTerm) (t : TypeTerm) → SequencesAskOnce built list t }
 {}
 
+/// A sequence of so many elements comes of one turn more of its iterator.
+pub fn sequences_take_turns()
+    ensures { (built : Built) (list : DefsTerm) → SequencesTakeTurns built list }
+{}
+
 /// A record asks for the own keys once, and looks at each property once and reads it once.
 pub fn records_ask_once()
     ensures { (built : Built) (list : DefsTerm) (key : TextKind) (t : TypeTerm) (o : ObjRef) → RecordsAskOnce built list key t o }
@@ -82,4 +89,16 @@ pub fn names_ascend()
 /// Of a dictionary's object each member is read once, in their order.
 pub fn members_are_read_in_order()
     ensures { (built : Built) (list : DefsTerm) → MembersAreReadInOrder built list }
+{}
+
+/// A conversion to a union is that to one of its flattened members, behind at most one Get of `@iterator`; or
+/// it gives null, with nothing asked.
+pub fn unions_ask_as_members()
+    ensures { (built : Built) (list : DefsTerm) → UnionsAskAsMembers built list }
+{}
+
+/// The members of a dictionary's value are its own and inherited ones, in the order of their conversion, each
+/// once.
+pub fn members_stand_in_order()
+    ensures { (built : Built) (list : DefsTerm) → MembersStandInOrder built list }
 {}

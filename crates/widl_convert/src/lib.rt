@@ -7,9 +7,10 @@
 //! section of the standard at its head: `rule` (`specs/Rules.antt`) gives each task its steps. An
 //! [`Asker`] is a conversion that is suspended at each ask. The contract that the crates above use: what
 //! [`Asker::resume`] answers is exactly what comes next in the talk of its task, tasks alone lead to it
-//! from what was left, and less is left after each ask that takes no charge. Today the conversions of
-//! scalars have code, the choice of an overload and the way of scalars to script; the others have
-//! definitions alone. The laws are the contracts of the functions of [`laws`].
+//! from what was left, and less is left after each ask that takes no charge. Today conversions to all
+//! types but interfaces, callbacks and promises have code, the choice of an overload, and the way of
+//! scalars to script; that of containers has definitions alone. The laws are the contracts of the
+//! functions of [`laws`].
 #![tactic(auto)]
 
 mod answer;
@@ -17,23 +18,31 @@ mod ask;
 mod asker;
 mod convert;
 mod defaults;
+mod dictionary;
 mod entry;
+mod entry_map;
 mod frames;
 mod hint;
 mod jobs;
 pub mod laws;
 mod literals;
+mod members_left;
 mod moves;
+mod nullable;
 mod outcome;
 mod primitive;
+mod record;
 mod resolution;
 mod resolve;
 mod results;
 mod scalar;
+mod sequence;
 mod served;
 mod settle;
 mod stack;
 mod steps;
+mod union;
+mod union_members;
 mod waits;
 
 pub use answer::{Answer, CursorState, KindName};

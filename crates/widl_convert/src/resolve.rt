@@ -1,11 +1,12 @@
 //! The choice of an overload, with the conversion of the arguments.
 
-ghost use Rattle.std.specs.Prelude.{◌≡◌, ◌≤◌, ◌<◌, ◌+◌, ◌∷◌, [], length, false, true, IfOk, None, Some};
+ghost use Rattle.std.specs.Prelude.{◌≡◌, ◌≤◌, ◌<◌, ◌+◌, ◌∷◌, [], length, false, true, option_map, IfOk, None, Some};
 ghost use Rattle.widl_dialog.specs.Dialog.{Say, Steps};
 ghost use Rattle.widl_idl.specs.DefinitionTerms.{DefsTerm, defs_term};
+ghost use Rattle.widl_idl.specs.Terms.{type_term};
 ghost use Rattle.widl_value.specs.Classes.{class_of};
 ghost use Rattle.widl_value.specs.IdlTerms.{idl_term, idl_terms};
-ghost use Rattle.widl_tables.specs.Kept.{declared_args, entry_for, optionality_at};
+ghost use Rattle.widl_tables.specs.Kept.{declared_args, entry_for, optionality_at, type_at};
 ghost use Rattle.widl_tables.specs.Picks.{pick_of};
 ghost use Rattle.widl_tables.specs.Tests.{is_optional};
 ghost use Rattle.widl_convert.specs.AskTerms.{GetAsk};
@@ -13,30 +14,28 @@ ghost use Rattle.widl_convert.specs.Built.{built_today};
 ghost use Rattle.widl_convert.specs.Entries.{IsAtPlace, entries_left, entry_in, left_from, place_in, sole};
 ghost use Rattle.widl_convert.specs.Frames.{idl_to, job_of, move_dialog, probe_to, taken};
 ghost use Rattle.widl_convert.specs.Loads.{default_load, idl_frame_load, load, taken_load, weight};
-ghost use Rattle.widl_convert.specs.Sequences.{iterator_symbol};
-ghost use Rattle.widl_convert.specs.Resolution.{argument, argument_given, argument_task, of_several, picked, resolve, without_method};
+ghost use Rattle.widl_convert.specs.Sequences.{element_within, iterator_symbol};
+ghost use Rattle.widl_convert.specs.Resolution.{argument, argument_given, argument_task, from_method, looked_for, of_several, picked, resolve, without_method};
 ghost use Rattle.widl_convert.specs.Rules.{rule};
 ghost use Rattle.widl_convert.specs.Tasks.{Resolve};
-ghost use Rattle.widl_convert.specs.Words.{fails, normal, object};
+ghost use Rattle.widl_convert.specs.Words.{normal, object};
 
 use crate::ask::Ask;
-use crate::convert::not_built;
+use crate::convert::throws;
 use crate::defaults::after_last;
 use crate::entry::standing;
 use crate::frames::{Frame, IdlFrame};
 use crate::jobs::{ArgumentPlace, Job};
-use crate::moves::{Asking, Ending, Move};
+use crate::moves::{Asking, Move};
 use crate::resolution::{Call, Probe, Resolution};
+use crate::sequence::{ITERATOR, Iterable, element_within};
 use crate::waits::{ValueWait, Wait};
 use std::alloc::{AllocError, Global};
-use widl_idl::Optionality;
+use widl_idl::{IdlType, Optionality};
 use widl_tables::{Pick, Tables, kept, pick_overload};
 use widl_text::Key;
 use widl_trace::Code;
 use widl_value::{IdlValue, IdlValues, ObjRef, Shape, Value};
-
-/// The symbol `@iterator`.
-const ITERATOR: u32 = 0;
 
 /// The first move of the choice of an overload.
 ///
@@ -69,14 +68,6 @@ fn sole(overloads: &[u32]) -> Option<u32>
         [overload] => Some(*overload),
         _ => None,
     }
-}
-
-/// The end with a new TypeError.
-fn throws(reason: Code) -> Move
-    ensures dialog { (list : DefsTerm) → move_dialog list result ≡ fails reason }
-    ensures weight { (list : DefsTerm) → weight list result ≡ 0 }
-{
-    Move::Gives(Ending::Throw(reason))
 }
 
 /// The move from one argument to the next.
@@ -230,17 +221,93 @@ fn probe(resolution: Resolution, value: Value) -> Move
 }
 
 /// The move after the method `@iterator` of the argument was read.
-pub(crate) fn probed(tables: &Tables, probe: Probe, found: Value) -> Move
-    ensures { move_dialog (defs_term tables.now.defs) result ≡ probe_to (defs_term tables.now.defs) probe.resolution probe.obj found }
+///
+/// # Errors
+///
+/// `AllocError` where there is no memory.
+pub(crate) fn probed(
+    alloc: Global,
+    tables: &Tables,
+    probe: Probe,
+    found: Value,
+) -> Result<Move, AllocError>
+    ensures { IfOk result (λ m. move_dialog (defs_term tables.now.defs) m ≡ probe_to (defs_term tables.now.defs) probe.resolution probe.obj found) }
 {
     match found {
-        Value::Undefined => without_method(tables, probe),
-        Value::Null => without_method(tables, probe),
+        Value::Undefined => Ok(without_method(tables, probe)),
+        Value::Null => Ok(without_method(tables, probe)),
         Value::Obj(f) => match f.shape {
-            Shape::Callable => not_built(),
-            _ => throws(Code::NotCallable),
+            Shape::Callable => with_method(alloc, tables, probe, f),
+            _ => Ok(throws(Code::NotCallable)),
         },
-        _ => throws(Code::NotCallable),
+        _ => Ok(throws(Code::NotCallable)),
+    }
+}
+
+/// The move where the argument has such a method: to the sequence, for the entry for whose type it was
+/// looked. The method isn't read again.
+fn with_method(
+    alloc: Global,
+    tables: &Tables,
+    probe: Probe,
+    method: ObjRef,
+) -> Result<Move, AllocError>
+    ensures { IfOk result (λ m. move_dialog (defs_term tables.now.defs) m ≡ from_method probe.resolution.kept.callee (looked_for (entries_left (defs_term tables.now.defs) probe.resolution.kept probe.resolution.overload) (pick_of (defs_term tables.now.defs) (entries_left (defs_term tables.now.defs) probe.resolution.kept probe.resolution.overload) (length (idl_terms probe.resolution.made)) (class_of (Value.Obj probe.obj)) false)) (place_in probe.resolution.kept) (left_from (length (idl_terms probe.resolution.made) + 1) probe.resolution.kept probe.resolution.args) (idl_terms probe.resolution.made) probe.obj method) }
+{
+    let Probe { resolution, obj } = probe;
+    let class = Value::Obj(obj).class();
+    match pick_overload(tables.list().defs(), &resolution.kept, class, false) {
+        Pick::Probe(overload) => from_method(alloc, tables, resolution, overload, obj, method),
+        _ => Ok(throws(Code::NoMatch)),
+    }
+}
+
+/// The move from an argument with its method `@iterator` to the sequence in the type of an overload's
+/// entry, which is left alone.
+fn from_method(
+    alloc: Global,
+    tables: &Tables,
+    resolution: Resolution,
+    overload: u32,
+    obj: ObjRef,
+    method: ObjRef,
+) -> Result<Move, AllocError>
+    ensures { IfOk result (λ m. move_dialog (defs_term tables.now.defs) m ≡ from_method resolution.kept.callee (entry_in (defs_term tables.now.defs) resolution.kept overload ∷ []) (place_in resolution.kept) (left_from (length (idl_terms resolution.made) + 1) resolution.kept resolution.args) (idl_terms resolution.made) obj method) }
+{
+    let kept = &resolution.kept;
+    let at = ArgumentPlace {
+        callee: kept.callee,
+        overload,
+        place: resolution.made.len(),
+    };
+    match sequence_element(alloc, tables, at, kept.argcount)? {
+        None => Ok(throws(Code::NoMatch)),
+        Some(element) => Ok(Move::Steps(
+            Frame::Idl(IdlFrame::Argument(alone(resolution, overload))),
+            Job::SequenceFrom(Iterable {
+                element,
+                obj,
+                method,
+            }),
+        )),
+    }
+}
+
+/// The type of the elements of the sequence type at a place of an entry of a length, or inside its type.
+fn sequence_element(
+    alloc: Global,
+    tables: &Tables,
+    at: ArgumentPlace,
+    length: u32,
+) -> Result<Option<IdlType>, AllocError>
+    ensures { IfOk result (λ element. option_map type_term element ≡ element_within (type_at (entry_for at.overload (declared_args (defs_term tables.now.defs) at.callee at.overload) length) at.place)) }
+{
+    match standing(tables.list().defs(), at, length) {
+        None => Ok(None),
+        Some(standing) => match element_within(standing.ty) {
+            None => Ok(None),
+            Some(element) => Ok(Some(element.copy(alloc)?)),
+        },
     }
 }
 

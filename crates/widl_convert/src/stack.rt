@@ -18,6 +18,7 @@ pub struct Stack {
 impl Model for Stack {
     ghost use Rattle.std.specs.Coded.{codes};
     ghost use Rattle.std.specs.Prelude.{List, ◌++◌, option_to_list};
+    ghost use Rattle.widl_idl.specs.contracts.types.IdlType as types;
     ghost use Rattle.widl_value.specs.contracts.idl_value.IdlValue as values;
     ghost use Rattle.widl_convert.specs.declared.frames.Frame as TheFrame;
 
@@ -25,7 +26,7 @@ impl Model for Stack {
 
     ghost view = { λ s. s.below.items ++ option_to_list s.top };
 
-    ghost coded = { Prim.hlevel (codes, values.the_row.coded) };
+    ghost coded = { Prim.hlevel (codes, types.the_row.coded, values.the_row.coded) };
 }
 
 impl Stack {

@@ -14,16 +14,22 @@ ghost use Rattle.widl_convert.specs.Waits.{kind_for};
 use crate::answer::Answer;
 use crate::convert::{convert, convert_argument, gives, to_enumeration, to_integer, to_string};
 use crate::defaults::{default, defaults, with_default};
+use crate::dictionary::{
+    convert_member, first_member, member_default, next_member, undefined_member, with_member,
+    with_member_value,
+};
 use crate::frames::{Frame, IdlFrame, NumberFrame, TextFrame, ValueFrame};
 use crate::jobs::Job;
 use crate::moves::{Ending, Move};
 use crate::outcome::Outcome;
-use crate::primitive;
 use crate::primitive::to_primitive;
+use crate::record::{after_entry, entries, with_keys, with_name, with_own};
 use crate::resolve::{arguments, probed, resolve, with_argument};
 use crate::results::out;
 use crate::scalar::{to_length, to_scalar, with_primitive};
+use crate::sequence::{after_element, sequence_from, turns};
 use crate::waits::{ValueWait, Wait};
+use crate::{primitive, record, sequence, union};
 use std::alloc::{AllocError, Global};
 use widl_tables::Tables;
 use widl_text::Units;
@@ -41,14 +47,21 @@ pub(crate) fn begin(alloc: Global, tables: &Tables, job: Job) -> Result<Move, Al
     match job {
         Job::Primitive { hint, value } => Ok(to_primitive(hint, value)),
         Job::Scalar { want, value } => to_scalar(alloc, want, value),
-        Job::Convert { ty, value } => Ok(convert(alloc, &ty, value)),
+        Job::Convert { ty, value } => convert(alloc, tables, &ty, value),
         Job::Argument { at, length, value } => {
-            Ok(convert_argument(alloc, tables, at, length, value))
+            convert_argument(alloc, tables, at, length, value)
         }
+        Job::SequenceFrom(iterable) => Ok(sequence_from(alloc, iterable)),
+        Job::Turns(iteration) => Ok(turns(alloc, iteration)),
+        Job::Entries(properties) => entries(alloc, properties),
         Job::Resolve(call) => resolve(alloc, tables, call),
         Job::Arguments(resolution) => Ok(arguments(tables, resolution)),
         Job::Default(at) => default(alloc, tables, at),
         Job::Defaults(beginning) => Ok(defaults(tables, beginning)),
+        Job::Dictionary { dictionary, object } => first_member(alloc, tables, dictionary, object),
+        Job::Members(filling) => next_member(alloc, tables, filling),
+        Job::Member { at, value } => convert_member(alloc, tables, at, value),
+        Job::MemberDefault(at) => member_default(alloc, tables, at),
         Job::Out { ty: _, value } => out(alloc, tables, value),
     }
 }
@@ -69,6 +82,9 @@ pub(crate) fn answered(
 {
     match wait {
         Wait::Value(wait) => with_completion(alloc, tables, wait, answer),
+        Wait::Keys(of) => with_keys(alloc, of, answer),
+        Wait::Own(property) => with_own(property, answer),
+        Wait::Unit(wait) => Ok(undefined_member(tables, wait)),
     }
 }
 
@@ -107,7 +123,11 @@ fn with_value(
 {
     match wait {
         ValueWait::Primitive(wait) => primitive::with_value(alloc, wait, value),
-        ValueWait::Probe(probe) => Ok(probed(tables, probe, value)),
+        ValueWait::Probe(probe) => probed(alloc, tables, probe, value),
+        ValueWait::Sequence(wait) => sequence::with_value(alloc, wait, value),
+        ValueWait::Property(property) => record::with_value(alloc, property, value),
+        ValueWait::Member(wait) => Ok(with_member_value(tables, wait, value)),
+        ValueWait::UnionProbe(probe) => union::probed(alloc, probe, value),
     }
 }
 
@@ -157,6 +177,7 @@ fn with_script(
             value => Ok(Move::Gives(Ending::Done(Outcome::Script(value)))),
         },
         Frame::Idl(_) => Ok(Move::Gives(Ending::Done(Outcome::Script(value)))),
+        Frame::Key(_) => Ok(Move::Gives(Ending::Done(Outcome::Script(value)))),
     }
 }
 
@@ -172,6 +193,10 @@ fn with_idl(frame: Frame, value: IdlValue) -> Result<Move, AllocError>
     match frame {
         Frame::Idl(IdlFrame::Argument(resolution)) => with_argument(resolution, value),
         Frame::Idl(IdlFrame::Defaulted(beginning)) => with_default(beginning, value),
+        Frame::Idl(IdlFrame::Element(iteration)) => after_element(iteration, value),
+        Frame::Idl(IdlFrame::Property(property)) => after_entry(property, value),
+        Frame::Key(property) => Ok(with_name(property, value)),
+        Frame::Idl(IdlFrame::Member(wait)) => with_member(wait, value),
         Frame::Value(_) => Ok(gives(value)),
         Frame::Number(_) => Ok(gives(value)),
         Frame::Text(_) => Ok(gives(value)),

@@ -15,3 +15,8 @@ use Rattle.widl_engine.proofs.Leading.{leads_is}
 pub leads_by : {X : Type 0} (set : MergedSet) (s : Tables) (work : Program → X → Doing) (x known : X) (r : Result Move AllocError) → x ≡ known → IfOk r (λ m. (p : Program) → move_of p s m ≡ work p known) → IfOk r (λ m. IsReadOver (program_of set s).list s → LeadsTo (program_of set s) s (work (program_of set s) x) m)
 leads_by set s work x known (results.Ok m) same is = λ read. leads_is (program_of set s) s (work (program_of set s) x) m (is (program_of set s) ∙ ap (work (program_of set s)) (sym same))
 leads_by set s work x known (results.Err e) same is = tt
+
+-- the same, where it is known over all tables
+pub leads_over : {X : Type 0} (set : MergedSet) (s : Tables) (work : Program → Tables → X → Doing) (x known : X) (r : Result Move AllocError) → x ≡ known → IfOk r (λ m. (p : Program) (t : Tables) → move_of p t m ≡ work p t known) → IfOk r (λ m. IsReadOver (program_of set s).list s → LeadsTo (program_of set s) s (work (program_of set s) s x) m)
+leads_over set s work x known (results.Ok m) same is = λ read. leads_is (program_of set s) s (work (program_of set s) s x) m (is (program_of set s) s ∙ ap (work (program_of set s) s) (sym same))
+leads_over set s work x known (results.Err e) same is = tt

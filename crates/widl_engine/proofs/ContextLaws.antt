@@ -1,5 +1,5 @@
 -- For proofs alone. Contexts that are entered and left.
-use Rattle.std.proofs.Common.{◌≡◌, ℕ, zero, suc, ◌+◌, ◌<◌, min, List, [], ◌∷◌, ◌++◌, Option, Some, None, length, map, drop, get_or, sym, ap, ◌∙◌, refl, arith, nat_eq, IfSome, IfNone, slice_get, slice_set, Result, Ok, Err, OnOk}
+use Rattle.std.proofs.Common.{◌≡◌, ℕ, false, zero, suc, ◌+◌, ◌<◌, min, List, [], ◌∷◌, ◌++◌, Option, Some, None, length, map, drop, get_or, sym, ap, ◌∙◌, refl, arith, nat_eq, IfSome, IfNone, slice_get, slice_set, Result, Ok, Err, OnOk}
 use Rattle.std.proofs.Math.ListN.{drop_of_length-le}
 use Rattle.std.proofs.Math.Seq.{drop-cons}
 use Rattle.indexmap.specs.IndexMap.{insert_entry}
@@ -15,8 +15,9 @@ use Rattle.widl_store.specs.declared.inner.Builtin.{Builtin}
 use Rattle.widl_trace.specs.EventTerms.{EventTerm}
 use Rattle.widl_engine.specs.declared.ends.Completion.{Completion}
 use Rattle.widl_runs.specs.Actions.{IsDone}
-use Rattle.widl_runs.specs.Calls.{called, function_in}
-use Rattle.widl_runs.specs.Jobs.{Program, Doing, RunStatements}
+use Rattle.widl_calls.specs.CallTasks.{Function}
+use Rattle.widl_runs.specs.Calls.{called, function_in, talked}
+use Rattle.widl_runs.specs.Jobs.{Program, Doing, RunStatements, Talk}
 use Rattle.widl_runs.specs.Worlds as worlds
 use Rattle.widl_runs.specs.Worlds.{World, Bindings, bound_parameters, function_context, builtin_context, outer_contexts}
 use Rattle.widl_engine.specs.declared.contexts.Context.{Context}
@@ -85,13 +86,13 @@ enter_performed p s t x y n this args inner row script is o rows =
     (ap (λ (b : StatementTrees). let d : Doing = Steps (RunStatements b) called in d) (ap (statements_tree s) rows ∙ sym (body_in s n) ∙ ap (λ (sc : ScriptTree). (function_in sc n).body) (sym script)))
 
 -- a function that isn't written in the script
-pub builtin_performed : (p : Program) (s : Tables) (t : StoreState) (x y : Place) (f : ObjRef) (function : Builtin) (this that : Value) (args : List Value) → that ≡ this → OtherContexts s x y (builtin_context that ∷ contexts_in s x) → Performed p s (due.EnterBuiltin f function this args) t x t y (move.Steps frame.Talked (job.Function f function this args))
-builtin_performed p s t x y f function this that args same o =
+pub builtin_performed : (p : Program) (s : Tables) (t : StoreState) (x y : Place) (f : ObjRef) (function : Builtin) (this that : Value) (args : List Value) (next : Move) → that ≡ this → OtherContexts s x y (builtin_context that ∷ contexts_in s x) → move_of p s next ≡ Steps (Talk (Function f function this args false)) talked → Performed p s (due.EnterBuiltin f function this args) t x t y next
+builtin_performed p s t x y f function this that args next same o goes =
     performed IsDone
     (λ k ls.
     ap (λ (v : Value). let d : Done = Went (record (world_of s t x k ls) { contexts = builtin_context v ∷ contexts_in s x }) IsDone in d) (sym same)
     ∙ ap (λ (w : World). let d : Done = Went w IsDone in d) (world_now s t x y (builtin_context that ∷ contexts_in s x) k ls o))
-    refl
+    goes
 
 pub new_context : (s : Tables) (number : ℕ) (this : Value) (args : List Value) (params : List ℕ) (locals : List (ℕ × Value)) → params ≡ (function_at s number).params → named (name_at s) locals ≡ bound_parameters [] (map (name_at s) params) args → context_of s (record { this = this; function = Some number; locals = locals }) ≡ function_context (function_in (script_tree s) number) this args
 new_context s number this args params locals same bound =

@@ -77,7 +77,7 @@ program_of set s = record { list = list_of set; script = script_tree s }
 
 abbrev pub key_part_of : Tables → key_parts.KeyPart → KeyPart
 key_part_of s (key_part.Named name) = Named (key_at s name)
-key_part_of s (key_part.Computed v) = Computed v
+key_part_of s (key_part.Computed v) = Computed v.value
 
 abbrev pub member_use_of : Tables → member_uses.MemberUse → MemberUse
 member_use_of s member_use.Read = ForRead
@@ -88,8 +88,8 @@ member_use_of s (member_use.Accessor getter setter) = ForAccessor (expression_tr
 member_use_of s member_use.Delete = ForDelete
 
 abbrev pub row_use_of : row_uses.RowUse → RowUse
-row_use_of (row_use.Arguments f this) = ForArguments f this
-row_use_of (row_use.New f) = ForNew f
+row_use_of (row_use.Arguments calling) = ForArguments calling.value.f calling.value.this
+row_use_of (row_use.New f) = ForNew f.value
 row_use_of row_use.Items = ForItems
 
 abbrev pub job_of : Tables → jobs.Job → Job
@@ -98,14 +98,14 @@ job_of s (job.Statement place) = RunStatement (statement_tree s place)
 job_of s (job.Evaluate place) = Evaluate (expression_tree s place)
 job_of s (job.Row what vs row) = EvaluateRow (row_use_of what) vs (expressions_tree s row)
 job_of s (job.Read of key) = ReadMember of (key_part_of s key)
-job_of s (job.Set of key v) = SetMember of (key_part_of s key) v
-job_of s (job.Define of key v hidden) = DefineMember of (key_part_of s key) v hidden
-job_of s (job.Accessor of key getter setter) = DefineAccessor of (key_part_of s key) getter setter
+job_of s (job.Set member v) = SetMember member.value.of (key_part_of s member.value.key) v
+job_of s (job.Define member hidden v) = DefineMember member.value.of (key_part_of s member.value.key) v hidden
+job_of s (job.Accessor member parts) = DefineAccessor member.value.of (key_part_of s member.value.key) parts.value.getter parts.value.setter
 job_of s (job.Delete of key) = DeleteMember of (key_part_of s key)
-job_of s (job.Call f this args) = CallValue f this args
-job_of s (job.Construct f args) = ConstructValue f args
-job_of s (job.Function f what this args) = Talk (Function f what this args false)
-job_of s (job.Asked ask) = Asked (ask_term ask)
+job_of s (job.Call calling args) = CallValue calling.value.f calling.value.this args
+job_of s (job.Construct f args) = ConstructValue f.value args
+job_of s (job.Function call) = Talk (Function call.value.f call.value.what call.value.this call.value.args false)
+job_of s (job.Asked ask) = Asked (ask_term ask.value)
 job_of s (job.Fail code) = Fail code
 
 -- the ends of jobs
@@ -188,7 +188,7 @@ after_line p s e line.Keys = keys_by e
 after_line p s e line.Own = own_by e
 after_line p s e line.Leaves = leaves_by e
 after_line p s e line.Throws = throws_by e
-after_line p s e (line.Ends end) = End (job_end_of end)
+after_line p s e (line.Ends end) = End (job_end_of end.value)
 after_line p s e line.EndsThrown = ends_by e
 
 abbrev pub charge_of : Charge → Action
@@ -285,10 +285,10 @@ value_to s (goes_on.Name what name) = with_name (member_use_of s what) (key_at s
 value_to s (goes_on.Key what key) = evaluates_key (member_use_of s what) (expression_tree s key)
 value_to s (goes_on.KeyOf what of) = with_key (member_use_of s what) of
 value_to s (goes_on.Calls this args) = calls_with this (expressions_tree s args)
-value_to s (goes_on.Sets of key) = sets of (key_part_of s key)
-value_to s (goes_on.Defines of key hidden) = defines of (key_part_of s key) hidden
-value_to s (goes_on.Getter of key setter) = with_getter of (key_part_of s key) (option_map (expression_tree s) setter)
-value_to s (goes_on.Setter of key getter) = defines_accessor of (key_part_of s key) getter
+value_to s (goes_on.Sets member) = sets member.value.of (key_part_of s member.value.key)
+value_to s (goes_on.Defines member hidden) = defines member.value.of (key_part_of s member.value.key) hidden
+value_to s (goes_on.Getter member setter) = with_getter member.value.of (key_part_of s member.value.key) (option_map (expression_tree s) setter)
+value_to s (goes_on.Setter member getter) = defines_accessor member.value.of (key_part_of s member.value.key) getter
 value_to s goes_on.Prototype = object_of
 value_to s (goes_on.InRow what vs rest) = next_in_row (row_use_of what) vs (expressions_tree s rest)
 value_to s (goes_on.This this args) = evaluates_this (expression_tree s this) (expressions_tree s args)
@@ -301,7 +301,7 @@ back_to p s (frame.Value f) = value (value_to s f)
 back_to p s (frame.Catches name handler) = caught (name_at s name) (statements_tree s handler)
 back_to p s frame.Called = called
 back_to p s frame.Talked = talked
-back_to p s (frame.Suspended x) = λ end. in_world (call_rest p.list (lines_of p.list p.script) x.value.asker (answer_by (ask_kind_of x.value.kind) end))
+back_to p s (frame.Suspended x) = λ end. in_world (call_rest p.list (lines_of p.list p.script) x.asker.value (answer_by (ask_kind_of x.kind) end))
 back_to p s frame.Last = last_line
 
 -- 6. Moves

@@ -1,6 +1,6 @@
 //! Conversations begin, and go on with the end of the work of an ask.
 
-ghost use Rattle.std.specs.Prelude.{◌≡◌, ◌<◌, ◌^◌, IfOk, Some, length};
+ghost use Rattle.std.specs.Prelude.{◌≡◌, ◌<◌, ◌^◌, IfOk, Some, false, length};
 ghost use Rattle.widl_dialog.specs.Dialog.{End, Steps};
 ghost use Rattle.widl_script_tree.specs.Tables.{Tables as ScriptTables};
 ghost use Rattle.widl_convert.specs.AskTerms.{answer_term, ask_term, kind_of as the_kind_of};
@@ -8,11 +8,12 @@ ghost use Rattle.widl_convert.specs.Frames.{end_of};
 ghost use Rattle.widl_convert.specs.Records.{flags_in as the_flags_in, keys_in as the_keys_in};
 ghost use Rattle.widl_calls.specs.ArrayFunctions.{cursor_in as the_cursor_in};
 ghost use Rattle.widl_calls.specs.ObjectFunctions.{kind_in as the_kind_in};
+ghost use Rattle.widl_calls.specs.CallTasks.{Function};
 ghost use Rattle.widl_calls.specs.Operations.{lines_of};
 ghost use Rattle.widl_calls.specs.Stack.{CallExpects, call_pending, call_rest};
 ghost use Rattle.widl_runs.specs.Asks.{in_world};
 ghost use Rattle.widl_runs.specs.Ends.{JobEnd as Ended, Talked, answer_by, answer_of, completion_answer as the_completion_answer, new_object_in as the_new_object_in, plain_in as the_plain_in, seen_in as the_seen_in};
-ghost use Rattle.widl_runs.specs.Jobs.{Asked, Program};
+ghost use Rattle.widl_runs.specs.Jobs.{Asked, Program, Talk};
 ghost use Rattle.widl_runs.specs.Rules.{rule};
 ghost use Rattle.widl_engine.specs.AskKinds.{ask_kind_of};
 ghost use Rattle.widl_engine.specs.Frames.{LeadsTo, back_to, job_end_of, job_of, move_of, program_of};
@@ -21,7 +22,7 @@ ghost use Rattle.widl_engine.specs.ReadOver.{IsReadOver};
 
 use crate::ends::{Completion, JobEnd};
 use crate::frames::Frame;
-use crate::jobs::Job;
+use crate::jobs::{BuiltinCall, Job};
 use crate::moves::Move;
 use crate::new_objects::OBJECT_PROTOTYPE;
 use crate::suspended::{AskKind, Suspended};
@@ -29,9 +30,8 @@ use std::alloc::{AllocError, Global};
 use widl_calls::CallAsker;
 use widl_convert::{Answer, Ask, CursorState, Ending, KindName, Next};
 use widl_script_tree::Script;
-use widl_store::Builtin;
 use widl_tables::Tables;
-use widl_value::{Flags, Keys, ObjRef, Shape, Value, Values};
+use widl_value::{Flags, Keys, ObjRef, Shape, Value};
 
 /// The kind of an ask.
 fn kind_of(ask: &Ask) -> AskKind
@@ -158,16 +158,11 @@ fn answer(alloc: Global, kind: AskKind, end: JobEnd) -> Answer
 }
 
 /// The frame of a conversation that waits for the end of an ask's work.
-///
-/// # Errors
-///
-/// `AllocError` where there is no memory.
-fn suspend(alloc: Global, asker: CallAsker, kind: AskKind) -> Result<Frame, AllocError>
-    requires { call_pending asker ≡ Some (ask_kind_of kind) }
-    ensures { IfOk result (λ f. (p : Program) (s : ScriptTables) (e : Ended) → back_to p s f e ≡ in_world (call_rest p.list (lines_of p.list p.script) asker (answer_by (ask_kind_of kind) e))) }
+fn suspend(asker: Box<CallAsker>, kind: AskKind) -> Frame
+    requires { call_pending asker.value ≡ Some (ask_kind_of kind) }
+    ensures { (p : Program) (s : ScriptTables) (e : Ended) → back_to p s result e ≡ in_world (call_rest p.list (lines_of p.list p.script) asker.value (answer_by (ask_kind_of kind) e)) }
 {
-    let suspended = Box::new(alloc, Suspended { asker, kind })?;
-    Ok(Frame::Suspended(suspended))
+    Frame::Suspended(Suspended { asker, kind })
 }
 
 /// The move of a conversation that asks this, and waits.
@@ -175,12 +170,12 @@ fn suspend(alloc: Global, asker: CallAsker, kind: AskKind) -> Result<Frame, Allo
 /// # Errors
 ///
 /// `AllocError` where there is no memory.
-fn waits(alloc: Global, asker: CallAsker, ask: Ask) -> Result<Move, AllocError>
-    requires { call_pending asker ≡ Some (the_kind_of (ask_term ask)) }
-    ensures { IfOk result (λ m. (p : Program) (s : ScriptTables) → move_of p s m ≡ Steps (Asked (ask_term ask)) (λ end. in_world (call_rest p.list (lines_of p.list p.script) asker (answer_of (ask_term ask) end)))) }
+fn waits(alloc: Global, asker: Box<CallAsker>, ask: Ask) -> Result<Move, AllocError>
+    requires { call_pending asker.value ≡ Some (the_kind_of (ask_term ask)) }
+    ensures { IfOk result (λ m. (p : Program) (s : ScriptTables) → move_of p s m ≡ Steps (Asked (ask_term ask)) (λ end. in_world (call_rest p.list (lines_of p.list p.script) asker.value (answer_of (ask_term ask) end)))) }
 {
-    let frame = suspend(alloc, asker, kind_of(&ask))?;
-    Ok(Move::Steps(frame, Job::Asked(ask)))
+    let frame = suspend(asker, kind_of(&ask));
+    Ok(Move::Steps(frame, Job::Asked(Box::new(alloc, ask)?)))
 }
 
 /// The move of a conversation by what comes next in it.
@@ -188,9 +183,9 @@ fn waits(alloc: Global, asker: CallAsker, ask: Ask) -> Result<Move, AllocError>
 /// # Errors
 ///
 /// `AllocError` where there is no memory.
-fn goes_on(alloc: Global, asker: CallAsker, next: Next) -> Result<Move, AllocError>
-    requires { IsWaiting asker next }
-    ensures { IfOk result (λ m. (p : Program) (s : ScriptTables) → IsNextMove p s asker next m) }
+fn goes_on(alloc: Global, asker: Box<CallAsker>, next: Next) -> Result<Move, AllocError>
+    requires { IsWaiting asker.value next }
+    ensures { IfOk result (λ m. (p : Program) (s : ScriptTables) → IsNextMove p s asker.value next m) }
 {
     match next {
         Next::Ask(ask) => waits(alloc, asker, ask),
@@ -203,7 +198,7 @@ fn goes_on(alloc: Global, asker: CallAsker, next: Next) -> Result<Move, AllocErr
 }
 
 /// There is no memory for what comes next in a conversation.
-fn no_memory(_asker: CallAsker) -> Result<Move, AllocError>
+fn no_memory(_asker: Box<CallAsker>) -> Result<Move, AllocError>
     ensures { IfOk result (λ m. ⊥) }
 {
     Err(AllocError)
@@ -218,11 +213,11 @@ fn goes(
     alloc: Global,
     tables: &Tables,
     script: &Script,
-    asker: CallAsker,
+    asker: Box<CallAsker>,
     answer: Answer,
 ) -> Result<Move, AllocError>
-    requires { CallExpects asker (answer_term answer) }
-    ensures { IfOk result (λ m. let p : Program = program_of tables.now script.now in IsReadOver p.list script.now → LeadsTo p script.now (in_world (call_rest p.list (lines_of p.list p.script) asker (answer_term answer))) m) }
+    requires { CallExpects asker.value (answer_term answer) }
+    ensures { IfOk result (λ m. let p : Program = program_of tables.now script.now in IsReadOver p.list script.now → LeadsTo p script.now (in_world (call_rest p.list (lines_of p.list p.script) asker.value (answer_term answer))) m) }
 {
     let mut asker = asker;
     let next = asker.resume(tables, script, answer);
@@ -230,29 +225,10 @@ fn goes(
 }
 
 /// The end of a conversation.
-fn talked(_asker: CallAsker, ending: Ending) -> Move
+fn talked(_asker: Box<CallAsker>, ending: Ending) -> Move
     ensures { (p : Program) (s : ScriptTables) → move_of p s result ≡ End (Talked (end_of ending)) }
 {
     Move::Gives(JobEnd::Talked(ending))
-}
-
-/// The move of a conversation after the end of the work that it waits for.
-///
-/// # Errors
-///
-/// `AllocError` where there is no memory.
-fn resumes(
-    alloc: Global,
-    tables: &Tables,
-    script: &Script,
-    suspended: Suspended,
-    end: JobEnd,
-) -> Result<Move, AllocError>
-    ensures { IfOk result (λ m. let p : Program = program_of tables.now script.now in IsReadOver p.list script.now → LeadsTo p script.now (in_world (call_rest p.list (lines_of p.list p.script) suspended.asker (answer_by (ask_kind_of suspended.kind) (job_end_of end)))) m) }
-{
-    let Suspended { asker, kind } = suspended;
-    let answer = answer(alloc, kind, end);
-    goes(alloc, tables, script, asker, answer)
 }
 
 /// The move after the end of the work that a conversation on the stack waits for.
@@ -264,16 +240,47 @@ pub(crate) fn answered(
     alloc: Global,
     tables: &Tables,
     script: &Script,
-    suspended: Box<Suspended>,
+    suspended: Suspended,
     end: JobEnd,
 ) -> Result<Move, AllocError>
     ensures { IfOk result (λ m. let p : Program = program_of tables.now script.now in IsReadOver p.list script.now → LeadsTo p script.now (back_to p script.now (Frame.Suspended suspended) (job_end_of end)) m) }
 {
-    resumes(alloc, tables, script, Box::into_inner(suspended), end)
+    let Suspended { asker, kind } = suspended;
+    let answer = answer(alloc, kind, end);
+    goes(alloc, tables, script, asker, answer)
 }
 
-/// The first move of the conversation of a function: the function's object, which it is, `this` and the
-/// arguments.
+/// The first move of the conversation of a function.
+///
+/// # Errors
+///
+/// `AllocError` where there is no memory.
+fn starts(
+    alloc: Global,
+    tables: &Tables,
+    script: &Script,
+    call: BuiltinCall,
+) -> Result<Move, AllocError>
+    requires few { length call.args < 2 ^ 32 }
+    ensures { IfOk result (λ m. let p : Program = program_of tables.now script.now in IsReadOver p.list script.now → LeadsTo p script.now (rule p (Talk (Function call.f call.what call.this call.args false))) m) }
+{
+    let BuiltinCall {
+        f,
+        what,
+        this,
+        args,
+    } = call;
+    let asker = CallAsker::start(alloc, f, what, this, args, false)?;
+    goes(
+        alloc,
+        tables,
+        script,
+        Box::new(alloc, asker)?,
+        Answer::Begin,
+    )
+}
+
+/// The first move of the conversation of a function in a box.
 ///
 /// # Errors
 ///
@@ -282,14 +289,10 @@ pub(crate) fn begins(
     alloc: Global,
     tables: &Tables,
     script: &Script,
-    f: ObjRef,
-    what: Builtin,
-    this: Value,
-    args: Values,
+    call: Box<BuiltinCall>,
 ) -> Result<Move, AllocError>
-    requires few { length args < 2 ^ 32 }
-    ensures { IfOk result (λ m. let p : Program = program_of tables.now script.now in IsReadOver p.list script.now → LeadsTo p script.now (rule p (job_of script.now (Job.Function f what this args))) m) }
+    requires few { length call.value.args < 2 ^ 32 }
+    ensures { IfOk result (λ m. let p : Program = program_of tables.now script.now in IsReadOver p.list script.now → LeadsTo p script.now (rule p (job_of script.now (Job.Function call))) m) }
 {
-    let asker = CallAsker::start(alloc, f, what, this, args, false)?;
-    goes(alloc, tables, script, asker, Answer::Begin)
+    starts(alloc, tables, script, Box::into_inner(call))
 }

@@ -1,14 +1,14 @@
 //! Calls.
 
-ghost use Rattle.std.specs.Prelude.{◌≡◌};
+ghost use Rattle.std.specs.Prelude.{◌≡◌, IfOk};
 ghost use Rattle.widl_value.specs.declared.object.ObjRef.{ObjRef};
 ghost use Rattle.widl_script_tree.specs.Tables.{Tables};
 ghost use Rattle.widl_trace.specs.EventTerms.{event_term};
 ghost use Rattle.widl_convert.specs.Frames.{end_of};
 ghost use Rattle.widl_runs.specs.Calls.{call, callable, called, construct, end_line, ends_talk, talked};
 ghost use Rattle.widl_runs.specs.Ends.{Returned};
-ghost use Rattle.widl_runs.specs.Jobs.{Doing, Program};
-ghost use Rattle.widl_engine.specs.Frames.{enters_by, job_end_of, leaves_by, move_of};
+ghost use Rattle.widl_runs.specs.Jobs.{CallValue, Doing, Program};
+ghost use Rattle.widl_engine.specs.Frames.{enters_by, job_end_of, job_of, leaves_by, move_of};
 ghost use Rattle.widl_engine.specs.Tested.{if_function};
 
 use crate::charges::{AfterLine, Charge};
@@ -16,8 +16,9 @@ use crate::due::{Body, Due};
 use crate::ends::{Completion, JobEnd};
 use crate::errors::fails;
 use crate::frames::Frame;
-use crate::jobs::Job;
+use crate::jobs::{Calling, Job};
 use crate::moves::{Move, ends, reaches};
+use std::alloc::{AllocError, Global};
 use widl_convert::{Ending, Outcome};
 use widl_trace::{Code, Event};
 use widl_value::{ObjRef, Shape, Value, Values};
@@ -39,11 +40,25 @@ pub(crate) fn callable(value: &Value) -> Option<ObjRef>
     }
 }
 
+/// The call of a value.
+///
+/// # Errors
+///
+/// `AllocError` where there is no memory.
+#[inline(always)]
+pub(crate) fn calls(alloc: Global, f: Value, this: Value, args: Values) -> Result<Job, AllocError>
+    ensures { IfOk result (λ j. (s : Tables) → job_of s j ≡ CallValue f this args) }
+{
+    let calling = Box::new(alloc, Calling { f, this })?;
+    Ok(Job::Call { calling, args })
+}
+
 /// A value is called.
 #[inline(always)]
-pub(crate) fn call(f: Value, this: Value, args: Values) -> Move
-    ensures { (p : Program) (s : Tables) → move_of p s result ≡ call p f this args }
+pub(crate) fn call(calling: Box<Calling>, args: Values) -> Move
+    ensures { (p : Program) (s : Tables) → move_of p s result ≡ call p calling.value.f calling.value.this args }
 {
+    let Calling { f, this } = Box::into_inner(calling);
     match callable(&f) {
         None => fails(Code::NotCallable),
         Some(f) => Move::Acts(Due::FindBody { f, this, args }),
@@ -52,10 +67,10 @@ pub(crate) fn call(f: Value, this: Value, args: Values) -> Move
 
 /// A value constructs.
 #[inline(always)]
-pub(crate) fn construct(f: Value, args: Values) -> Move
-    ensures { (p : Program) (s : Tables) → move_of p s result ≡ construct f args }
+pub(crate) fn construct(f: Box<Value>, args: Values) -> Move
+    ensures { (p : Program) (s : Tables) → move_of p s result ≡ construct f.value args }
 {
-    match f {
+    match Box::into_inner(f) {
         Value::Obj(f) => Move::Acts(Due::FindConstructor { f, args }),
         _ => fails(Code::NoConstructor),
     }

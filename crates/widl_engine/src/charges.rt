@@ -49,7 +49,7 @@ pub enum AfterLine {
     /// The object of the line is thrown.
     Throws,
     /// The script ends so.
-    Ends(JobEnd),
+    Ends(Box<JobEnd>),
     /// The script ends with the thrown value of the line.
     EndsThrown,
 }

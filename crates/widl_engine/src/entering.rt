@@ -13,7 +13,7 @@ use crate::contexts::{Context, Place};
 use crate::due::Due;
 use crate::ends::Completion;
 use crate::frames::Frame;
-use crate::jobs::Job;
+use crate::jobs::{BuiltinCall, Job};
 use crate::moves::{Move, completes};
 use std::alloc::{AllocError, Global};
 use std::mem;
@@ -142,15 +142,13 @@ pub(crate) fn enter_builtin(
     ensures { IfOk result (λ m. (p : Program) (s : Tables) → Performed p s (Due.EnterBuiltin f function this args) store.now place.old store.now place.new m) }
 {
     enter_plain(alloc, place, this.copy()?)?;
-    Ok(Move::Steps(
-        Frame::Talked,
-        Job::Function {
-            f,
-            what: function,
-            this,
-            args,
-        },
-    ))
+    let call = BuiltinCall {
+        f,
+        what: function,
+        this,
+        args,
+    };
+    Ok(Move::Steps(Frame::Talked, Job::Function(Box::new(alloc, call)?)))
 }
 
 /// A context is no longer used.

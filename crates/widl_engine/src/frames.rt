@@ -1,6 +1,6 @@
 //! Frames: what a machine does with the end of a job.
 
-use crate::jobs::{KeyPart, MemberUse, RowUse};
+use crate::jobs::{Member, MemberUse, RowUse};
 use crate::suspended::Suspended;
 use widl_script_tree::Row;
 use widl_value::{Value, Values};
@@ -66,37 +66,26 @@ pub enum ValueFrame {
         /// The arguments.
         args: Row,
     },
-    /// A member is set to it.
-    Sets {
-        /// The value before the member.
-        of: Value,
-        /// The key.
-        key: KeyPart,
-    },
+    /// This member is set to it.
+    Sets(Box<Member>),
     /// A member is defined as it.
     Defines {
-        /// The value before the member.
-        of: Value,
-        /// The key.
-        key: KeyPart,
+        /// The member.
+        member: Box<Member>,
         /// Whether the property isn't enumerable.
         hidden: bool,
     },
     /// It is the getter of a member.
     Getter {
-        /// The value before the member.
-        of: Value,
-        /// The key.
-        key: KeyPart,
+        /// The member.
+        member: Box<Member>,
         /// The place of the setter.
         setter: Option<u32>,
     },
     /// It is the setter.
     Setter {
-        /// The value before the member.
-        of: Value,
-        /// The key.
-        key: KeyPart,
+        /// The member.
+        member: Box<Member>,
         /// The getter.
         getter: Value,
     },
@@ -146,7 +135,7 @@ pub enum Frame {
     /// Ends the call of a function with what its conversation has come to.
     Talked,
     /// A conversation, which goes on.
-    Suspended(Box<Suspended>),
+    Suspended(Suspended),
     /// Ends the script.
     Last,
 }

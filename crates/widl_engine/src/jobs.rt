@@ -12,7 +12,25 @@ pub enum KeyPart {
     /// A name after a point, by its number.
     Named(u32),
     /// The value between brackets.
-    Computed(Value),
+    Computed(Box<Value>),
+}
+
+/// A member of a value before both are tested.
+#[derive(Drop)]
+pub struct Member {
+    /// The value before the member.
+    pub of: Value,
+    /// Its key.
+    pub key: KeyPart,
+}
+
+/// The parts of an accessor before they are tested.
+#[derive(Drop)]
+pub struct AccessorParts {
+    /// The getter.
+    pub getter: Value,
+    /// The setter.
+    pub setter: Option<Value>,
 }
 
 /// What a member is evaluated for, with the places of the expressions that come after it.
@@ -42,23 +60,41 @@ pub enum MemberUse {
     Delete,
 }
 
+/// A call without its arguments.
+#[derive(Drop)]
+pub struct Calling {
+    /// What is called.
+    pub f: Value,
+    /// The value of `this`.
+    pub this: Value,
+}
+
+/// The call of a function that isn't written in the script.
+#[derive(Drop)]
+pub struct BuiltinCall {
+    /// The function's object.
+    pub f: ObjRef,
+    /// Which it is.
+    pub what: Builtin,
+    /// The value of `this`.
+    pub this: Value,
+    /// The arguments.
+    pub args: Values,
+}
+
 /// What the values of a row are for.
 #[derive(Drop)]
 pub enum RowUse {
     /// The arguments of a call.
-    Arguments {
-        /// What is called.
-        f: Value,
-        /// The value of `this`.
-        this: Value,
-    },
+    Arguments(Box<Calling>),
     /// The arguments of a construction by this value.
-    New(Value),
+    New(Box<Value>),
     /// The items of an array.
     Items,
 }
 
-/// An algorithm with its arguments, by places and numbers in the tables of the script.
+/// An algorithm with its arguments, by places and numbers in the tables of the script. What is large lies in
+/// a box, since jobs are handed on by value.
 #[derive(Drop)]
 pub enum Job {
     /// The statements of a row, in order.
@@ -85,34 +121,26 @@ pub enum Job {
     },
     /// A member is set.
     Set {
-        /// The value before it.
-        of: Value,
-        /// Its key.
-        key: KeyPart,
+        /// The member.
+        member: Box<Member>,
         /// The value.
         value: Value,
     },
     /// A member is defined.
     Define {
-        /// The value before it.
-        of: Value,
-        /// Its key.
-        key: KeyPart,
-        /// The value.
-        value: Value,
+        /// The member.
+        member: Box<Member>,
         /// Whether it isn't enumerable.
         hidden: bool,
+        /// The value.
+        value: Value,
     },
     /// A member is defined as an accessor.
     Accessor {
-        /// The value before it.
-        of: Value,
-        /// Its key.
-        key: KeyPart,
-        /// The getter.
-        getter: Value,
-        /// The setter.
-        setter: Option<Value>,
+        /// The member.
+        member: Box<Member>,
+        /// The getter and the setter.
+        parts: Box<AccessorParts>,
     },
     /// A member is deleted.
     Delete {
@@ -123,33 +151,22 @@ pub enum Job {
     },
     /// A value is called.
     Call {
-        /// What is called.
-        f: Value,
-        /// The value of `this`.
-        this: Value,
+        /// What is called, and the value of `this`.
+        calling: Box<Calling>,
         /// The arguments.
         args: Values,
     },
     /// A value constructs.
     Construct {
         /// The constructor.
-        f: Value,
+        f: Box<Value>,
         /// The arguments.
         args: Values,
     },
     /// The conversation of a function that isn't written in the script.
-    Function {
-        /// The function's object.
-        f: ObjRef,
-        /// Which it is.
-        what: Builtin,
-        /// The value of `this`.
-        this: Value,
-        /// The arguments.
-        args: Values,
-    },
+    Function(Box<BuiltinCall>),
     /// The work of an ask.
-    Asked(Ask),
+    Asked(Box<Ask>),
     /// A TypeError is thrown.
     Fail(Code),
 }

@@ -4,7 +4,8 @@ ghost use Rattle.std.specs.Prelude.{◌≡◌, IfOk, Option, Some, None};
 ghost use Rattle.widl_text.specs.declared.key.Key.{Key};
 ghost use Rattle.widl_value.specs.declared.object.ObjRef.{ObjRef};
 ghost use Rattle.widl_script_tree.specs.Tables.{Tables, expression_tree};
-ghost use Rattle.widl_runs.specs.Jobs.{Computed, Doing, Program};
+ghost use Rattle.widl_dialog.specs.Dialog.{End, Steps};
+ghost use Rattle.widl_runs.specs.Jobs.{Computed, DefineAccessor, Doing, Program};
 ghost use Rattle.widl_runs.specs.Members.{define_accessor, define_member, delete_member, accessor_flags, key_of, plain_flags, read_member, set_member, tested, tests_parts, text_key, uses, with_getter};
 ghost use Rattle.std.specs.Prelude.{option_map};
 ghost use Rattle.widl_engine.specs.Frames.{key_part_of, member_use_of, move_of};
@@ -14,8 +15,9 @@ use crate::calls::callable;
 use crate::due::Due;
 use crate::errors::fails;
 use crate::frames::{Frame, ValueFrame};
-use crate::jobs::{Job, KeyPart, MemberUse};
+use crate::jobs::{AccessorParts, Job, KeyPart, Member, MemberUse};
 use crate::moves::{Move, reaches};
+use crate::statements::evaluates;
 use std::alloc::{AllocError, Global};
 use widl_scalar::{ValueText, text_in_value};
 use widl_script_tree::Script;
@@ -45,6 +47,7 @@ pub enum Tested {
 /// What a member is used for, once the value before it and its key are there.
 #[inline(always)]
 pub(crate) fn uses(
+    alloc: Global,
     script: &Script,
     what: MemberUse,
     of: Value,
@@ -60,43 +63,57 @@ pub(crate) fn uses(
             Ok(Move::Steps(Frame::Value(frame), Job::Read { of, key }))
         }
         MemberUse::Set(place) => {
-            let frame = ValueFrame::Sets { of, key };
-            Ok(Move::Steps(Frame::Value(frame), Job::Evaluate(place)))
+            let member = Box::new(alloc, Member { of, key })?;
+            Ok(evaluates(ValueFrame::Sets(member), place))
         }
         MemberUse::Define { value, hidden } => {
-            let frame = ValueFrame::Defines { of, key, hidden };
-            Ok(Move::Steps(Frame::Value(frame), Job::Evaluate(value)))
+            let member = Box::new(alloc, Member { of, key })?;
+            Ok(evaluates(ValueFrame::Defines { member, hidden }, value))
         }
         MemberUse::Accessor { getter, setter } => {
-            let frame = ValueFrame::Getter { of, key, setter };
-            Ok(Move::Steps(Frame::Value(frame), Job::Evaluate(getter)))
+            let member = Box::new(alloc, Member { of, key })?;
+            Ok(evaluates(ValueFrame::Getter { member, setter }, getter))
         }
         MemberUse::Delete => Ok(Move::Goes(Job::Delete { of, key })),
     }
 }
 
+/// A computed key.
+#[inline(always)]
+pub(crate) fn computed(alloc: Global, value: Value) -> Result<KeyPart, AllocError>
+    ensures { IfOk result (λ k. (s : Tables) → key_part_of s k ≡ Computed value) }
+{
+    Ok(KeyPart::Computed(Box::new(alloc, value)?))
+}
+
+/// A member is defined by these parts.
+#[inline(always)]
+pub(crate) fn defines_accessor(
+    alloc: Global,
+    member: Box<Member>,
+    getter: Value,
+    setter: Option<Value>,
+) -> Result<Move, AllocError>
+    ensures { IfOk result (λ m. (p : Program) (s : Tables) → move_of p s m ≡ Steps (DefineAccessor member.value.of (key_part_of s member.value.key) getter setter) End) }
+{
+    let parts = Box::new(alloc, AccessorParts { getter, setter })?;
+    Ok(Move::Goes(Job::Accessor { member, parts }))
+}
+
 /// The setter comes after the getter, where there is one.
 #[inline(always)]
 pub(crate) fn with_getter(
+    alloc: Global,
     script: &Script,
-    of: Value,
-    key: KeyPart,
+    member: Box<Member>,
     setter: Option<u32>,
     getter: Value,
-) -> Move
-    ensures { (p : Program) → move_of p script.now result ≡ with_getter of (key_part_of script.now key) (option_map (expression_tree script.now) setter) getter }
+) -> Result<Move, AllocError>
+    ensures { IfOk result (λ m. (p : Program) → move_of p script.now m ≡ with_getter member.value.of (key_part_of script.now member.value.key) (option_map (expression_tree script.now) setter) getter) }
 {
     match setter {
-        None => Move::Goes(Job::Accessor {
-            of,
-            key,
-            getter,
-            setter: None,
-        }),
-        Some(place) => {
-            let frame = ValueFrame::Setter { of, key, getter };
-            Move::Steps(Frame::Value(frame), Job::Evaluate(place))
-        }
+        None => defines_accessor(alloc, member, getter, None),
+        Some(place) => Ok(evaluates(ValueFrame::Setter { member, getter }, place)),
     }
 }
 
@@ -131,7 +148,7 @@ fn key_of(alloc: Global, script: &Script, key: KeyPart) -> Result<Option<Key>, A
 {
     match key {
         KeyPart::Named(name) => Ok(Some(Key::Name(script.name(name).copy()?))),
-        KeyPart::Computed(value) => value_key(alloc, value),
+        KeyPart::Computed(value) => value_key(alloc, Box::into_inner(value)),
     }
 }
 
@@ -153,6 +170,15 @@ fn test_member(
         },
         _ => Ok(Tested::Stops),
     }
+}
+
+/// The tests of a member in a box.
+#[inline(always)]
+fn test_boxed(alloc: Global, script: &Script, member: Box<Member>) -> Result<Tested, AllocError>
+    ensures { IfOk result (λ t. (k : ObjRef → Key → Doing) → tested k member.value.of (key_part_of script.now member.value.key) ≡ tested_by k t) }
+{
+    let Member { of, key } = Box::into_inner(member);
+    test_member(alloc, script, of, key)
 }
 
 /// A member is read.
@@ -177,13 +203,12 @@ pub(crate) fn read_member(
 pub(crate) fn set_member(
     alloc: Global,
     script: &Script,
-    of: Value,
-    key: KeyPart,
+    member: Box<Member>,
     value: Value,
 ) -> Result<Move, AllocError>
-    ensures { IfOk result (λ m. (p : Program) → move_of p script.now m ≡ set_member of (key_part_of script.now key) value) }
+    ensures { IfOk result (λ m. (p : Program) → move_of p script.now m ≡ set_member member.value.of (key_part_of script.now member.value.key) value) }
 {
-    match test_member(alloc, script, of, key)? {
+    match test_boxed(alloc, script, member)? {
         Tested::Member(obj, key) => Ok(Move::Acts(Due::Put { obj, key, value })),
         Tested::Refused(code) => Ok(fails(code)),
         Tested::Stops => Ok(reaches(4)),
@@ -207,14 +232,13 @@ fn plain_flags(hidden: bool) -> Flags
 pub(crate) fn define_member(
     alloc: Global,
     script: &Script,
-    of: Value,
-    key: KeyPart,
+    member: Box<Member>,
     value: Value,
     hidden: bool,
 ) -> Result<Move, AllocError>
-    ensures { IfOk result (λ m. (p : Program) → move_of p script.now m ≡ define_member of (key_part_of script.now key) value hidden) }
+    ensures { IfOk result (λ m. (p : Program) → move_of p script.now m ≡ define_member member.value.of (key_part_of script.now member.value.key) value hidden) }
 {
-    match test_member(alloc, script, of, key)? {
+    match test_boxed(alloc, script, member)? {
         Tested::Member(obj, key) => Ok(Move::Acts(Due::Define {
             obj,
             key,
@@ -246,9 +270,10 @@ fn accessor(obj: ObjRef, key: Key, get: ObjRef, set: Option<ObjRef>) -> Move
 
 /// The parts of an accessor are tested, the getter first.
 #[inline(always)]
-fn tests_parts(obj: ObjRef, key: Key, getter: Value, setter: Option<Value>) -> Move
-    ensures { (p : Program) (s : Tables) → move_of p s result ≡ tests_parts getter setter obj key }
+fn tests_parts(obj: ObjRef, key: Key, parts: Box<AccessorParts>) -> Move
+    ensures { (p : Program) (s : Tables) → move_of p s result ≡ tests_parts parts.value.getter parts.value.setter obj key }
 {
+    let AccessorParts { getter, setter } = Box::into_inner(parts);
     match callable(&getter) {
         None => fails(Code::NotCallable),
         Some(getter) => match setter {
@@ -266,15 +291,13 @@ fn tests_parts(obj: ObjRef, key: Key, getter: Value, setter: Option<Value>) -> M
 pub(crate) fn define_accessor(
     alloc: Global,
     script: &Script,
-    of: Value,
-    key: KeyPart,
-    getter: Value,
-    setter: Option<Value>,
+    member: Box<Member>,
+    parts: Box<AccessorParts>,
 ) -> Result<Move, AllocError>
-    ensures { IfOk result (λ m. (p : Program) → move_of p script.now m ≡ define_accessor of (key_part_of script.now key) getter setter) }
+    ensures { IfOk result (λ m. (p : Program) → move_of p script.now m ≡ define_accessor member.value.of (key_part_of script.now member.value.key) parts.value.getter parts.value.setter) }
 {
-    match test_member(alloc, script, of, key)? {
-        Tested::Member(obj, key) => Ok(tests_parts(obj, key, getter, setter)),
+    match test_boxed(alloc, script, member)? {
+        Tested::Member(obj, key) => Ok(tests_parts(obj, key, parts)),
         Tested::Refused(code) => Ok(fails(code)),
         Tested::Stops => Ok(reaches(4)),
     }

@@ -1,14 +1,18 @@
 //! The next move.
 
-ghost use Rattle.std.specs.Prelude.{◌≡◌, [], IfOk};
-ghost use Rattle.widl_dialog.specs.Dialog.{End};
-ghost use Rattle.widl_script_tree.specs.Tables.{Tables as ScriptTables, name_at, statements_tree};
+ghost use Rattle.std.specs.Prelude.{◌≡◌, IfOk};
+ghost use Rattle.widl_dialog.specs.Dialog.{End, Say};
+ghost use Rattle.widl_script_tree.specs.Tables.{Tables as ScriptTables, expressions_tree, name_at, statements_tree};
+ghost use Rattle.widl_runs.specs.Actions.{Write};
 ghost use Rattle.widl_runs.specs.Ends.{Normal};
+ghost use Rattle.widl_runs.specs.Expressions.{constructs_with as the_constructs_with};
 ghost use Rattle.widl_runs.specs.Fitting.{FitsJob};
 ghost use Rattle.widl_runs.specs.Jobs.{Program, nothing, reaches, value as goes_on_with};
+ghost use Rattle.widl_runs.specs.Members.{calls_with as the_calls_with};
 ghost use Rattle.widl_runs.specs.Rules.{rule};
 ghost use Rattle.widl_runs.specs.Statements.{caught as the_caught};
-ghost use Rattle.widl_runs.specs.Traces.{last_line as the_last_line};
+ghost use Rattle.widl_runs.specs.Traces.{ends_script as the_ends_script, last_line as the_last_line};
+ghost use Rattle.widl_trace.specs.EventTerms.{event_term};
 ghost use Rattle.widl_engine.specs.Frames.{LeadsTo, after_charge, after_line, after_unit, back_to, completion_end, ends_by, job_end_of, job_of, move_of, program_of, throws_by, value_to};
 ghost use Rattle.widl_engine.specs.ReadOver.{IsReadOver};
 
@@ -16,7 +20,7 @@ use crate::charges::{AfterLine, Charge, Unit};
 use crate::due::{Due, Made, New, Then};
 use crate::ends::{Completion, JobEnd};
 use crate::frames::{Frame, ValueFrame};
-use crate::jobs::{Job, KeyPart, RowUse};
+use crate::jobs::{Calling, Job, KeyPart, RowUse};
 use crate::{answering, asks, calls, errors, expressions, members, rows, statements};
 use std::alloc::{AllocError, Global};
 use widl_script_tree::{Row, Script};
@@ -88,29 +92,18 @@ pub(crate) fn begin(
         Job::Evaluate(place) => expressions::evaluate(alloc, script, place),
         Job::Row { what, made, row } => Ok(rows::evaluate_row(script, what, made, row)),
         Job::Read { of, key } => members::read_member(alloc, script, of, key),
-        Job::Set { of, key, value } => members::set_member(alloc, script, of, key, value),
+        Job::Set { member, value } => members::set_member(alloc, script, member, value),
         Job::Define {
-            of,
-            key,
-            value,
+            member,
             hidden,
-        } => members::define_member(alloc, script, of, key, value, hidden),
-        Job::Accessor {
-            of,
-            key,
-            getter,
-            setter,
-        } => members::define_accessor(alloc, script, of, key, getter, setter),
+            value,
+        } => members::define_member(alloc, script, member, value, hidden),
+        Job::Accessor { member, parts } => members::define_accessor(alloc, script, member, parts),
         Job::Delete { of, key } => members::delete_member(alloc, script, of, key),
-        Job::Call { f, this, args } => Ok(calls::call(f, this, args)),
+        Job::Call { calling, args } => Ok(calls::call(calling, args)),
         Job::Construct { f, args } => Ok(calls::construct(f, args)),
-        Job::Function {
-            f,
-            what,
-            this,
-            args,
-        } => answering::begins(alloc, tables, script, f, what, this, args),
-        Job::Asked(ask) => Ok(asks::asks(ask)),
+        Job::Function(call) => answering::begins(alloc, tables, script, call),
+        Job::Asked(ask) => asks::asks(alloc, ask),
         Job::Fail(code) => Ok(errors::fail(code)),
     }
 }
@@ -185,7 +178,7 @@ fn line_written(
         AfterLine::Own => Ok(asks::finds_own(event)),
         AfterLine::Leaves => Ok(calls::leaves(event)),
         AfterLine::Throws => Ok(throws(event)),
-        AfterLine::Ends(end) => Ok(Move::Gives(end)),
+        AfterLine::Ends(end) => Ok(Move::Gives(Box::into_inner(end))),
         AfterLine::EndsThrown => Ok(ends_thrown(event)),
     }
 }
@@ -258,31 +251,29 @@ fn valued(
             same,
             otherwise,
         } => Ok(statements::chooses(script, left, same, otherwise, value)),
-        ValueFrame::Name { what, name } => members::uses(script, what, value, KeyPart::Named(name)),
+        ValueFrame::Name { what, name } => {
+            members::uses(alloc, script, what, value, KeyPart::Named(name))
+        }
         ValueFrame::Key { what, key } => {
             let frame = ValueFrame::KeyOf { what, of: value };
             Ok(Move::Steps(Frame::Value(frame), Job::Evaluate(key)))
         }
         ValueFrame::KeyOf { what, of } => {
-            members::uses(script, what, of, KeyPart::Computed(value))
+            members::uses(alloc, script, what, of, members::computed(alloc, value)?)
         }
-        ValueFrame::Calls { this, args } => Ok(calls_with(alloc, value, this, args)),
-        ValueFrame::Sets { of, key } => Ok(Move::Goes(Job::Set { of, key, value })),
-        ValueFrame::Defines { of, key, hidden } => Ok(Move::Goes(Job::Define {
-            of,
-            key,
-            value,
+        ValueFrame::Calls { this, args } => calls_with(alloc, value, this, args),
+        ValueFrame::Sets(member) => Ok(Move::Goes(Job::Set { member, value })),
+        ValueFrame::Defines { member, hidden } => Ok(Move::Goes(Job::Define {
+            member,
             hidden,
+            value,
         })),
-        ValueFrame::Getter { of, key, setter } => {
-            Ok(members::with_getter(script, of, key, setter, value))
+        ValueFrame::Getter { member, setter } => {
+            members::with_getter(alloc, script, member, setter, value)
         }
-        ValueFrame::Setter { of, key, getter } => Ok(Move::Goes(Job::Accessor {
-            of,
-            key,
-            getter,
-            setter: Some(value),
-        })),
+        ValueFrame::Setter { member, getter } => {
+            members::defines_accessor(alloc, member, getter, Some(value))
+        }
         ValueFrame::Prototype => Ok(expressions::object_of(value)),
         ValueFrame::InRow { what, made, rest } => {
             expressions::next_in_row(script, what, made, rest, value)
@@ -291,25 +282,35 @@ fn valued(
             let frame = ValueFrame::ThisOf { f: value, args };
             Ok(Move::Steps(Frame::Value(frame), Job::Evaluate(this)))
         }
-        ValueFrame::ThisOf { f, args } => Ok(calls_with(alloc, f, value, args)),
-        ValueFrame::Constructs(args) => Ok(Move::Goes(Job::Row {
-            what: RowUse::New(value),
-            made: Values::new(alloc),
-            row: args,
-        })),
+        ValueFrame::ThisOf { f, args } => calls_with(alloc, f, value, args),
+        ValueFrame::Constructs(args) => constructs_with(alloc, value, args),
     }
 }
 
 /// The arguments of a call are evaluated.
 #[inline(always)]
-fn calls_with(alloc: Global, f: Value, this: Value, args: Row) -> Move
-    ensures { result ≡ Move.Goes (Job.Row (RowUse.Arguments f this) [] args) }
+fn calls_with(alloc: Global, f: Value, this: Value, args: Row) -> Result<Move, AllocError>
+    ensures { IfOk result (λ m. (p : Program) (s : ScriptTables) → move_of p s m ≡ the_calls_with this (expressions_tree s args) f) }
 {
-    Move::Goes(Job::Row {
-        what: RowUse::Arguments { f, this },
+    let calling = Box::new(alloc, Calling { f, this })?;
+    Ok(Move::Goes(Job::Row {
+        what: RowUse::Arguments(calling),
         made: Values::new(alloc),
         row: args,
-    })
+    }))
+}
+
+/// The arguments of a construction are evaluated.
+#[inline(always)]
+fn constructs_with(alloc: Global, f: Value, args: Row) -> Result<Move, AllocError>
+    ensures { IfOk result (λ m. (p : Program) (s : ScriptTables) → move_of p s m ≡ the_constructs_with (expressions_tree s args) f) }
+{
+    let f = Box::new(alloc, f)?;
+    Ok(Move::Goes(Job::Row {
+        what: RowUse::New(f),
+        made: Values::new(alloc),
+        row: args,
+    }))
 }
 
 /// A frame isn't needed any more. It is dropped here alone, since a function pays for the room of all that it may drop.
@@ -374,29 +375,29 @@ fn ends_script(event: Event, then: AfterLine) -> Move
 
 /// The last line of a script that ends so.
 #[inline(always)]
-fn done(end: JobEnd) -> Move
-    ensures { result ≡ Move.Pays (Charge.Line Event.Done (AfterLine.Ends end)) }
+fn done(alloc: Global, end: JobEnd) -> Result<Move, AllocError>
+    ensures { IfOk result (λ m. (p : Program) (s : ScriptTables) → move_of p s m ≡ Say (Write (event_term Event.Done)) (the_ends_script (job_end_of end))) }
 {
-    ends_script(Event::Done, AfterLine::Ends(end))
+    Ok(ends_script(Event::Done, AfterLine::Ends(Box::new(alloc, end)?)))
 }
 
 /// The last line.
 #[inline(always)]
-fn last_line(end: JobEnd) -> Move
-    ensures { (p : Program) (s : ScriptTables) → move_of p s result ≡ the_last_line (job_end_of end) }
+fn last_line(alloc: Global, end: JobEnd) -> Result<Move, AllocError>
+    ensures { IfOk result (λ m. (p : Program) (s : ScriptTables) → move_of p s m ≡ the_last_line (job_end_of end)) }
 {
     match end {
         JobEnd::Completed(Completion::Normal(value)) => {
-            done(JobEnd::Completed(Completion::Normal(value)))
+            done(alloc, JobEnd::Completed(Completion::Normal(value)))
         }
         JobEnd::Completed(Completion::Returned(value)) => {
-            done(JobEnd::Completed(Completion::Returned(value)))
+            done(alloc, JobEnd::Completed(Completion::Returned(value)))
         }
         JobEnd::Completed(Completion::Thrown(value)) => {
-            ends_script(Event::Uncaught(value), AfterLine::EndsThrown)
+            Ok(ends_script(Event::Uncaught(value), AfterLine::EndsThrown))
         }
-        JobEnd::Talked(ending) => done(JobEnd::Talked(ending)),
-        JobEnd::Seen(answer) => done(JobEnd::Seen(answer)),
+        JobEnd::Talked(ending) => done(alloc, JobEnd::Talked(ending)),
+        JobEnd::Seen(answer) => done(alloc, JobEnd::Seen(answer)),
     }
 }
 
@@ -417,6 +418,6 @@ pub(crate) fn returned(
         Frame::Called => Ok(calls::called(end)),
         Frame::Talked => Ok(calls::talked(end)),
         Frame::Suspended(suspended) => answering::answered(alloc, tables, script, suspended, end),
-        Frame::Last => Ok(last_line(end)),
+        Frame::Last => last_line(alloc, end),
     }
 }

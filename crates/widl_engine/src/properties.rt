@@ -9,11 +9,11 @@ ghost use Rattle.widl_engine.specs.Frames.{move_of};
 ghost use Rattle.widl_engine.specs.Place.{Performed};
 ghost use Rattle.widl_engine.specs.Shown.{IsDefineAnswer, IsPutAnswer, shown};
 
+use crate::calls::calls;
 use crate::contexts::Place;
 use crate::due::Due;
 use crate::errors::fails;
 use crate::frames::{Frame, ValueFrame};
-use crate::jobs::Job;
 use crate::moves::{Move, ends, gives, reaches};
 use std::alloc::{AllocError, Global};
 use widl_store::{DefineFault, Found, NotConfigurable, Prop, Put, PutFault, Store};
@@ -30,11 +30,11 @@ fn found(alloc: Global, obj: ObjRef, found: Found<'_>) -> Result<Move, AllocErro
 {
     match found {
         Found::Held(value) => Ok(gives(value.copy()?)),
-        Found::Getter(getter) => Ok(Move::Goes(Job::Call {
-            f: Value::Obj(getter),
-            this: Value::Obj(obj),
-            args: Values::new(alloc),
-        })),
+        Found::Getter(getter) => {
+            let args = Values::new(alloc);
+            let call = calls(alloc, Value::Obj(getter), Value::Obj(obj), args)?;
+            Ok(Move::Goes(call))
+        }
         Found::NoGetter => Ok(ends()),
         Found::Nothing => Ok(ends()),
     }
@@ -72,11 +72,7 @@ fn put_done(alloc: Global, obj: ObjRef, answer: Result<Put, PutFault>) -> Result
         Ok(Put::Done) => Ok(ends()),
         Ok(Put::Setter(setter, value)) => {
             let args = only(alloc, value)?;
-            let call = Job::Call {
-                f: Value::Obj(setter),
-                this: Value::Obj(obj),
-                args,
-            };
+            let call = calls(alloc, Value::Obj(setter), Value::Obj(obj), args)?;
             Ok(Move::Steps(Frame::Value(ValueFrame::Drops), call))
         }
         Err(PutFault::ReadOnly(_flags)) => Ok(fails(Code::ReadOnly)),

@@ -20,9 +20,8 @@ fn row_done(what: RowUse, made: Values) -> Move
     ensures { (p : Program) (s : Tables) → move_of p s result ≡ row_done (row_use_of what) made }
 {
     match what {
-        RowUse::Arguments { f, this } => Move::Goes(Job::Call {
-            f,
-            this,
+        RowUse::Arguments(calling) => Move::Goes(Job::Call {
+            calling,
             args: made,
         }),
         RowUse::New(f) => Move::Goes(Job::Construct { f, args: made }),

@@ -59,7 +59,7 @@ pub(crate) fn run_statement(script: &Script, place: u32) -> Move
 
 /// The value of an expression is for a frame.
 #[inline(always)]
-fn evaluates(frame: ValueFrame, place: u32) -> Move
+pub(crate) fn evaluates(frame: ValueFrame, place: u32) -> Move
     ensures { result ≡ Move.Steps (Frame.Value frame) (Job.Evaluate place) }
 {
     Move::Steps(Frame::Value(frame), Job::Evaluate(place))

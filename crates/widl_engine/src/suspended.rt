@@ -38,9 +38,9 @@ pub enum AskKind {
 /// A conversation that waits for the end of the work of an ask, whatever else is done until then.
 #[derive(Drop)]
 pub struct Suspended {
-    /// The conversation.
-    pub asker: CallAsker,
+    /// The conversation; in a box, where it stays as long as it goes on.
+    pub asker: Box<CallAsker>,
     /// The kind of the ask.
     pub kind: AskKind,
-    ghost waits: { call_pending asker ≡ Some (ask_kind_of kind) },
+    ghost waits: { call_pending asker.value ≡ Some (ask_kind_of kind) },
 }

@@ -1,13 +1,13 @@
 -- For proofs alone. The tasks of conversations are calm: between two asks that pay they only go to lower ones.
 use Rattle.std.proofs.Common.{◌≡◌, ℕ, zero, suc, ◌+◌, ◌^◌, ◌<◌, ℤ, List, [], ◌∷◌, ◌++◌, Option, Some, None, Bool, true, false, length, refl, arith, if◌then◌else◌}
-use Rattle.std.specs.Prelude.{codes, nat_abs, nat_eq, nat_le, slice_get, take}
+use Rattle.std.specs.Prelude.{◌&&◌, codes, nat_abs, nat_eq, nat_le, slice_get, take}
 use Rattle.std.specs.declared.result.Result.{Result}
 use Rattle.std.specs.declared.result.Result.TheVariants as results
 use Rattle.std.proofs.lemmas.Bool.{cond_both}
 use Rattle.std.proofs.lemmas.Option.{slice_get_within}
 use Rattle.std.proofs.lemmas.List.{length-append, length-take}
 use mathlib.Core.Logic.{inl, inr}
-use Rattle.widl_dialog.specs.Dialog.{End, Steps}
+use Rattle.widl_dialog.specs.Dialog.{End, Say, Steps}
 use Rattle.widl_dialog.specs.Calm.{Below, Calm, Spends}
 use Rattle.widl_dialog.specs.Lift.{lift}
 use Rattle.widl_dialog.specs.Rename.{rename}
@@ -19,9 +19,11 @@ use Rattle.widl_idl.specs.declared.literal.Literal.TheVariants as literals
 use Rattle.widl_idl.specs.declared.text_kind.TextKind.{TextKind}
 use Rattle.widl_idl.specs.declared.text_kind.TextKind.TheVariants as texts
 use Rattle.widl_idl.specs.DefinitionTerms.{ArgTerm}
-use Rattle.widl_idl.specs.Terms.{TypeTerm, AnyType, UndefinedType, BooleanType, IntegerType, StringType, EnumerationType, InterfaceType, CallbackFunctionType, CallbackInterfaceType, DictionaryType, ObjectType, SequenceType, RecordType, PromiseType, NullableType, UnionType}
+use Rattle.widl_idl.specs.Flattened.{flattened_members, includes_nullable_type}
+use Rattle.widl_idl.specs.Terms.{TypeTerm, TypeTerms, AnyType, UndefinedType, BooleanType, IntegerType, StringType, EnumerationType, InterfaceType, CallbackFunctionType, CallbackInterfaceType, DictionaryType, ObjectType, SequenceType, RecordType, PromiseType, NullableType, UnionType}
 use Rattle.widl_overload.specs.Sets.{TupleTerm, is_variadic}
 use Rattle.widl_text.specs.declared.key.Key.{Key}
+use Rattle.widl_text.specs.declared.key.Key.TheVariants as keys
 use Rattle.widl_value.specs.Classes.{class_of}
 use Rattle.widl_value.specs.declared.number.Number.{Number}
 use Rattle.widl_value.specs.declared.object.ObjRef.{ObjRef}
@@ -42,27 +44,34 @@ use Rattle.widl_store.specs.declared.inner.Builtin.TheVariants as builtins
 use Rattle.widl_store.specs.declared.inner.Turn.{Turn}
 use Rattle.widl_store.specs.declared.inner.Turn.TheVariants.{Idle, Running, Ended}
 use Rattle.widl_script_tree.specs.declared.steps.StepLine.{StepLine}
-use Rattle.widl_tables.specs.Picks.{pick_of}
+use Rattle.widl_tables.specs.Picks.{pick_of, pick_member_of}
+use Rattle.widl_tables.specs.Tests.{is_null_or_undefined}
 use Rattle.widl_tables.specs.Kept.{argcount_of, declared_args, entry_alone, kept_tuples, optionality_at, type_at}
 use Rattle.widl_tables.specs.declared.pick.Pick.{Pick}
 use Rattle.widl_tables.specs.declared.pick.Pick.TheVariants.{Entry, Probe, Refuse}
+use Rattle.widl_trace.specs.declared.code.Code.{Code}
 use Rattle.widl_trace.specs.declared.code.Code.TheVariants as code
 use Rattle.widl_convert.specs.declared.answer.CursorState.{CursorState}
 use Rattle.widl_convert.specs.declared.answer.CursorState.TheVariants as cursors
 use Rattle.widl_convert.specs.declared.hint.Hint.{Hint}
 use Rattle.widl_convert.specs.declared.outcome.Want.{Want}
 use Rattle.widl_convert.specs.declared.outcome.Want.TheVariants as wants
-use Rattle.widl_convert.specs.AskTerms.{CursorAsk}
-use Rattle.widl_convert.specs.Built.{built_today}
+use Rattle.widl_convert.specs.AskTerms.{CursorAsk, GetAsk, OwnKeysAsk}
+use Rattle.widl_convert.specs.Built.{built_today, is_built_type}
 use Rattle.widl_convert.specs.Defaults.{default, default_given, defaults_from, literal_value}
+use Rattle.widl_convert.specs.Dictionaries.{members, to_dictionary}
+use Rattle.widl_tables.specs.MemberOrder.{DeclaredMember}
+use Rattle.widl_convert.specs.Nullables.{to_nullable}
 use Rattle.widl_convert.specs.Primitives.{to_primitive}
-use Rattle.widl_convert.specs.Records.{entries}
+use Rattle.widl_convert.specs.Records.{entries, keys_in}
 use Rattle.widl_convert.specs.Resolution.{argument, argument_given, arguments, default_at, picked, takes_default, with_entries}
 use Rattle.widl_convert.specs.Results.{out, out_items, out_units}
 use Rattle.widl_convert.specs.Rules.{rule as task_rule}
-use Rattle.widl_convert.specs.Scalars.{convert, enumeration_result, integer_result, is_bytes, null_or_string, string_result, to_number, to_scalar, to_string}
+use Rattle.widl_convert.specs.Scalars.{convert, convert_plain, enumeration_result, integer_result, is_bytes, null_or_string, string_result, to_number, to_plain, to_scalar, to_string, to_type}
+use Rattle.widl_convert.specs.Sequences.{found_iterator_method, iterator_symbol}
 use Rattle.widl_convert.specs.Tasks.{Task, Primitive, Scalar, Convert, SequenceFrom, Turns, Entries, Members, Resolve, Arguments, Default, Defaults, Out, OutItems, OutUnits, Container, ArrayOf, ObjectOf, TaskEnd, Gives, Plain, Picks, Throw, Rethrow, Profile, Talk as TaskTalk}
-use Rattle.widl_convert.specs.Words.{fails, given, gives, no_whole_number, not_built, number, object, returned, returns, text}
+use Rattle.widl_convert.specs.Unions.{member_picked, member_probed, to_member, to_union}
+use Rattle.widl_convert.specs.Words.{fails, given, gives, no_whole_number, normal, not_built, number, object, returned, returns, text}
 use Rattle.widl_calls.specs.ArrayFunctions.{array_iterator_next, array_values, by_cursor, by_turn, cursor_in}
 use Rattle.widl_calls.specs.BuiltCalls.{calls_built_today, is_built_function}
 use Rattle.widl_calls.specs.CallRules.{call_rule, function, intrinsic}
@@ -195,38 +204,99 @@ module _ (p : Program) where
   calm_enumeration n None = tt
   calm_enumeration n (Some place) = tt
 
-  calm_object : (v : Value) → IsCalm 0 3 (object code.NotObject (λ o. gives (ObjectValue o)) v)
-  calm_object values.Undefined = tt
-  calm_object values.Null = tt
-  calm_object (values.Bool b) = tt
-  calm_object (values.Num x) = tt
-  calm_object (values.Str units) = tt
-  calm_object (values.Sym id) = tt
-  calm_object (values.Obj o) = tt
+  calm_object : (why : Code) (k : ObjRef → TaskTalk) → ((o : ObjRef) → IsCalm 0 3 (k o)) → (v : Value) → IsCalm 0 3 (object why k v)
+  calm_object why k each values.Undefined = tt
+  calm_object why k each values.Null = tt
+  calm_object why k each (values.Bool b) = tt
+  calm_object why k each (values.Num x) = tt
+  calm_object why k each (values.Str units) = tt
+  calm_object why k each (values.Sym id) = tt
+  calm_object why k each (values.Obj o) = each o
+
+  calm_dictionary : (n : ℕ) (v : Value) → IsCalm 0 3 (to_dictionary p.list n v)
+  calm_dictionary n values.Undefined = (inr (refl, omega arith), λ b. tt)
+  calm_dictionary n values.Null = (inr (refl, omega arith), λ b. tt)
+  calm_dictionary n (values.Bool b) = tt
+  calm_dictionary n (values.Num x) = tt
+  calm_dictionary n (values.Str units) = tt
+  calm_dictionary n (values.Sym id) = tt
+  calm_dictionary n (values.Obj o) = (inr (refl, omega arith), λ b. tt)
+
+  -- a type that is neither nullable nor a union
+  calm_plain : (t : TypeTerm) (v : Value) → IsCalm 0 3 (to_plain p.list t v)
+  calm_plain AnyType v = tt
+  calm_plain UndefinedType v = tt
+  calm_plain BooleanType v = tt
+  calm_plain (IntegerType kind mode) v = (inr (refl, omega arith), λ b. calm_number 0 3 _ (λ x. calm_integer (integer_of x kind mode)) (task_end_in b))
+  calm_plain (StringType kind null_empty) v = calm_null_or null_empty kind v
+  calm_plain (EnumerationType n) v = (inr (refl, omega arith), λ b. calm_text 0 3 _ (λ units. calm_enumeration n (value_place p.list.choices n units)) (task_end_in b))
+  calm_plain (InterfaceType n) v = tt
+  calm_plain (CallbackFunctionType n) v = tt
+  calm_plain (CallbackInterfaceType n) v = tt
+  calm_plain (DictionaryType n) v = calm_dictionary n v
+  calm_plain ObjectType v = calm_object code.NotObject (λ o. gives (ObjectValue o)) (λ o. tt) v
+  calm_plain (SequenceType t) v = calm_object code.NotObject (λ o. Say (GetAsk o (keys.Sym iterator_symbol)) (normal (found_iterator_method t o))) (λ o. (inl (omega arith), tt)) v
+  calm_plain (RecordType key t) v = calm_object code.NotObject (λ o. Say (OwnKeysAsk o) (λ a. Steps (Entries key t o (keys_in a) []) End)) (λ o. (inl (omega arith), tt)) v
+  calm_plain (PromiseType t) v = tt
+  calm_plain (NullableType t) v = tt
+  calm_plain (UnionType ts) v = tt
+
+  calm_if_built : (t : TypeTerm) (d : TaskTalk) → IsCalm 0 3 d → IsCalm 0 3 (if is_built_type t then d else not_built)
+  calm_if_built t d x = cond_both (is_built_type t) d not_built (IsCalm 0 3) (λ i. x) (λ i. tt)
+
+  calm_member : (t : Option TypeTerm) (v : Value) → IsCalm 0 3 (to_member (convert_plain built_today p.list) t v)
+  calm_member None v = tt
+  calm_member (Some t) v = calm_if_built t (to_plain p.list t v) (calm_plain t v)
+
+  -- the method is read for a charge
+  calm_member_picked : (ts : TypeTerms) (v : Value) (pick : Pick) → IsCalm 0 3 (member_picked (convert_plain built_today p.list) built_today p.list ts v pick)
+  calm_member_picked ts v (Entry place) = calm_member (slice_get (flattened_members ts) place) v
+  calm_member_picked ts v (Probe place) = calm_object code.Union (λ o. Say (GetAsk o (keys.Sym iterator_symbol)) (normal (member_probed (convert_plain built_today p.list) built_today p.list ts place o))) (λ o. (inl (omega arith), tt)) v
+  calm_member_picked ts v Refuse = tt
+
+  calm_union : (ts : TypeTerms) (v : Value) → IsCalm 0 3 (to_union (convert_plain built_today p.list) built_today p.list ts v)
+  calm_union ts v = cond_both (includes_nullable_type (UnionType ts) && is_null_or_undefined (class_of v)) _ _ (IsCalm 0 3) (λ i. tt) (λ i. calm_member_picked ts v (pick_member_of p.list ts (class_of v) false))
+
+  calm_nullable : (inner : Value → TaskTalk) → ((v : Value) → IsCalm 0 3 (inner v)) → (v : Value) → IsCalm 0 3 (to_nullable inner v)
+  calm_nullable inner each values.Undefined = tt
+  calm_nullable inner each values.Null = tt
+  calm_nullable inner each (values.Bool b) = each (values.Bool b)
+  calm_nullable inner each (values.Num x) = each (values.Num x)
+  calm_nullable inner each (values.Str units) = each (values.Str units)
+  calm_nullable inner each (values.Sym id) = each (values.Sym id)
+  calm_nullable inner each (values.Obj o) = each (values.Obj o)
+
+  calm_type : (t : TypeTerm) (v : Value) → IsCalm 0 3 (to_type built_today p.list t v)
+  calm_type AnyType v = calm_plain AnyType v
+  calm_type UndefinedType v = calm_plain UndefinedType v
+  calm_type BooleanType v = calm_plain BooleanType v
+  calm_type (IntegerType kind mode) v = calm_plain (IntegerType kind mode) v
+  calm_type (StringType kind null_empty) v = calm_plain (StringType kind null_empty) v
+  calm_type (EnumerationType n) v = calm_plain (EnumerationType n) v
+  calm_type (InterfaceType n) v = calm_plain (InterfaceType n) v
+  calm_type (CallbackFunctionType n) v = calm_plain (CallbackFunctionType n) v
+  calm_type (CallbackInterfaceType n) v = calm_plain (CallbackInterfaceType n) v
+  calm_type (DictionaryType n) v = calm_plain (DictionaryType n) v
+  calm_type ObjectType v = calm_plain ObjectType v
+  calm_type (SequenceType t) v = calm_plain (SequenceType t) v
+  calm_type (RecordType key t) v = calm_plain (RecordType key t) v
+  calm_type (PromiseType t) v = calm_plain (PromiseType t) v
+  calm_type (NullableType t) v = calm_nullable (to_type built_today p.list t) (calm_type t) v
+  calm_type (UnionType ts) v = calm_union ts v
 
   calm_convert : (t : TypeTerm) (v : Value) → IsCalm 0 3 (convert built_today p.list t v)
-  calm_convert AnyType v = tt
-  calm_convert UndefinedType v = tt
-  calm_convert BooleanType v = tt
-  calm_convert (IntegerType kind mode) v = (inr (refl, omega arith), λ b. calm_number 0 3 _ (λ x. calm_integer (integer_of x kind mode)) (task_end_in b))
-  calm_convert (StringType kind null_empty) v = calm_null_or null_empty kind v
-  calm_convert (EnumerationType n) v = (inr (refl, omega arith), λ b. calm_text 0 3 _ (λ units. calm_enumeration n (value_place p.list.choices n units)) (task_end_in b))
-  calm_convert (InterfaceType n) v = tt
-  calm_convert (CallbackFunctionType n) v = tt
-  calm_convert (CallbackInterfaceType n) v = tt
-  calm_convert (DictionaryType n) v = tt
-  calm_convert ObjectType v = calm_object v
-  calm_convert (SequenceType t) v = tt
-  calm_convert (RecordType key t) v = tt
-  calm_convert (PromiseType t) v = tt
-  calm_convert (NullableType t) v = tt
-  calm_convert (UnionType ts) v = tt
+  calm_convert t v = calm_if_built t (to_type built_today p.list t v) (calm_type t v)
 
   -- 3. Containers
 
   calm_entries : (key : TextKind) (t : TypeTerm) (o : ObjRef) (left : List Key) (made : List (List ℕ × IdlTerm)) → IsCalm 0 0 (entries key t o left made)
   calm_entries key t o [] made = tt
   calm_entries key t o (k ∷ left) made = (inl (omega arith), tt)
+
+  calm_members : (n : ℕ) (o : Option ObjRef) (left : List DeclaredMember) (made : List (ℕ × ℕ × IdlTerm)) → IsCalm 0 0 (members n o left made)
+  calm_members n o [] made = tt
+  calm_members n None (m ∷ left) made = (inl (omega arith), tt)
+  calm_members n (Some o) (m ∷ left) made = (inl (omega arith), tt)
 
   calm_items : (container : Container) (left : IdlTerms) (made : List Value) → IsCalm 0 (1 + count_of_values left) (out_items container left made)
   calm_items container no_values made = (inr (refl, omega arith), λ b. tt)
@@ -337,7 +407,7 @@ module _ (p : Program) where
   calm_task (SequenceFrom t o method) = (inl (omega arith), tt)
   calm_task (Turns t iterator next made) = (inl (omega arith), tt)
   calm_task (Entries key t o left made) = calm_entries key t o left made
-  calm_task (Members n o left made) = tt
+  calm_task (Members n o left made) = calm_members n o left made
   calm_task (Resolve callee args) = calm_resolve callee args
   calm_task (Arguments callee entries place left made) = calm_arguments callee entries place left made
   calm_task (Default t l) = calm_default t l

@@ -80,6 +80,9 @@ d7 = one_digit 7 (omega arith)
 pub d8 : decimal 8 ≡ 56 ∷ []
 d8 = one_digit 8 (omega arith)
 
+pub d11 : decimal 11 ≡ 49 ∷ 49 ∷ []
+d11 = two_digits 11 (omega arith) (omega arith)
+
 pub d12 : decimal 12 ≡ 49 ∷ 50 ∷ []
 d12 = two_digits 12 (omega arith) (omega arith)
 

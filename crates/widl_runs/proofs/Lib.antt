@@ -7,6 +7,7 @@ pub mod LineCosts
 pub mod ObjectCredit
 pub mod LiveParts
 pub mod LiveJobs
+mod SafeTalks
 mod LiveTalks
 pub mod LiveSteps
 pub mod LiveStores

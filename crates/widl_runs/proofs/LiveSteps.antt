@@ -48,7 +48,8 @@ use Rattle.widl_runs.specs.Traces.{whole}
 use Rattle.widl_runs.specs.Fitting.{AreFew, count_of, HasShortRows, HaveShortRows, HasShortMember, HasShortOption, HasFunctions, HasFunction, ThrowsPlain, HasPlainSteps, IsRunnable, HasPrototypes, CanBeMade}
 use Rattle.widl_runs.proofs.LiveParts.{LiveTaskEnd, LiveAnswer, LiveCursor, LiveInner, LiveSeen, LiveValue, LiveOption, LiveValues, LiveEnd, LiveProp, LiveFound, LivePut, LiveReply}
 use Rattle.widl_runs.proofs.LiveJobs.{LiveItems, LiveUse, LiveAsk, LiveJob, Safe, live_append, live_parameters}
-use Rattle.widl_runs.proofs.LiveTalks.{live_task_end, safe_in_world, safe_call_task}
+use Rattle.widl_runs.proofs.LiveTalks.{safe_call_task}
+use Rattle.widl_runs.proofs.SafeTalks.{live_task_end, safe_in_world}
 
 plain_lines : (o : Operation) (ss : StatementTrees) → HasPlainSteps ss → All ThrowsPlain (lines_for o ss)
 plain_lines o no_statements h = λ k d less. absurd (omega (arith, less))

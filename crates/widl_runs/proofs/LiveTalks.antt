@@ -1,13 +1,12 @@
 -- For proofs alone. Conversations hold live references alone, where their tasks and all answers do.
 use Rattle.std.proofs.Common.{ℕ, zero, suc, ℤ, ◌^◌, Bool, true, false, List, [], ◌∷◌, ◌++◌, Option, Some, None, length, arith, if◌then◌else◌}
 use Rattle.std.proofs.lemmas.Bool.{cond_both}
-use Rattle.std.specs.Prelude.{All, IfSome, bytes_eq, codes, decimal, nat_abs, nat_eq, nat_le, nat_lt, slice_get, take}
+use Rattle.std.specs.Prelude.{◌&&◌, All, IfSome, bytes_eq, codes, decimal, nat_abs, nat_eq, nat_le, nat_lt, slice_get, take}
 use Rattle.std.specs.Map.{lookup}
-use Rattle.std.specs.Option.{option_map_or}
+use Rattle.std.specs.Option.{option_and_then, option_map_or}
 use Rattle.std.specs.declared.result.Result.{Result}
 use Rattle.std.specs.declared.result.Result.TheVariants as results
 use Rattle.widl_dialog.specs.Dialog.{End, Say, Steps}
-use Rattle.widl_dialog.specs.Rename.{rename}
 use Rattle.widl_text.specs.declared.key.Key.{Key}
 use Rattle.widl_text.specs.declared.key.Key.TheVariants as keys
 use Rattle.widl_idl.specs.declared.callee.Callee.{Callee}
@@ -18,17 +17,14 @@ use Rattle.widl_idl.specs.declared.literal.Literal.TheVariants as literals
 use Rattle.widl_idl.specs.declared.text_kind.TextKind.{TextKind}
 use Rattle.widl_idl.specs.declared.text_kind.TextKind.TheVariants as texts
 use Rattle.widl_idl.specs.DefinitionTerms.{ArgTerm, DefsTerm}
-use Rattle.widl_idl.specs.Flattened.{flattened_member}
-use Rattle.widl_idl.specs.Terms.{AnyType, BooleanType, CallbackFunctionType, CallbackInterfaceType, DictionaryType, EnumerationType, IntegerType, InterfaceType, NullableType, ObjectType, PromiseType, RecordType, SequenceType, StringType, TypeTerm, UndefinedType, UnionType}
+use Rattle.widl_idl.specs.Flattened.{flattened_member, flattened_members, includes_nullable_type}
+use Rattle.widl_idl.specs.Terms.{AnyType, BooleanType, CallbackFunctionType, CallbackInterfaceType, DictionaryType, EnumerationType, IntegerType, InterfaceType, NullableType, ObjectType, PromiseType, RecordType, SequenceType, StringType, TypeTerm, TypeTerms, UndefinedType, UnionType}
 use Rattle.widl_overload.specs.Sets.{TupleTerm, is_variadic}
 use Rattle.widl_value.specs.Classes.{class_of}
-use Rattle.widl_value.specs.declared.number.Number.{Number}
 use Rattle.widl_value.specs.declared.object.ObjRef.{ObjRef}
-use Rattle.widl_value.specs.declared.object.Shape.{Shape}
-use Rattle.widl_value.specs.declared.object.Shape.TheVariants as shapes
 use Rattle.widl_value.specs.declared.value.Value.{Value}
 use Rattle.widl_value.specs.declared.value.Value.TheVariants as values
-use Rattle.widl_value.specs.IdlTerms.{UndefinedValue, NullValue, MissingValue, BooleanValue, IntegerValue, StringValue, EnumerationValue, ObjectValue, AnyValue, SequenceValue, RecordValue, DictionaryValue, PromiseValue, IdlTerm, IdlTerms, more_values, no_values, packed_entries, packed_values}
+use Rattle.widl_value.specs.IdlTerms.{UndefinedValue, NullValue, MissingValue, BooleanValue, IntegerValue, StringValue, EnumerationValue, ObjectValue, AnyValue, SequenceValue, RecordValue, DictionaryValue, PromiseValue, IdlTerm, IdlTerms, more_values, no_values, packed_entries, packed_members, packed_values}
 use Rattle.widl_scalar.specs.declared.int.NotInRange.{NotInRange}
 use Rattle.widl_scalar.specs.declared.primitives.ValueNumber.{ValueNumber}
 use Rattle.widl_scalar.specs.declared.primitives.ValueNumber.TheVariants as read
@@ -49,8 +45,8 @@ use Rattle.widl_script_tree.specs.declared.steps.StepLine.TheVariants as step_li
 use Rattle.widl_tables.specs.declared.pick.Pick.{Pick}
 use Rattle.widl_tables.specs.declared.pick.Pick.TheVariants.{Entry, Probe, Refuse}
 use Rattle.widl_tables.specs.Kept.{argcount_of, declared_args, entry_alone, kept_tuples, optionality_at, type_at}
-use Rattle.widl_tables.specs.Picks.{pick_of}
-use Rattle.widl_trace.specs.declared.code.Code.{Code}
+use Rattle.widl_tables.specs.Picks.{pick_of, pick_member_of}
+use Rattle.widl_tables.specs.Tests.{is_null_or_undefined}
 use Rattle.widl_trace.specs.declared.code.Code.TheVariants as code
 use Rattle.widl_convert.specs.declared.answer.CursorState.{CursorState}
 use Rattle.widl_convert.specs.declared.answer.CursorState.TheVariants as cursors
@@ -58,18 +54,22 @@ use Rattle.widl_convert.specs.declared.hint.Hint.{Hint}
 use Rattle.widl_convert.specs.declared.hint.Hint.TheVariants.{PrefersNumber, PrefersString}
 use Rattle.widl_convert.specs.declared.outcome.Want.{Want}
 use Rattle.widl_convert.specs.declared.outcome.Want.TheVariants as wants
-use Rattle.widl_convert.specs.AskTerms.{GetAsk, CallAsk, AnswerTerm, BeginAnswer, DoneAnswer, NormalAnswer, ThrownAnswer, KindAnswer, KeysAnswer, OwnAnswer, CursorAnswer, AskKind, OfGet, OfCall, OfKind, OfUnit, OfNote, OfOwnKeys, OfOwn, OfNewArray, OfNewObject, OfNewArrayIterator, OfCursor, OfSetCursor, kind_of}
-use Rattle.widl_convert.specs.Built.{built_today}
+use Rattle.widl_convert.specs.AskTerms.{GetAsk, CallAsk, AnswerTerm, BeginAnswer, DoneAnswer, NormalAnswer, ThrownAnswer, KindAnswer, KeysAnswer, OwnAnswer, CursorAnswer}
+use Rattle.widl_convert.specs.Built.{built_today, is_built_type}
 use Rattle.widl_convert.specs.Defaults.{default, defaults_from, enumeration_among, literal_value, null_of, value_of_text}
+use Rattle.widl_convert.specs.Dictionaries.{member_given, member_value, members, to_dictionary, undefined_member, with_value}
+use Rattle.widl_tables.specs.MemberOrder.{DeclaredMember}
+use Rattle.widl_convert.specs.Nullables.{to_nullable}
 use Rattle.widl_convert.specs.Primitives.{call_method, found_method, found_ordinary, object_to_primitive, ordinary, primitive_result, to_primitive, tried, try_method}
-use Rattle.widl_convert.specs.Records.{entries, entry_value, flags_in, is_enumerable, key_value, named, named_entry, own_entry, with_entry}
-use Rattle.widl_convert.specs.Resolution.{argument, arguments, default_at, picked, probed, takes_default, with_entries, without_method}
+use Rattle.widl_convert.specs.Records.{entries, entry_value, flags_in, is_enumerable, key_value, named, named_entry, own_entry, to_record, with_entry}
+use Rattle.widl_convert.specs.Resolution.{argument, arguments, default_at, from_method, looked_for, picked, probed, sequence_given, takes_default, with_entries, without_method}
 use Rattle.widl_convert.specs.Results.{out, out_items, out_units, properties}
 use Rattle.widl_convert.specs.Rules.{rule as task_rule}
-use Rattle.widl_convert.specs.Scalars.{convert, enumeration_result, integer_result, is_bytes, null_or_string, string_result, to_number, to_scalar, to_string, to_text}
-use Rattle.widl_convert.specs.Sequences.{element, sequence_from, told_done, turn_given, turns, with_next}
-use Rattle.widl_convert.specs.Tasks.{TalkOf, Task, Primitive, Scalar, Convert, SequenceFrom, Turns, Entries, Members, Resolve, Arguments, Default, Defaults, Out, OutItems, OutUnits, Container, ArrayOf, ObjectOf, TaskEnd, Gives, Plain, Picks, Throw, Rethrow, Profile, Talk as TaskTalk}
-use Rattle.widl_convert.specs.Words.{callable_or, fails, given, gives, if_callable, method_or, normal, number, object, object_or, returned, returns, text}
+use Rattle.widl_convert.specs.Scalars.{convert, convert_plain, enumeration_result, integer_result, is_bytes, null_or_string, string_result, to_number, to_scalar, to_plain, to_string, to_text, to_type}
+use Rattle.widl_convert.specs.Sequences.{element, element_of, element_within, found_iterator_method, sequence_from, to_sequence, told_done, turn_given, turns, with_next}
+use Rattle.widl_convert.specs.Tasks.{Task, Primitive, Scalar, Convert, SequenceFrom, Turns, Entries, Members, Resolve, Arguments, Default, Defaults, Out, OutItems, OutUnits, Container, ArrayOf, ObjectOf, TaskEnd, Gives, Plain, Picks, Throw, Rethrow, Profile, Talk as TaskTalk}
+use Rattle.widl_convert.specs.Unions.{member_from, member_picked, member_probed, to_member, to_union, without_iterator}
+use Rattle.widl_convert.specs.Words.{fails, gives, normal, not_built, number, object, returns, text}
 use Rattle.widl_calls.specs.ArrayFunctions.{array_iterator_next, array_values, by_cursor, by_turn, cursor_in, element_read, ends_iterator, given_in_turn, iterator_result, length_read, read_in_turn, with_length}
 use Rattle.widl_calls.specs.BuiltCalls.{calls_built_today, is_built_function}
 use Rattle.widl_calls.specs.CallRules.{call_rule, function, intrinsic}
@@ -78,207 +78,12 @@ use Rattle.widl_calls.specs.DefaultResults.{default_result}
 use Rattle.widl_calls.specs.ObjectFunctions.{by_kind, joined, kind_in, kind_tag, most_joined_units, object_to_string, object_value_of, with_tag}
 use Rattle.widl_calls.specs.Operations.{StepsOf, chosen, owned_operation, returns_promise, steps_of}
 use Rattle.widl_calls.specs.StepLines.{args_of_lines, argument_value, line, lines, named_values, return_line}
-use Rattle.widl_runs.specs.Asks.{in_world}
-use Rattle.widl_runs.specs.Ends.{JobEnd, Normal, Returned, Thrown, Talked, Seen, answer_by, answer_of, completion_answer, new_object_in, object_in, plain_in, seen_in, task_end_in}
-use Rattle.widl_runs.specs.Fitting.{HasPrototypes, ThrowsPlain}
-use Rattle.widl_runs.specs.Jobs.{Program}
-use Rattle.widl_runs.proofs.LiveParts.{LiveValue, LiveValues, LiveTerm, LiveTerms, LiveEntries, LiveTermList, LiveTaskEnd, LiveAnswer, LiveEnd}
-use Rattle.widl_runs.proofs.LiveJobs.{LiveData, LiveAsk, LiveRecord, LiveNamed, LiveTask, LiveCall, Safe, live_append, live_plain}
+use Rattle.widl_runs.specs.Fitting.{ThrowsPlain}
+use Rattle.widl_runs.proofs.LiveParts.{LiveValue, LiveValues, LiveTerm, LiveTerms, LiveEntries, LiveMembers, LivePart, LiveTermList, LiveTaskEnd, LiveAnswer}
+use Rattle.widl_runs.proofs.LiveJobs.{LiveData, LiveMade, LiveRecord, LiveNamed, LiveTask, LiveCall, live_append, live_plain}
+use Rattle.widl_runs.proofs.SafeTalks.{SafeTalk, safe_rename, live_cursor_in, safe_normal, safe_object, safe_object_or, safe_callable_or, safe_method_or, safe_given, safe_returned, safe_number, safe_text, safe_if}
 
--- 1. Safe conversations
-
--- where each answer and each end of a task is live, so is all that is asked, and the end
-abbrev pub SafeTalk : {J : Type 0} → List Obj → (J → Type 0) → TalkOf J → Type 0
-SafeTalk objects Live (End r) = LiveTaskEnd objects r
-SafeTalk objects Live (Say ask k) = LiveAsk objects ask × ((a : AnswerTerm) → LiveAnswer objects a → SafeTalk objects Live (k a))
-SafeTalk objects Live (Steps t k) = Live t × ((r : TaskEnd) → LiveTaskEnd objects r → SafeTalk objects Live (k r))
-
-safe_rename : (objects : List Obj) (d : TaskTalk) → SafeTalk objects (LiveTask objects) d → SafeTalk objects (LiveCall objects) (rename Of d)
-safe_rename objects (End r) x = x
-safe_rename objects (Say ask k) x = (x.0, λ a l. safe_rename objects (k a) (x.1 a l))
-safe_rename objects (Steps t k) x = (x.0, λ r l. safe_rename objects (k r) (x.1 r l))
-
--- 2. The ends of jobs as answers
-
-module _ (objects : List Obj) where
-  pub live_task_end : (c : JobEnd) → LiveEnd objects c → LiveTaskEnd objects (task_end_in c)
-  live_task_end (Normal v) l = tt
-  live_task_end (Returned v) l = tt
-  live_task_end (Thrown v) l = tt
-  live_task_end (Talked end) l = l
-  live_task_end (Seen answer) l = tt
-
-  live_completion : (c : JobEnd) → LiveEnd objects c → LiveAnswer objects (completion_answer c)
-  live_completion (Normal v) l = l
-  live_completion (Returned v) l = tt
-  live_completion (Thrown v) l = l
-  live_completion (Talked end) l = tt
-  live_completion (Seen answer) l = tt
-
-  live_seen_in : (c : JobEnd) → LiveEnd objects c → LiveAnswer objects (seen_in c)
-  live_seen_in (Normal v) l = tt
-  live_seen_in (Returned v) l = tt
-  live_seen_in (Thrown v) l = tt
-  live_seen_in (Talked end) l = tt
-  live_seen_in (Seen answer) l = l
-
-  live_cursor_in : (a : AnswerTerm) → LiveAnswer objects a → LiveAnswer objects (CursorAnswer (cursor_in a))
-  live_cursor_in BeginAnswer l = tt
-  live_cursor_in DoneAnswer l = tt
-  live_cursor_in (NormalAnswer v) l = tt
-  live_cursor_in (ThrownAnswer v) l = tt
-  live_cursor_in (KindAnswer kind) l = tt
-  live_cursor_in (KeysAnswer keys) l = tt
-  live_cursor_in (OwnAnswer flags) l = tt
-  live_cursor_in (CursorAnswer state) l = l
-
-  module _ (first : HasPrototypes objects) where
-    live_plain_in : (o : ObjRef) (s : Shape) → IsLive objects o → IsLive objects (plain_in o s)
-    live_plain_in o shapes.Plain l = l
-    live_plain_in o shapes.Callable l = first.object
-    live_plain_in o (shapes.Platform iface) l = first.object
-
-    live_object_in : (v : Value) → LiveValue objects v → IsLive objects (object_in v)
-    live_object_in values.Undefined l = first.object
-    live_object_in values.Null l = first.object
-    live_object_in (values.Bool b) l = first.object
-    live_object_in (values.Num x) l = first.object
-    live_object_in (values.Str text) l = first.object
-    live_object_in (values.Sym id) l = first.object
-    live_object_in (values.Obj o) l = live_plain_in o o.shape l
-
-    live_new : (c : JobEnd) → LiveEnd objects c → IsLive objects (new_object_in c)
-    live_new (Normal v) l = live_object_in v l
-    live_new (Returned v) l = first.object
-    live_new (Thrown v) l = first.object
-    live_new (Talked end) l = first.object
-    live_new (Seen answer) l = first.object
-
-    live_answer : (kind : AskKind) (c : JobEnd) → LiveEnd objects c → LiveAnswer objects (answer_by kind c)
-    live_answer OfGet c l = live_completion c l
-    live_answer OfCall c l = live_completion c l
-    live_answer OfKind c l = tt
-    live_answer OfUnit c l = tt
-    live_answer OfNote c l = tt
-    live_answer OfOwnKeys c l = tt
-    live_answer OfOwn c l = tt
-    live_answer OfNewArray c l = live_new c l
-    live_answer OfNewObject c l = live_new c l
-    live_answer OfNewArrayIterator c l = live_new c l
-    live_answer OfCursor c l = live_cursor_in (seen_in c) (live_seen_in c l)
-    live_answer OfSetCursor c l = tt
-
--- a safe conversation is safe in the world
-pub safe_in_world : (p : Program) (objects : List Obj) (first : HasPrototypes objects) (d : CallTalk) → SafeTalk objects (LiveCall objects) d → Safe p objects (in_world d)
-safe_in_world p objects first (End r) x = x
-safe_in_world p objects first (Say ask k) x = (x.0, λ c l. let a : AnswerTerm = answer_of ask c in safe_in_world p objects first (k a) (x.1 a (live_answer objects first (kind_of ask) c l)))
-safe_in_world p objects first (Steps t k) x = (x.0, λ c l. safe_in_world p objects first (k (task_end_in c)) (x.1 (task_end_in c) (live_task_end objects c l)))
-
--- 3. Words, for all sets of tasks
-
-module _ {J : Type 0} (objects : List Obj) (Live : J → Type 0) where
-  abbrev IsSafe : TalkOf J → Type 0
-  IsSafe d = SafeTalk objects Live d
-
-  safe_normal : (k : Value → TalkOf J) → ((v : Value) → LiveValue objects v → IsSafe (k v)) → (a : AnswerTerm) → LiveAnswer objects a → IsSafe (normal k a)
-  safe_normal k each BeginAnswer l = each values.Undefined tt
-  safe_normal k each DoneAnswer l = each values.Undefined tt
-  safe_normal k each (NormalAnswer v) l = each v l
-  safe_normal k each (ThrownAnswer v) l = l
-  safe_normal k each (KindAnswer kind) l = each values.Undefined tt
-  safe_normal k each (KeysAnswer keys) l = each values.Undefined tt
-  safe_normal k each (OwnAnswer flags) l = each values.Undefined tt
-  safe_normal k each (CursorAnswer state) l = each values.Undefined tt
-
-  safe_object : (why : Code) (k : ObjRef → TalkOf J) → ((o : ObjRef) → IsLive objects o → IsSafe (k o)) → (v : Value) → LiveValue objects v → IsSafe (object why k v)
-  safe_object why k each values.Undefined l = tt
-  safe_object why k each values.Null l = tt
-  safe_object why k each (values.Bool b) l = tt
-  safe_object why k each (values.Num x) l = tt
-  safe_object why k each (values.Str text) l = tt
-  safe_object why k each (values.Sym id) l = tt
-  safe_object why k each (values.Obj o) l = each o l
-
-  safe_object_or : (other : Value → TalkOf J) (k : ObjRef → TalkOf J) → ((v : Value) → LiveValue objects v → IsSafe (other v)) → ((o : ObjRef) → IsLive objects o → IsSafe (k o)) → (v : Value) → LiveValue objects v → IsSafe (object_or other k v)
-  safe_object_or other k none each values.Undefined l = none values.Undefined tt
-  safe_object_or other k none each values.Null l = none values.Null tt
-  safe_object_or other k none each (values.Bool b) l = none (values.Bool b) tt
-  safe_object_or other k none each (values.Num x) l = none (values.Num x) tt
-  safe_object_or other k none each (values.Str text) l = none (values.Str text) tt
-  safe_object_or other k none each (values.Sym id) l = none (values.Sym id) tt
-  safe_object_or other k none each (values.Obj o) l = each o l
-
-  safe_shape : (s : Shape) (d e : TalkOf J) → IsSafe d → IsSafe e → IsSafe (if_callable s d e)
-  safe_shape shapes.Plain d e x y = y
-  safe_shape shapes.Callable d e x y = x
-  safe_shape (shapes.Platform iface) d e x y = y
-
-  safe_callable_or : (other : TalkOf J) (k : ObjRef → TalkOf J) → IsSafe other → ((o : ObjRef) → IsLive objects o → IsSafe (k o)) → (v : Value) → LiveValue objects v → IsSafe (callable_or other k v)
-  safe_callable_or other k none each values.Undefined l = none
-  safe_callable_or other k none each values.Null l = none
-  safe_callable_or other k none each (values.Bool b) l = none
-  safe_callable_or other k none each (values.Num x) l = none
-  safe_callable_or other k none each (values.Str text) l = none
-  safe_callable_or other k none each (values.Sym id) l = none
-  safe_callable_or other k none each (values.Obj o) l = safe_shape o.shape (k o) other (each o l) none
-
-  safe_method_or : (other : TalkOf J) (k : ObjRef → TalkOf J) → IsSafe other → ((o : ObjRef) → IsLive objects o → IsSafe (k o)) → (v : Value) → LiveValue objects v → IsSafe (method_or other k v)
-  safe_method_or other k none each values.Undefined l = none
-  safe_method_or other k none each values.Null l = none
-  safe_method_or other k none each (values.Bool b) l = tt
-  safe_method_or other k none each (values.Num x) l = tt
-  safe_method_or other k none each (values.Str text) l = tt
-  safe_method_or other k none each (values.Sym id) l = tt
-  safe_method_or other k none each (values.Obj o) l = safe_shape o.shape (k o) (fails code.NotCallable) (each o l) tt
-
-  safe_given : (k : IdlTerm → TalkOf J) → ((w : IdlTerm) → LiveTerm objects w → IsSafe (k w)) → (r : TaskEnd) → LiveTaskEnd objects r → IsSafe (given k r)
-  safe_given k each (Gives w) l = each w l
-  safe_given k each (Plain v) l = l
-  safe_given k each (Picks overload ws) l = l
-  safe_given k each (Throw why) l = l
-  safe_given k each (Rethrow v) l = l
-  safe_given k each (Profile end) l = l
-
-  safe_returned : (k : Value → TalkOf J) → ((v : Value) → LiveValue objects v → IsSafe (k v)) → (r : TaskEnd) → LiveTaskEnd objects r → IsSafe (returned k r)
-  safe_returned k each (Gives w) l = l
-  safe_returned k each (Plain v) l = each v l
-  safe_returned k each (Picks overload ws) l = l
-  safe_returned k each (Throw why) l = l
-  safe_returned k each (Rethrow v) l = l
-  safe_returned k each (Profile end) l = l
-
-  safe_number : (k : Number → TalkOf J) → ((x : Number) → IsSafe (k x)) → (r : TaskEnd) → LiveTaskEnd objects r → IsSafe (number k r)
-  safe_number k each (Gives w) l = l
-  safe_number k each (Plain values.Undefined) l = l
-  safe_number k each (Plain values.Null) l = l
-  safe_number k each (Plain (values.Bool b)) l = l
-  safe_number k each (Plain (values.Num x)) l = each x
-  safe_number k each (Plain (values.Str text)) l = l
-  safe_number k each (Plain (values.Sym id)) l = l
-  safe_number k each (Plain (values.Obj o)) l = l
-  safe_number k each (Picks overload ws) l = l
-  safe_number k each (Throw why) l = l
-  safe_number k each (Rethrow v) l = l
-  safe_number k each (Profile end) l = l
-
-  safe_text : (k : List ℕ → TalkOf J) → ((units : List ℕ) → IsSafe (k units)) → (r : TaskEnd) → LiveTaskEnd objects r → IsSafe (text k r)
-  safe_text k each (Gives w) l = l
-  safe_text k each (Plain values.Undefined) l = l
-  safe_text k each (Plain values.Null) l = l
-  safe_text k each (Plain (values.Bool b)) l = l
-  safe_text k each (Plain (values.Num x)) l = l
-  safe_text k each (Plain (values.Str units)) l = each units
-  safe_text k each (Plain (values.Sym id)) l = l
-  safe_text k each (Plain (values.Obj o)) l = l
-  safe_text k each (Picks overload ws) l = l
-  safe_text k each (Throw why) l = l
-  safe_text k each (Rethrow v) l = l
-  safe_text k each (Profile end) l = l
-
-  safe_if : (b : Bool) (d e : TalkOf J) → IsSafe d → IsSafe e → IsSafe (if b then d else e)
-  safe_if b d e x y = cond_both b d e IsSafe (λ i. x) (λ i. y)
-
--- 4. Conversions
+-- 1. Conversions
 
 module _ (list : DefsTerm) (objects : List Obj) where
   abbrev Conv : TaskTalk → Type 0
@@ -369,23 +174,103 @@ module _ (list : DefsTerm) (objects : List Obj) where
   safe_enumeration n None = tt
   safe_enumeration n (Some place) = tt
 
+  -- sequences, records and dictionaries begin with one ask of an object
+
+  safe_found : (t : TypeTerm) (o : ObjRef) → IsLive objects o → (v : Value) → Alive v → Conv (found_iterator_method t o v)
+  safe_found t o l = safe_method_or objects LiveT _ _ tt (λ method lm. ((l, lm), λ r lr. lr))
+
+  safe_to_sequence : (t : TypeTerm) (v : Value) → Alive v → Conv (to_sequence t v)
+  safe_to_sequence t = safe_object objects LiveT _ _ (λ o lo. (lo, λ a la. safe_normal objects LiveT (found_iterator_method t o) (safe_found t o lo) a la))
+
+  safe_to_record : (kind : TextKind) (t : TypeTerm) (v : Value) → Alive v → Conv (to_record kind t v)
+  safe_to_record kind t = safe_object objects LiveT _ _ (λ o lo. (lo, λ a la. ((lo, tt), λ r lr. lr)))
+
+  safe_to_dictionary : (n : ℕ) (v : Value) → Alive v → Conv (to_dictionary list n v)
+  safe_to_dictionary n values.Undefined l = ((tt, tt), λ r lr. lr)
+  safe_to_dictionary n values.Null l = ((tt, tt), λ r lr. lr)
+  safe_to_dictionary n (values.Bool b) l = tt
+  safe_to_dictionary n (values.Num x) l = tt
+  safe_to_dictionary n (values.Str units) l = tt
+  safe_to_dictionary n (values.Sym id) l = tt
+  safe_to_dictionary n (values.Obj o) l = ((l, tt), λ r lr. lr)
+
+  -- a type that is neither nullable nor a union
+  safe_plain : (t : TypeTerm) (v : Value) → Alive v → Conv (to_plain list t v)
+  safe_plain AnyType v l = l
+  safe_plain UndefinedType v l = tt
+  safe_plain BooleanType v l = tt
+  safe_plain (IntegerType kind mode) v l = (l, λ r lr. safe_number objects LiveT _ (λ x. safe_integer (integer_of x kind mode)) r lr)
+  safe_plain (StringType kind null_empty) v l = safe_null_or null_empty kind v l
+  safe_plain (EnumerationType n) v l = (l, λ r lr. safe_text objects LiveT _ (λ units. safe_enumeration n (value_place list.choices n units)) r lr)
+  safe_plain (InterfaceType n) v l = tt
+  safe_plain (CallbackFunctionType n) v l = tt
+  safe_plain (CallbackInterfaceType n) v l = tt
+  safe_plain (DictionaryType n) v l = safe_to_dictionary n v l
+  safe_plain ObjectType v l = safe_object objects LiveT _ _ (λ o x. x) v l
+  safe_plain (SequenceType t) v l = safe_to_sequence t v l
+  safe_plain (RecordType key t) v l = safe_to_record key t v l
+  safe_plain (PromiseType t) v l = tt
+  safe_plain (NullableType t) v l = tt
+  safe_plain (UnionType ts) v l = tt
+
+  safe_if_built : (t : TypeTerm) (d : TaskTalk) → Conv d → Conv (if is_built_type t then d else not_built)
+  safe_if_built t d x = safe_if objects LiveT (is_built_type t) d not_built x tt
+
+  safe_member_of : (t : Option TypeTerm) (v : Value) → Alive v → Conv (to_member (convert_plain built_today list) t v)
+  safe_member_of None v l = tt
+  safe_member_of (Some t) v l = safe_if_built t (to_plain list t v) (safe_plain t v l)
+
+  safe_without_iterator : (ts : TypeTerms) (v : Value) (pick : Pick) → Alive v → Conv (without_iterator (convert_plain built_today list) ts v pick)
+  safe_without_iterator ts v (Entry place) l = safe_member_of (slice_get (flattened_members ts) place) v l
+  safe_without_iterator ts v (Probe place) l = tt
+  safe_without_iterator ts v Refuse l = tt
+
+  safe_member_from : (o method : ObjRef) (t : Option TypeTerm) → IsLive objects o → IsLive objects method → Conv (member_from o method t)
+  safe_member_from o method None l lm = tt
+  safe_member_from o method (Some t) l lm = ((l, lm), λ r lr. lr)
+
+  safe_member_probed : (ts : TypeTerms) (place : ℕ) (o : ObjRef) → IsLive objects o → (v : Value) → Alive v → Conv (member_probed (convert_plain built_today list) built_today list ts place o v)
+  safe_member_probed ts place o l =
+      safe_method_or objects LiveT _ _ (safe_without_iterator ts (values.Obj o) (pick_member_of list ts (class_of (values.Obj o)) true) l)
+      (λ method lm. safe_member_from o method (option_and_then element_of (slice_get (flattened_members ts) place)) l lm)
+
+  safe_member_picked : (ts : TypeTerms) (v : Value) (pick : Pick) → Alive v → Conv (member_picked (convert_plain built_today list) built_today list ts v pick)
+  safe_member_picked ts v (Entry place) l = safe_member_of (slice_get (flattened_members ts) place) v l
+  safe_member_picked ts v (Probe place) l = safe_object objects LiveT _ _ (λ o lo. (lo, λ a la. safe_normal objects LiveT _ (safe_member_probed ts place o lo) a la)) v l
+  safe_member_picked ts v Refuse l = tt
+
+  safe_union : (ts : TypeTerms) (v : Value) → Alive v → Conv (to_union (convert_plain built_today list) built_today list ts v)
+  safe_union ts v l = safe_if objects LiveT (includes_nullable_type (UnionType ts) && is_null_or_undefined (class_of v)) _ _ tt (safe_member_picked ts v (pick_member_of list ts (class_of v) false) l)
+
+  safe_nullable : (inner : Value → TaskTalk) → ((v : Value) → Alive v → Conv (inner v)) → (v : Value) → Alive v → Conv (to_nullable inner v)
+  safe_nullable inner each values.Undefined l = tt
+  safe_nullable inner each values.Null l = tt
+  safe_nullable inner each (values.Bool b) l = each (values.Bool b) l
+  safe_nullable inner each (values.Num x) l = each (values.Num x) l
+  safe_nullable inner each (values.Str units) l = each (values.Str units) l
+  safe_nullable inner each (values.Sym id) l = each (values.Sym id) l
+  safe_nullable inner each (values.Obj o) l = each (values.Obj o) l
+
+  safe_type : (t : TypeTerm) (v : Value) → Alive v → Conv (to_type built_today list t v)
+  safe_type AnyType v l = safe_plain AnyType v l
+  safe_type UndefinedType v l = safe_plain UndefinedType v l
+  safe_type BooleanType v l = safe_plain BooleanType v l
+  safe_type (IntegerType kind mode) v l = safe_plain (IntegerType kind mode) v l
+  safe_type (StringType kind null_empty) v l = safe_plain (StringType kind null_empty) v l
+  safe_type (EnumerationType n) v l = safe_plain (EnumerationType n) v l
+  safe_type (InterfaceType n) v l = safe_plain (InterfaceType n) v l
+  safe_type (CallbackFunctionType n) v l = safe_plain (CallbackFunctionType n) v l
+  safe_type (CallbackInterfaceType n) v l = safe_plain (CallbackInterfaceType n) v l
+  safe_type (DictionaryType n) v l = safe_plain (DictionaryType n) v l
+  safe_type ObjectType v l = safe_plain ObjectType v l
+  safe_type (SequenceType t) v l = safe_plain (SequenceType t) v l
+  safe_type (RecordType key t) v l = safe_plain (RecordType key t) v l
+  safe_type (PromiseType t) v l = safe_plain (PromiseType t) v l
+  safe_type (NullableType t) v l = safe_nullable (to_type built_today list t) (safe_type t) v l
+  safe_type (UnionType ts) v l = safe_union ts v l
+
   safe_convert : (t : TypeTerm) (v : Value) → Alive v → Conv (convert built_today list t v)
-  safe_convert AnyType v l = l
-  safe_convert UndefinedType v l = tt
-  safe_convert BooleanType v l = tt
-  safe_convert (IntegerType kind mode) v l = (l, λ r lr. safe_number objects LiveT _ (λ x. safe_integer (integer_of x kind mode)) r lr)
-  safe_convert (StringType kind null_empty) v l = safe_null_or null_empty kind v l
-  safe_convert (EnumerationType n) v l = (l, λ r lr. safe_text objects LiveT _ (λ units. safe_enumeration n (value_place list.choices n units)) r lr)
-  safe_convert (InterfaceType n) v l = tt
-  safe_convert (CallbackFunctionType n) v l = tt
-  safe_convert (CallbackInterfaceType n) v l = tt
-  safe_convert (DictionaryType n) v l = tt
-  safe_convert ObjectType v l = safe_object objects LiveT _ _ (λ o x. x) v l
-  safe_convert (SequenceType t) v l = tt
-  safe_convert (RecordType key t) v l = tt
-  safe_convert (PromiseType t) v l = tt
-  safe_convert (NullableType t) v l = tt
-  safe_convert (UnionType ts) v l = tt
+  safe_convert t v l = safe_if_built t (to_type built_today list t v) (safe_type t v l)
 
   -- sequences and records
 
@@ -459,6 +344,39 @@ module _ (list : DefsTerm) (objects : List Obj) where
   safe_entries : (kind : TextKind) (t : TypeTerm) (o : ObjRef) (left : List Key) (made : List (List ℕ × IdlTerm)) → IsLive objects o → LiveRecord objects made → Conv (entries kind t o left made)
   safe_entries kind t o [] made l ls = live_record made ls
   safe_entries kind t o (key ∷ left) made l ls = (l, λ a la. safe_own_entry kind t o key left made l ls a)
+
+  -- dictionaries
+
+  more_made : (made : List (ℕ × ℕ × IdlTerm)) (m : DeclaredMember) (w : IdlTerm) → LiveMade objects made → LiveTerm objects w → LiveMade objects (with_value m w made)
+  more_made [] m w ls l = (l, tt)
+  more_made (e ∷ made) m w ls l = (ls.0, more_made made m w ls.1 l)
+
+  live_members : (made : List (ℕ × ℕ × IdlTerm)) → LiveMade objects made → LiveMembers objects (packed_members made)
+  live_members [] l = tt
+  live_members (e ∷ made) l = (l.0, live_members made l.1)
+
+  -- a member
+  module _ (n : ℕ) (o : Option ObjRef) (m : DeclaredMember) (left : List DeclaredMember) (made : List (ℕ × ℕ × IdlTerm)) (l : LivePart objects o) (ls : LiveMade objects made) where
+    safe_member_given : (r : TaskEnd) → LiveTaskEnd objects r → Conv (member_given n o m left made r)
+    safe_member_given = safe_given objects LiveT (λ w. Steps (Members n o left (with_value m w made)) End) (λ w lw. ((l, more_made made m w ls lw), λ r lr. lr))
+
+    safe_undefined_member : (x : Option Literal) → Conv (undefined_member n o m left made x)
+    safe_undefined_member (Some x) = (tt, safe_member_given)
+    safe_undefined_member None = safe_if objects LiveT m.member.needed (fails code.Required) (Steps (Members n o left made) End) tt ((l, ls), λ r lr. lr)
+
+    safe_member_value : (v : Value) → Alive v → Conv (member_value n o m left made v)
+    safe_member_value values.Undefined lv = safe_undefined_member m.member.value
+    safe_member_value values.Null lv = (lv, safe_member_given)
+    safe_member_value (values.Bool b) lv = (lv, safe_member_given)
+    safe_member_value (values.Num x) lv = (lv, safe_member_given)
+    safe_member_value (values.Str units) lv = (lv, safe_member_given)
+    safe_member_value (values.Sym id) lv = (lv, safe_member_given)
+    safe_member_value (values.Obj x) lv = (lv, safe_member_given)
+
+  safe_members : (n : ℕ) (o : Option ObjRef) (left : List DeclaredMember) (made : List (ℕ × ℕ × IdlTerm)) → LivePart objects o → LiveMade objects made → Conv (members n o left made)
+  safe_members n o [] made l ls = live_members made ls
+  safe_members n None (m ∷ left) made l ls = (tt, λ a la. safe_member_value n None m left made l ls values.Undefined tt)
+  safe_members n (Some o) (m ∷ left) made l ls = (l, safe_normal objects LiveT (member_value n (Some o) m left made) (safe_member_value n (Some o) m left made l ls))
 
   -- to script
 
@@ -537,8 +455,16 @@ module _ (list : DefsTerm) (objects : List Obj) where
   safe_without callee es place v left made (Probe e) l ls lm = tt
   safe_without callee es place v left made Refuse l ls lm = tt
 
+  safe_sequence_given : (callee : Callee) (es : List TupleTerm) (place : ℕ) (o f : ObjRef) (left : List Value) (made : List IdlTerm) (t : Option TypeTerm) → IsLive objects o → IsLive objects f → LiveValues objects left → LiveTermList objects made → Conv (sequence_given callee es place left made o f t)
+  safe_sequence_given callee es place o f left made None l lf ls lm = tt
+  safe_sequence_given callee es place o f left made (Some t) l lf ls lm = ((l, lf), λ r lr. safe_given objects LiveT _ (λ w lw. ((ls, more_terms made w lm lw), λ s lS. lS)) r lr)
+
+  safe_from : (callee : Callee) (es : List TupleTerm) (place : ℕ) (o f : ObjRef) (left : List Value) (made : List IdlTerm) → IsLive objects o → IsLive objects f → LiveValues objects left → LiveTermList objects made → Conv (from_method callee es place left made o f)
+  safe_from callee [] place o f left made l lf ls lm = tt
+  safe_from callee (entry ∷ more) place o f left made l lf ls lm = safe_sequence_given callee (entry ∷ more) place o f left made (element_within (type_at entry (length made))) l lf ls lm
+
   safe_probed : (callee : Callee) (es : List TupleTerm) (place : ℕ) (o : ObjRef) (left : List Value) (made : List IdlTerm) → IsLive objects o → LiveValues objects left → LiveTermList objects made → (v : Value) → Alive v → Conv (probed built_today list callee es place o left made v)
-  safe_probed callee es place o left made l ls lm = safe_method_or objects LiveT _ _ (safe_without callee es place (values.Obj o) left made (pick_of list es (length made) (class_of (values.Obj o)) true) l ls lm) (λ f lf. tt)
+  safe_probed callee es place o left made l ls lm = safe_method_or objects LiveT _ _ (safe_without callee es place (values.Obj o) left made (pick_of list es (length made) (class_of (values.Obj o)) true) l ls lm) (λ f lf. safe_from callee (looked_for es (pick_of list es (length made) (class_of (values.Obj o)) false)) place o f left made l lf ls lm)
 
   safe_picked : (callee : Callee) (es : List TupleTerm) (place : ℕ) (v : Value) (left : List Value) (made : List IdlTerm) (pick : Pick) → Alive v → LiveValues objects left → LiveTermList objects made → Conv (picked built_today list callee es place v left made pick)
   safe_picked callee es place v left made (Entry e) l ls lm = safe_argument callee (entry_alone e es) place v left made l ls lm
@@ -565,7 +491,7 @@ module _ (list : DefsTerm) (objects : List Obj) where
   safe_task (SequenceFrom t o method) l = safe_sequence_from t o method l.0 l.1
   safe_task (Turns t iterator next made) l = safe_turns t iterator next made l.0 l.1 l.2
   safe_task (Entries key t o left made) l = safe_entries key t o left made l.0 l.1
-  safe_task (Members n o left made) l = tt
+  safe_task (Members n o left made) l = safe_members n o left made l.0 l.1
   safe_task (Resolve callee args) l = safe_entries_of callee (kept_tuples list callee (length args)) (take (argcount_of list callee (length args)) args) (live_take (argcount_of list callee (length args)) args l)
   safe_task (Arguments callee es place left made) l = safe_arguments callee es place left made l.0 l.1
   safe_task (Default t x) l = safe_default t x
@@ -574,7 +500,7 @@ module _ (list : DefsTerm) (objects : List Obj) where
   safe_task (OutItems container left made) l = safe_items container left made l.0 l.1
   safe_task (OutUnits left container made) l = safe_out_units left container made l
 
--- 5. Calls
+-- 2. Calls
 
 module _ (list : DefsTerm) (steps : StepsOf) (plain : (callee : Callee) (overload : ℕ) → All ThrowsPlain (steps callee overload)) (objects : List Obj) where
   abbrev IsCall : CallTalk → Type 0

@@ -16,7 +16,7 @@ use Rattle.widl_trace.specs.EventLines.{line_of}
 use Rattle.widl_runs.specs.declared.stop.Stop.TheVariants as stops
 use Rattle.widl_runs.specs.Traces.{IsTrace, EndsDone, EndsUncaught, EndsStopped}
 use Rattle.widl_runs.proofs.ShortLines.{worked, Every, IsShort}
-use Rattle.widl_runs.proofs.Examples.{the_operation, nothing_defined, one_operation, number, name, only, d0, d1, d2, d5, d7, d12, d15, d18, d19, d20, d99, d8, d3, d4}
+use Rattle.widl_runs.proofs.Examples.{the_operation, nothing_defined, one_operation, number, name, only, d0, d1, d2, d5, d7, d11, d12, d15, d18, d19, d20, d99, d8, d3, d4}
 use Rattle.widl_value.specs.declared.value.Value.TheVariants as values
 use Rattle.widl_value.specs.IdlTerms.{AnyValue}
 use Rattle.widl_store.specs.Objects.{plain_object, function_object}
@@ -118,8 +118,8 @@ step_throws : IsTrace one_operation (only (in_order (StepsT (targets.Operation (
 unfolding found_at is_fixed length_key realm_over intrinsics
 step_throws = worked _ _ 80 (refl, refl) step_throws_told refl (refl, (refl, (refl, (refl, tt))))
 
--- 6. A function that is there before the script, one that isn't built yet, and one that is never run: `do object().toString()`,
--- `do array().values()`, `do call(N.f.toString, 1)`.
+-- 6. Functions that are there before the script, one that isn't built yet, and one that is never run: `do object().toString()`,
+-- `do array().values()`, `do array().join()`, `do call(N.f.toString, 1)`.
 
 abbrev built_in_lines : List (List ℕ)
 built_in_lines = codes "call #8 this #18 ()" ∷ codes "get #18 @toStringTag" ∷ codes "ret \"[object Object]\"" ∷ codes "done" ∷ []
@@ -132,14 +132,25 @@ built_in : IsTrace nothing_defined (only (in_order (DoT (CallT (MemberT NewObjec
 unfolding found_at is_fixed length_key realm_over intrinsics
 built_in = worked _ _ 80 (refl, refl) built_in_told refl (refl, (refl, (refl, (refl, tt))))
 
-abbrev not_yet_lines : List (List ℕ)
-not_yet_lines = codes "call #12 this #18 ()" ∷ codes "stop profile 99" ∷ []
+abbrev iterator_lines : List (List ℕ)
+iterator_lines = codes "call #12 this #18 ()" ∷ codes "ret #19" ∷ codes "done" ∷ []
 
-not_yet_told : not_yet_lines ≡ map (line_of nothing_defined) (CallEvent (function_object 12) (values.Obj (plain_object 18)) [] ∷ ProfileStop 99 ∷ [])
+iterator_told : iterator_lines ≡ map (line_of nothing_defined) (CallEvent (function_object 12) (values.Obj (plain_object 18)) [] ∷ ReturnEvent (values.Obj (plain_object 19)) ∷ DoneEvent ∷ [])
 unfolding line_of
-not_yet_told = simp (d12, d18, d99) refl
+iterator_told = simp (d12, d18, d19) refl
 
-not_yet : IsTrace nothing_defined (only (in_order (DoT (CallT (MemberT (NewArrayT none) (codes "values")) none) ∷ []))) 100 not_yet_lines (EndsStopped (stops.Profile 99))
+iterator : IsTrace nothing_defined (only (in_order (DoT (CallT (MemberT (NewArrayT none) (codes "values")) none) ∷ []))) 6 iterator_lines EndsDone
+unfolding found_at is_fixed length_key realm_over intrinsics
+iterator = worked _ _ 80 (refl, refl) iterator_told refl (refl, (refl, (refl, tt)))
+
+abbrev not_yet_lines : List (List ℕ)
+not_yet_lines = codes "call #11 this #18 ()" ∷ codes "stop profile 99" ∷ []
+
+not_yet_told : not_yet_lines ≡ map (line_of nothing_defined) (CallEvent (function_object 11) (values.Obj (plain_object 18)) [] ∷ ProfileStop 99 ∷ [])
+unfolding line_of
+not_yet_told = simp (d11, d18, d99) refl
+
+not_yet : IsTrace nothing_defined (only (in_order (DoT (CallT (MemberT (NewArrayT none) (codes "join")) none) ∷ []))) 100 not_yet_lines (EndsStopped (stops.Profile 99))
 unfolding found_at is_fixed length_key realm_over intrinsics
 not_yet = worked _ _ 60 (refl, refl) not_yet_told refl (refl, (refl, tt))
 

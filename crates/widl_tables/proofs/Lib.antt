@@ -5,3 +5,9 @@ pub mod Picking
 pub mod ValuePlaces
 pub mod PickLaws
 pub mod FewOverloads
+pub mod Levels
+pub mod NameOrder
+pub mod StableSorts
+pub mod MemberNumbers
+pub mod KnownLevels
+pub mod MemberTables

@@ -1,10 +1,9 @@
 -- The laws of the choice: where picks come from, and when a value is probed.
-use Rattle.std.proofs.Common.{◌≡◌, ◌↔◌, ◌⊎◌, inl, inr, ℕ, suc, ◌+◌, ◌<◌, ◌++◌, ◌&&◌, Bool, true, false, cond, Contains, List, [], ◌∷◌, length, map, slice_index_or, Option, None, Some, arith, refl, sym, ap, subst, ◌∙◌}
+use Rattle.std.proofs.Common.{◌≡◌, ◌↔◌, ℕ, suc, ◌<◌, ◌++◌, ◌&&◌, Bool, true, false, cond, Contains, List, [], ◌∷◌, length, Option, None, Some, arith, refl, sym, ap, subst, ◌∙◌}
 use Rattle.widl_idl.specs.DefinitionTerms.{DefsTerm}
 use Rattle.widl_idl.specs.Flattened.{flattened_members}
-use Rattle.widl_idl.specs.Terms.{TypeTerm, TypeTerms}
+use Rattle.widl_idl.specs.Terms.{TypeTerms}
 use Rattle.widl_overload.specs.Sets.{TupleTerm}
-use Rattle.widl_scalar.specs.Enumerations.{told_place}
 use Rattle.widl_value.specs.declared.class.Class.{Class}
 use Rattle.widl_tables.specs.declared.entry_test.Test.{Test}
 use Rattle.widl_tables.specs.declared.entry_test.Test.TheVariants.{IsOptional, IsNullable, IsImplemented, IsCallback, IsSequence, IsObject, IsBoolean, IsNumeric, TakesText, TakesNumber, TakesTruth, TakesAny}

@@ -6,3 +6,6 @@ pub mod TypeTests
 pub mod Decided
 pub mod ValuePlaces
 pub mod Laws
+pub mod MemberOrder
+pub mod Levels
+pub mod MemberTables

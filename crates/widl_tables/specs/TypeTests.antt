@@ -1,7 +1,6 @@
 -- For proofs alone. What the program asks of values and of types, by name, and how many types stand before the first that answers yes.
-use Rattle.std.specs.Prelude.{ℕ, ◌+◌, Bool, true, ◌||◌, if◌then◌else◌, List, [], ◌∷◌, Option, map, slice_get, option_map, option_and_then}
-use Rattle.std.specs.Option.{option_map_or}
-use Rattle.widl_idl.specs.DefinitionTerms.{DefsTerm, ArgTerm, SigTerm}
+use Rattle.std.specs.Prelude.{ℕ, ◌+◌, Bool, true, ◌||◌, if◌then◌else◌, List, [], ◌∷◌, Option, option_and_then}
+use Rattle.widl_idl.specs.DefinitionTerms.{DefsTerm}
 use Rattle.widl_idl.specs.Terms.{TypeTerm}
 use Rattle.widl_overload.specs.Distinct.{is_dictionary}
 use Rattle.widl_scalar.specs.Enumerations.{told_place}

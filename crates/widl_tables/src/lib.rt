@@ -8,8 +8,11 @@
 //! copied.
 #![tactic(auto)]
 
-ghost use Rattle.std.specs.Prelude.{◌≡◌, IfOk};
+ghost use Rattle.std.specs.Prelude.{◌≡◌, map, IfOk};
+ghost use Rattle.widl_idl.specs.DefinitionTerms.{dict_term};
 ghost use Rattle.widl_scalar.specs.Enumerations.{value_place};
+ghost use Rattle.widl_tables.specs.Levels.{level_of};
+ghost use Rattle.widl_tables.specs.MemberOrder.{own_order};
 
 mod decision;
 mod entry_test;
@@ -19,6 +22,8 @@ mod hostile_tests;
 mod kept_overloads;
 mod kept_type;
 pub mod laws;
+mod level;
+mod member_orders;
 mod member_pick;
 mod overload_pick;
 mod pick;
@@ -36,6 +41,8 @@ pub use entry_test::Test;
 pub use entry_types::{Standing, type_at};
 pub use kept_overloads::kept;
 pub use kept_type::Kept;
+pub use level::{Level, parent_of};
+use member_orders::{MemberOrder, level, orders_of, own_members};
 pub use member_pick::pick_member;
 pub use overload_pick::pick_overload;
 pub use pick::Pick;
@@ -50,6 +57,7 @@ use widl_text::Units;
 pub struct Tables {
     list: Accepted,
     values: Vec<ValuePlaces>,
+    orders: Vec<MemberOrder>,
 }
 
 impl Model for Tables {
@@ -57,6 +65,9 @@ impl Model for Tables {
     ghost use Rattle.widl_idl.specs.contracts.types.IdlType as resolved;
     ghost use Rattle.widl_idl.specs.contracts.tree.types.TypeForm as written;
     ghost use Rattle.widl_idl.specs.MergedSets.{MergedSet};
+    ghost use Rattle.std.specs.Prelude.{map};
+    ghost use Rattle.widl_idl.specs.DefinitionTerms.{dict_term};
+    ghost use Rattle.widl_tables.specs.MemberTables.{AreOrders};
     ghost use Rattle.widl_tables.specs.ValuePlaces.{Hold};
 
     ghost Value = { MergedSet };
@@ -65,7 +76,7 @@ impl Model for Tables {
 
     ghost coded = { Prim.hlevel (codes, resolved.the_row.coded, written.the_row.coded) };
 
-    ghost invariant = { λ t. Hold t.values.items t.list.defs.choices };
+    ghost invariant = { λ t. Hold t.values.items t.list.defs.choices × AreOrders (map dict_term t.list.defs.dicts) t.orders.items };
 }
 
 /// The tables of a list.
@@ -77,7 +88,12 @@ pub fn compile(alloc: Global, list: Accepted) -> Result<Tables, AllocError>
     ensures { IfOk result (λ tables. tables ≡ list) }
 {
     let values = places_of_choices(alloc, list.defs().choices.as_slice())?;
-    Ok(Tables { list, values })
+    let orders = orders_of(alloc, list.defs().dicts.as_slice())?;
+    Ok(Tables {
+        list,
+        values,
+        orders,
+    })
 }
 
 impl Tables {
@@ -95,5 +111,23 @@ impl Tables {
         ensures { result ≡ value_place self.now.defs.choices choice text.now }
     {
         place_in(&self.values, choice, text)
+    }
+
+    /// The numbers of the members that a dictionary declares itself, in the order of their names by
+    /// their code units (Web IDL, "Dictionary types"). None where the list has no such dictionary. Nothing
+    /// is sorted, and no memory is taken.
+    pub fn own_members(&self, dict: u32) -> &[u32]
+        ensures { result.now ≡ own_order (map dict_term self.now.defs.dicts) dict }
+    {
+        own_members(&self.orders, dict)
+    }
+
+    /// The nearest dictionary that declares a member: this one, or one from which it inherits (Web IDL,
+    /// "inherited dictionaries"). `None` where none does. No dictionary between is looked at, and no
+    /// memory is taken.
+    pub fn level(&self, dict: u32) -> Option<Level>
+        ensures { result ≡ level_of (map dict_term self.now.defs.dicts) dict }
+    {
+        level(&self.orders, dict)
     }
 }

@@ -2,6 +2,7 @@
 
 ghost use Rattle.std.specs.Prelude.{◌<◌, ◌≤◌};
 
+use super::containers::{CHOICE, RECORD};
 use super::runs::ANY;
 use super::sizes::{Parts, bytes_of};
 use super::words_of;
@@ -12,7 +13,7 @@ use std::test::Fail;
 use widl_sink::{MemorySink, Numbers};
 
 /// Runs a script over a fragment with a budget, and compares how it ends.
-fn expect_end(
+pub fn expect_end(
     rt: &impl Abort,
     alloc: Global,
     fragment: Vec<u8>,
@@ -25,7 +26,7 @@ fn expect_end(
     files.push(NamedFile::new(String::from_str(alloc, "s")?, script))?;
     files.push(NamedFile::new(String::from_str(alloc, "n.idl")?, fragment))?;
     let mut folder = MemoryFolder::new(files, Numbers::new(alloc));
-    let mut out = MemorySink::new(alloc, 10_000_000, 4_096, Numbers::new(alloc))?;
+    let mut out = MemorySink::new(alloc, 40_000_000, 4_096, Numbers::new(alloc))?;
     let words = words_of(alloc, &["run", budget, "s", "n.idl"])?;
     assert_eq!(rt; widl(alloc, &words, &mut folder, &mut out), status);
     assert!(rt; out.held().ends_with(end.as_bytes()), "{end}");
@@ -33,7 +34,7 @@ fn expect_end(
 }
 
 /// Runs of scripts over a fragment: each has its script, its budget, its status and its last lines.
-fn expect_ends(
+pub fn expect_ends(
     rt: &impl Abort,
     alloc: Global,
     fragment: Parts,
@@ -55,7 +56,7 @@ fn expect_ends(
 }
 
 /// The most units that a budget has.
-const MOST: &str = "2000000";
+pub const MOST: &str = "2000000";
 
 const MEMBERS: Parts = &[
     ("let o = object()\ndefine o.a = o\ndo o", 1),
@@ -255,6 +256,95 @@ fn push_name(script: &mut Vec<u8>, first: u8, number: usize) -> Result<(), Alloc
     script.push(SECOND[number / THIRD.len() % SECOND.len()])?;
     script.push(THIRD[number % THIRD.len()])?;
     Ok(())
+}
+
+/// An iterator that gives itself in every turn.
+const ENDLESS: Parts = &[
+    (
+        "function m()\nreturn this\nend\nfunction n()\nreturn r\nend\nlet o = object()\ndefine o[@iterator] = m\ndefine o.next = n\n",
+        1,
+    ),
+    ("let r = object()\ndefine r.value = o\ndo N.f(o)\n", 1),
+];
+
+const ENDLESS_RUNS: [(Parts, &str, Status, &str); 2] = [
+    (ENDLESS, "1000", Status::Stopped, "stop budget\n"),
+    (ENDLESS, MOST, Status::Stopped, "stop budget\n"),
+];
+
+#[test]
+fn iterators_that_never_end_are_stopped(rt: HostRuntime) -> Result<(), Fail> {
+    let alloc = rt.alloc();
+    let flat: Parts = &[("namespace N { undefined f(sequence<any> q); };", 1)];
+    expect_ends(&rt, alloc, flat, &ENDLESS_RUNS)?;
+    let deep: Parts = &[
+        ("namespace N { undefined f(", 1),
+        ("sequence<", 15),
+        ("any", 1),
+        (">", 15),
+        (" q); };", 1),
+    ];
+    expect_ends(&rt, alloc, deep, &ENDLESS_RUNS)
+}
+
+/// A getter that calls the operation again while its argument is converted.
+const CALLS_FROM_METHOD: Parts = &[(
+    "function g()\ndo N.f(o)\nend\nlet o = object()\ndefine o[@iterator] get g\ndo N.f(o)\n",
+    1,
+)];
+
+const CALLS_FROM_PROPERTY: Parts = &[(
+    "function g()\ndo N.f(o)\nend\nlet o = object()\ndefine o.a get g\ndo N.f(o)\n",
+    1,
+)];
+
+/// Properties that a record passes over, each by a look that takes no unit.
+const HIDDEN: Parts = &[
+    ("let o = object()\n", 1),
+    ("define hidden o[symbol()] = 1\n", 5_000),
+    ("do N.f(o)\n", 1),
+];
+
+#[test]
+fn conversions_of_containers_are_deep_and_long(rt: HostRuntime) -> Result<(), Fail> {
+    let alloc = rt.alloc();
+    let deep = "stop depth\n";
+    let again = [(CALLS_FROM_METHOD, MOST, Status::Stopped, deep)];
+    expect_ends(&rt, alloc, &[(CHOICE, 1)], &again)?;
+    let records = [
+        (CALLS_FROM_PROPERTY, MOST, Status::Stopped, deep),
+        (
+            HIDDEN,
+            MOST,
+            Status::Done,
+            "op N.f#0 ({})\nret undefined\ndone\n",
+        ),
+    ];
+    expect_ends(&rt, alloc, &[(RECORD, 1)], &records)
+}
+
+/// An object of 65,536 properties, the first of which deletes the second, hides the third and adds one more.
+fn many_keys(alloc: Global) -> Result<Vec<u8>, AllocError> {
+    let mut script = Vec::from_slice(
+        alloc,
+        b"function g()\ndelete o.a01\ndefine hidden o.a02=1\ndefine o.late=1\nreturn 1\nend\nlet o=object()\ndefine o.a00 get g\n",
+    )?;
+    for number in 1..65_536usize {
+        script.extend_from_slice(b"define o.")?;
+        push_name(&mut script, b'a', number)?;
+        script.extend_from_slice(b"=1\n")?;
+    }
+    script.extend_from_slice(b"do N.f(o)\n")?;
+    Ok(script)
+}
+
+#[test]
+fn a_record_has_many_keys(rt: HostRuntime) -> Result<(), Fail> {
+    let alloc = rt.alloc();
+    let fragment = Vec::from_slice(alloc, RECORD.as_bytes())?;
+    let script = many_keys(alloc)?;
+    let end = "\"sD1\": 1})\nret undefined\ndone\n";
+    expect_end(&rt, alloc, fragment, script, MOST, Status::Done, end)
 }
 
 /// A function of 70,000 parameters and of as many local names behind its `return` is called 100,000 times.

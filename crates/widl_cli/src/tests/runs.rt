@@ -219,14 +219,14 @@ const REFUSED: [Row; 6] = [
         "script S2 1 8\n",
     ),
     (
-        "namespace N { undefined f(long a); undefined g(long? b); };",
+        "namespace N { undefined f(long a); undefined g(Promise<any> b); };",
         "",
         "5",
         Status::Refused,
         "refused later 0 0\n",
     ),
     (
-        "namespace N { undefined f(long a); undefined g(long? b); };",
+        "namespace N { undefined f(long a); undefined g(Promise<any> b); };",
         "do N.f(\n",
         "5",
         Status::Refused,

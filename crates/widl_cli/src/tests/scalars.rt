@@ -205,10 +205,10 @@ const OVERLOADS: [Row; 8] = [
     ),
     (
         "namespace N { };",
-        "do array().values()\n",
+        "do array().join()\n",
         "100000",
         Status::Stopped,
-        "call #12 this #19 ()\nstop profile 99\n",
+        "call #11 this #19 ()\nstop profile 99\n",
     ),
 ];
 

@@ -57,7 +57,7 @@ fn expect_each(
 }
 
 #[test]
-fn runs_are_supported_over_operations_on_scalars(rt: HostRuntime) -> Result<(), Fail> {
+fn runs_are_supported_over_operations_of_namespaces(rt: HostRuntime) -> Result<(), Fail> {
     let files = [
         "",
         "enum E { \"a\" };",
@@ -68,7 +68,14 @@ fn runs_are_supported_over_operations_on_scalars(rt: HostRuntime) -> Result<(), 
         "namespace N { undefined f(boolean a); octet f([Clamp] octet a, [EnforceRange] long long b); };",
         "namespace N { ByteString f([LegacyNullToEmptyString] DOMString a, USVString b); };",
         "enum E { \"a\" }; namespace N { E f(optional E a = \"a\"); object g(object a); };",
+        "namespace N { undefined f(long a); undefined f(long a, sequence<long> b); };",
+        "typedef sequence<any> T; namespace N { undefined f(record<USVString, T> a, T... b); };",
         "namespace N { boolean f(); }; partial namespace N { unsigned short g(); };",
+        "dictionary D { }; dictionary E : D { sequence<D> a = []; long? b; };",
+        "typedef DOMString? T; namespace N { T f(optional any a, T... b); };",
+        "dictionary D { }; namespace N { undefined f(optional D a = {}, optional sequence<D>? b = null); };",
+        "namespace N { (long or DOMString)? f((long or (boolean? or sequence<(long or DOMString)>)) a); };",
+        "dictionary D { (long or DOMString) a; }; namespace N { undefined f(sequence<record<DOMString, (long or D)>> a); };",
     ];
     expect_each(&rt, rt.alloc(), &files, true)
 }
@@ -76,16 +83,13 @@ fn runs_are_supported_over_operations_on_scalars(rt: HostRuntime) -> Result<(), 
 #[test]
 fn runs_are_not_supported_over_other_sets(rt: HostRuntime) -> Result<(), Fail> {
     let files = [
-        "namespace N { undefined f(long? a); };",
-        "namespace N { undefined f(long a); undefined f(long a, sequence<long> b); };",
         "namespace N { record<DOMString, long> f(); };",
-        "namespace N { undefined f((long or DOMString) a); };",
+        "namespace N { (long or sequence<long>) f(); };",
         "namespace N { Promise<undefined> f(); };",
-        "typedef DOMString? T; namespace N { undefined f(optional any a, T... b); };",
         "namespace N { readonly attribute any a; };",
         "namespace N { const long c = 1; };",
-        "namespace N { }; namespace O { octet? f(octet a); };",
-        "dictionary D { };",
+        "dictionary D { }; namespace N { D f(); };",
+        "namespace N { sequence<long>? f(); };",
         "interface I { };",
         "callback C = undefined ();",
         "callback interface C { undefined f(); };",

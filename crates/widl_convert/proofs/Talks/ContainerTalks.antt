@@ -1,5 +1,5 @@
 -- Worked conversations with everything built: containers on their way to script.
-use Rattle.std.specs.Prelude.{[], ◌∷◌, ◌++◌, false, codes, refl}
+use Rattle.std.specs.Prelude.{[], ◌∷◌, false, codes, refl}
 use Rattle.widl_dialog.specs.Conversation.{Asks, Ends}
 use Rattle.widl_text.specs.declared.key.Key.TheVariants as keys
 use Rattle.widl_idl.specs.declared.text_kind.TextKind.TheVariants as texts

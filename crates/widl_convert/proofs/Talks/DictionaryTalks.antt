@@ -1,5 +1,5 @@
 -- Worked conversations with everything built: dictionaries.
-use Rattle.std.specs.Prelude.{[], ◌∷◌, ◌++◌, None, Some, true, codes, pos, refl}
+use Rattle.std.specs.Prelude.{[], ◌∷◌, None, Some, true, codes, pos, refl}
 use Rattle.widl_dialog.specs.Conversation.{Asks, Ends}
 use Rattle.widl_text.specs.declared.key.Key.TheVariants as keys
 use Rattle.widl_idl.specs.declared.literal.Literal.TheVariants as literals

@@ -17,8 +17,8 @@ use Rattle.widl_value.specs.Rounding.{near_of, step_of}
 use Rattle.widl_scalar.specs.WhiteSpace.{trimmed, is_white}
 use Rattle.widl_scalar.specs.NumeralWords.{exact_of, read_of, read_unsigned}
 use Rattle.widl_trace.specs.declared.code.Code.TheVariants as code
-use Rattle.widl_convert.specs.AskTerms.{GetAsk}
-use Rattle.widl_convert.specs.Tasks.{Resolve, TaskEnd, Picks, Throw, Profile}
+use Rattle.widl_convert.specs.AskTerms.{GetAsk, CallAsk}
+use Rattle.widl_convert.specs.Tasks.{Resolve, TaskEnd, Picks, Throw}
 use Rattle.widl_convert.proofs.Worked.{number, integer, plain, function, gets, calls, argument, overload, with_overloads, f, nothing_defined, Says}
 
 abbrev pub long : TypeTerm
@@ -213,7 +213,8 @@ method_not_callable : Says with_sequence (Resolve f (values.Obj (plain 1) ∷ []
 unfolding apart_at
 method_not_callable = (30, (refl, tt, refl))
 
-with_method : Says with_sequence (Resolve f (values.Obj (plain 1) ∷ [])) (gets (plain 1) (keys.Sym 0) (values.Obj (function 2)) ∷ []) (Ends (Profile 99))
+-- the method that was found is called, and not read again
+with_method : Says with_sequence (Resolve f (values.Obj (plain 1) ∷ [])) (gets (plain 1) (keys.Sym 0) (values.Obj (function 2)) ∷ []) (Asks (CallAsk (function 2) (values.Obj (plain 1)) []))
 unfolding apart_at
 with_method = (30, (refl, tt, refl))
 

@@ -7,7 +7,7 @@ use Rattle.widl_idl.specs.declared.literal.Literal.TheVariants as literals
 use Rattle.widl_idl.specs.declared.text_kind.TextKind.TheVariants as texts
 use Rattle.widl_idl.specs.Terms.{packed, AnyType, UndefinedType, BooleanType, IntegerType, StringType, EnumerationType, DictionaryType, ObjectType, SequenceType, PromiseType, NullableType, UnionType}
 use Rattle.widl_value.specs.declared.value.Value.TheVariants as values
-use Rattle.widl_value.specs.IdlTerms.{UndefinedValue, NullValue, MissingValue, BooleanValue, StringValue, EnumerationValue, ObjectValue, AnyValue, SequenceValue, PromiseValue, no_values}
+use Rattle.widl_value.specs.IdlTerms.{UndefinedValue, NullValue, MissingValue, BooleanValue, StringValue, EnumerationValue, ObjectValue, AnyValue, SequenceValue, DictionaryValue, PromiseValue, no_values, no_members}
 use Rattle.widl_value.specs.Rounding.{near_of, step_of}
 use Rattle.widl_convert.specs.Tasks.{Out, Default, Gives, Plain, Profile}
 use Rattle.widl_convert.proofs.Worked.{number, integer, plain, nothing_defined, with_values, Says}
@@ -75,6 +75,6 @@ undefined_of_any = (10, refl)
 empty_sequence : Says nothing_defined (Default (SequenceType AnyType) (Some literals.EmptyList)) [] (Ends (Gives (SequenceValue no_values)))
 empty_sequence = (10, refl)
 
--- `{}` is a conversion, which isn't built
-no_dictionary : Says nothing_defined (Default (DictionaryType 0) (Some literals.EmptyDict)) [] (Ends (Profile 99))
-no_dictionary = (10, refl)
+-- `{}` is the dictionary that undefined is converted to
+empty_dictionary : Says nothing_defined (Default (DictionaryType 0) (Some literals.EmptyDict)) [] (Ends (Gives (DictionaryValue 0 no_members)))
+empty_dictionary = (10, refl)

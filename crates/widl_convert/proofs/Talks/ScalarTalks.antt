@@ -6,7 +6,7 @@ use Rattle.widl_text.specs.declared.key.Key.TheVariants as keys
 use Rattle.widl_idl.specs.declared.int_kind.IntKind.TheVariants.{Octet, Long, LongLong}
 use Rattle.widl_idl.specs.declared.int_kind.Mode.TheVariants.{Wrap, Clamp, Enforce}
 use Rattle.widl_idl.specs.declared.text_kind.TextKind.TheVariants as texts
-use Rattle.widl_idl.specs.Terms.{AnyType, UndefinedType, BooleanType, IntegerType, StringType, EnumerationType, ObjectType, SequenceType}
+use Rattle.widl_idl.specs.Terms.{AnyType, UndefinedType, BooleanType, IntegerType, StringType, EnumerationType, InterfaceType, ObjectType}
 use Rattle.widl_value.specs.declared.number.Number.TheVariants as numbers
 use Rattle.widl_value.specs.declared.value.Value.TheVariants as values
 use Rattle.widl_value.specs.IdlTerms.{UndefinedValue, BooleanValue, StringValue, EnumerationValue, ObjectValue, AnyValue}
@@ -127,5 +127,5 @@ anything : Says nothing_defined (Convert AnyType (values.Sym 3)) [] (Ends (Gives
 anything = (10, refl)
 
 -- a conversion that isn't built
-no_sequence : Says nothing_defined (Convert (SequenceType AnyType) values.Undefined) [] (Ends (Profile 99))
-no_sequence = (10, refl)
+no_interface : Says nothing_defined (Convert (InterfaceType 0) values.Undefined) [] (Ends (Profile 99))
+no_interface = (10, refl)

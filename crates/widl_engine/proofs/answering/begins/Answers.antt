@@ -1,11 +1,14 @@
-use Rattle.std.proofs.Common.{ap}
-use Rattle.widl_calls.specs.CallTasks.{CallTalk}
-use Rattle.widl_calls.specs.Operations.{lines_of}
-use Rattle.widl_runs.specs.Asks.{in_world}
+use Rattle.std.proofs.Common.{ap, false}
+use Rattle.widl_calls.specs.CallTasks.{Function}
+use Rattle.widl_runs.specs.Jobs.{Talk}
+use Rattle.widl_runs.specs.Rules.{rule}
+use Rattle.widl_engine.specs.declared.jobs.BuiltinCall.{BuiltinCall}
 use Rattle.widl_engine.specs.Frames.{program_of}
 use Rattle.widl_engine.proofs.Talking.{leads_same}
 use Rattle.widl_engine.proofs.answering.begins.Goals as goal
 
 pub returns : goal.returns
 returns c =
-    leads_same c.args.tables.now c.args.script.now _ _ c.goes.result (ap (λ (d : CallTalk). in_world d) (c.in_ok-asker.ensures.rest (program_of c.args.tables.now c.args.script.now).list (lines_of (program_of c.args.tables.now c.args.script.now).list (program_of c.args.tables.now c.args.script.now).script))) c.goes.ensures
+    leads_same c.args.tables.now c.args.script.now _ _ c.starts.result
+    (ap (λ (x : BuiltinCall). rule (program_of c.args.tables.now c.args.script.now) (Talk (Function x.f x.what x.this x.args false))) c.into_inner.ensures)
+    c.starts.ensures

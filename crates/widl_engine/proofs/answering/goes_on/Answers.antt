@@ -6,4 +6,4 @@ use Rattle.widl_engine.specs.Conversing.{IsNextMove}
 use Rattle.widl_engine.proofs.answering.goes_on.Goals as goal
 
 pub returns-in-Ask : goal.returns-in-Ask
-returns-in-Ask c = subst (λ (n : Next). IfOk c.waits.result (λ m. (p : Program) (s : Tables) → IsNextMove p s c.args.asker n m)) (sym c.in-Ask.is) c.waits.ensures
+returns-in-Ask c = subst (λ (n : Next). IfOk c.waits.result (λ m. (p : Program) (s : Tables) → IsNextMove p s c.args.asker.value n m)) (sym c.in-Ask.is) c.waits.ensures

@@ -10,5 +10,5 @@ use Rattle.widl_engine.proofs.answering.waits.Goals as goal
 
 pub returns : goal.returns
 returns c p s =
-    λ i. Steps (Asked (ask_term c.args.ask)) (λ end. (c.in_ok-frame.ensures p s end
-    ∙ ap (λ (k : AskKind). let d : Doing = in_world (call_rest p.list (lines_of p.list p.script) c.args.asker (answer_by k end)) in d) c.kind_of.ensures) i)
+    λ i. Steps (Asked (ask_term (c.in_ok-new.ensures.ok i))) (λ end. (c.suspend-frame.ensures p s end
+    ∙ ap (λ (k : AskKind). let d : Doing = in_world (call_rest p.list (lines_of p.list p.script) c.args.asker.value (answer_by k end)) in d) c.kind_of.ensures) i)

@@ -3,9 +3,10 @@ use Rattle.std.specs.declared.result.Result.TheVariants as results
 use Rattle.widl_runs.specs.Fitting.{FitsJob}
 use Rattle.widl_runs.specs.Rules.{rule}
 use Rattle.widl_runs.specs.Jobs.{Program}
+use Rattle.widl_script_tree.specs.Tables.{Tables}
 use Rattle.widl_engine.specs.declared.jobs.Job.{Job}
 use Rattle.widl_engine.specs.Frames.{job_of, program_of}
-use Rattle.widl_engine.proofs.Beginning.{leads_by}
+use Rattle.widl_engine.proofs.Beginning.{leads_by, leads_over}
 use Rattle.widl_engine.proofs.Talking.{leads_same}
 use Rattle.widl_engine.proofs.moves.begin.Goals as goal
 
@@ -43,7 +44,7 @@ pub returns-in-Construct : goal.returns-in-Construct
 returns-in-Construct c = leads_by c.args.tables.now c.args.script.now (λ (p : Program) (j : Job). rule p (job_of c.args.script.now j)) c.args.job _ (results.Ok c.construct.result) c.in-Construct.is (λ p. c.construct.ensures p c.args.script.now)
 
 pub returns-in-Asked : goal.returns-in-Asked
-returns-in-Asked c = leads_by c.args.tables.now c.args.script.now (λ (p : Program) (j : Job). rule p (job_of c.args.script.now j)) c.args.job _ (results.Ok c.asks.result) c.in-Asked.is (λ p. c.asks.ensures p c.args.script.now)
+returns-in-Asked c = leads_over c.args.tables.now c.args.script.now (λ (p : Program) (s : Tables) (j : Job). rule p (job_of s j)) c.args.job _ c.asks.result c.in-Asked.is c.asks.ensures
 
 pub returns-in-Fail : goal.returns-in-Fail
 returns-in-Fail c = leads_by c.args.tables.now c.args.script.now (λ (p : Program) (j : Job). rule p (job_of c.args.script.now j)) c.args.job _ (results.Ok c.fail.result) c.in-Fail.is (λ p. c.fail.ensures p c.args.script.now)

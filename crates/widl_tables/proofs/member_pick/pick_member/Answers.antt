@@ -1,4 +1,4 @@
-use Rattle.std.proofs.Common.{◌≡◌, rules, None, Some, sym, ◌∙◌, arith}
+use Rattle.std.proofs.Common.{◌≡◌, rules, None, sym, ◌∙◌, arith}
 use Rattle.widl_idl.specs.DefinitionTerms.{defs_term}
 use Rattle.widl_idl.specs.Flattened.{flattened_members}
 use Rattle.widl_idl.specs.Terms.{packed, type_terms}

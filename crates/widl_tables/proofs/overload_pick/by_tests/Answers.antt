@@ -1,4 +1,4 @@
-use Rattle.std.proofs.Common.{◌≡◌, rules, map, None, Some, sym, ap, ◌∙◌, arith}
+use Rattle.std.proofs.Common.{◌≡◌, rules, map, None, sym, ap, ◌∙◌, arith}
 use Rattle.widl_idl.specs.DefinitionTerms.{defs_term, sig_term}
 use Rattle.widl_tables.specs.Decided.{met_test}
 use Rattle.widl_tables.specs.Picks.{pick_of, tests}

@@ -1,4 +1,4 @@
-use Rattle.std.proofs.Common.{◌≡◌, ◌≤◌, ℕ, length, ap, subst, ◌∙◌}
+use Rattle.std.proofs.Common.{◌≤◌, ℕ, length, subst, ◌∙◌}
 use Rattle.widl_idl.specs.DefinitionTerms.{defs_term}
 use Rattle.widl_tables.specs.Kept.{declared_args, entry_for}
 use Rattle.widl_tables.proofs.Picking.{of_several}
