@@ -186,8 +186,8 @@ fn members_of_three_files_are_one_order(rt: HostRuntime) -> Result<(), Fail> {
 /// A chain of 256 dictionaries, each with the one before as its only member.
 fn chain(alloc: Global) -> Result<String, Fail> {
     let mut text = String::from_str(alloc, "dictionary D0 { long v; };")?;
-    for number in 1..256 {
-        let before = number - 1;
+    for before in 0..255u32 {
+        let number = before.saturating_add(1);
         let dictionary = format!(in alloc; "dictionary D{number} {{ D{before} v; }};")?;
         text.push_str(dictionary.as_str())?;
     }
@@ -230,8 +230,8 @@ fn an_object_that_holds_itself_is_converted(rt: HostRuntime) -> Result<(), Fail>
 /// A line of dictionaries, each of which inherits from the one before, with as many members.
 fn line(alloc: Global, count: usize, member: &str) -> Result<Vec<u8>, Fail> {
     let mut text = String::from_str(alloc, "dictionary D0{};")?;
-    for number in 1..count {
-        let before = number - 1;
+    for before in 0..count.saturating_sub(1) {
+        let number = before.saturating_add(1);
         let name = format!(in alloc; "dictionary D{number}:D{before}{{")?;
         text.push_str(name.as_str())?;
         if !member.is_empty() {
@@ -240,7 +240,7 @@ fn line(alloc: Global, count: usize, member: &str) -> Result<Vec<u8>, Fail> {
         }
         text.push_str("};")?;
     }
-    let last = count - 1;
+    let last = count.saturating_sub(1);
     let operation = format!(in alloc; "namespace N{{undefined f(optional D{last} d={{}});}};")?;
     text.push_str(operation.as_str())?;
     Ok(Vec::from_slice(alloc, text.as_bytes())?)
