@@ -28,6 +28,7 @@ use Rattle.widl_script_tree.specs.declared.steps.Source.{Source}
 use Rattle.widl_script_tree.specs.declared.steps.Source.TheVariants as sources
 use Rattle.widl_script_tree.specs.declared.steps.StepLine.{StepLine}
 use Rattle.widl_script_tree.specs.declared.steps.StepLine.TheVariants as steps
+use Rattle.widl_convert.specs.Dictionaries.{requires_member}
 use Rattle.widl_convert.specs.declared.answer.CursorState.{CursorState}
 use Rattle.widl_convert.specs.declared.answer.CursorState.TheVariants as cursors
 use Rattle.widl_convert.specs.declared.answer.KindName.TheVariants as kinds
@@ -42,7 +43,7 @@ use Rattle.widl_calls.specs.ArrayFunctions.{array_values, iterator_result, read_
 use Rattle.widl_calls.specs.BuiltCalls.{BuiltCalls}
 use Rattle.widl_calls.specs.CallRules.{call_rule, intrinsic, function}
 use Rattle.widl_calls.specs.CallTasks.{CallTask, NamedValues, Of, Function, Lines, CallTalk}
-use Rattle.widl_calls.specs.DefaultResults.{requires_member, default_result}
+use Rattle.widl_calls.specs.DefaultResults.{default_result}
 use Rattle.widl_calls.specs.ObjectFunctions.{kind_in, kind_tag, most_joined_units, object_to_string, object_value_of, tagged, with_tag, by_kind}
 use Rattle.widl_calls.specs.Operations.{StepsOf, result_type, returns_promise, steps_of, chosen, owned_operation}
 use Rattle.widl_calls.specs.StepLines.{argument_value, read_values, return_line, line, lines}

@@ -8,6 +8,7 @@ use Rattle.widl_idl.specs.DefinitionTerms.{DefsTerm}
 use Rattle.widl_convert.specs.declared.moves.Ending.{Ending}
 use Rattle.widl_convert.specs.AskTerms.{Fits}
 use Rattle.widl_convert.specs.Frames.{end_of}
+use Rattle.widl_convert.specs.Loads.{given_load}
 use Rattle.widl_calls.specs.declared.frames.CallFrame.{CallFrame}
 use Rattle.widl_calls.specs.declared.jobs.CallJob.{CallJob}
 use Rattle.widl_calls.specs.declared.moves.CallMove.{CallMove}
@@ -32,10 +33,11 @@ go_less list j m m' fs is less =
     let b : call_weight list m ≡ 1 + job_load list j = ap (call_weight list) is in
     omega (arith, b, less)
 
-pub give_less : (list : DefsTerm) (f : CallFrame) (m m' : CallMove) (old fs : List CallFrame) → old ≡ fs ++ f ∷ [] → call_weight list m' < call_frame_load f → stack_load call_frame_load fs + call_weight list m' < stack_load call_frame_load old + call_weight list m
-give_less list f m m' old fs is_old less =
+pub give_less : (list : DefsTerm) (f : CallFrame) (r : Ending) (m m' : CallMove) (old fs : List CallFrame) → m ≡ moves.Gives r → old ≡ fs ++ f ∷ [] → call_weight list m' < call_frame_load f + given_load (end_of r) → stack_load call_frame_load fs + call_weight list m' < stack_load call_frame_load old + call_weight list m
+give_less list f r m m' old fs is is_old less =
     let a : stack_load call_frame_load old ≡ stack_load call_frame_load fs + call_frame_load f = ap (stack_load call_frame_load) is_old ∙ load_push call_frame_load fs f in
-    omega (arith, a, less)
+    let b : call_weight list m ≡ given_load (end_of r) = ap (call_weight list) is in
+    omega (arith, a, b, less)
 
 -- 2. The way
 
@@ -53,7 +55,7 @@ module _ {list : DefsTerm} {steps : StepsOf} where
       let down = go_less list j m m' fs is less in
       record { place = stacking.went (call_rule calls_built_today list steps) Fits (call_returned_to list steps) fs (at_move follows is).place leads; less = omega (arith, down, follows.less) }
 
-  pub gave : {d : CallTalk} {bound : ℕ} {m m' : CallMove} {r : Ending} {old fs : List CallFrame} (f : CallFrame) → CallFollows list steps d bound m old → m ≡ moves.Gives r → old ≡ fs ++ f ∷ [] → call_dialog list steps m' ≡ call_returned_to list steps f (end_of r) → call_weight list m' < call_frame_load f → CallFollows list steps d bound m' fs
+  pub gave : {d : CallTalk} {bound : ℕ} {m m' : CallMove} {r : Ending} {old fs : List CallFrame} (f : CallFrame) → CallFollows list steps d bound m old → m ≡ moves.Gives r → old ≡ fs ++ f ∷ [] → call_dialog list steps m' ≡ call_returned_to list steps f (end_of r) → call_weight list m' < call_frame_load f + given_load (end_of r) → CallFollows list steps d bound m' fs
   gave {m = m} {m' = m'} {r = r} {old = old} {fs = fs} f follows is is_old is_move less =
-      let down = give_less list f m m' old fs is_old less in
+      let down = give_less list f r m m' old fs is is_old less in
       record { place = stacking.gave (call_rule calls_built_today list steps) Fits (call_returned_to list steps) f old fs (end_of r) (at_move follows is).place is_old (here (call_rule calls_built_today list steps) Fits (sym is_move)); less = omega (arith, down, follows.less) }

@@ -1,10 +1,11 @@
 -- For proofs and contracts alone; no step names these words. What the functions of arrays still do after an answer, and of which kind it is.
-use Rattle.std.specs.Prelude.{ℕ, true, false, codes}
+use Rattle.std.specs.Prelude.{ℕ, ◌+◌, true, false, codes}
 use Rattle.widl_dialog.specs.Dialog.{End, Say}
 use Rattle.widl_text.specs.declared.key.Key.TheVariants as keys
 use Rattle.widl_value.specs.declared.value.Value.TheVariants as values
 use Rattle.widl_convert.specs.AskTerms.{AskKind, OfGet, OfNewObject, OfNewArrayIterator, OfCursor, OfSetCursor, GetAsk, AnswerTerm}
 use Rattle.widl_convert.specs.Frames.{end_of}
+use Rattle.widl_convert.specs.Loads.{given_load}
 use Rattle.widl_convert.specs.Words.{done, normal, returns}
 use Rattle.widl_calls.specs.declared.array_turns.ArrayTurn.{ArrayTurn}
 use Rattle.widl_calls.specs.declared.array_turns.ArrayWait.{ArrayWait}
@@ -53,5 +54,5 @@ array_patience (waits.Length t) = 0
 array_patience (waits.Element t) = 0
 array_patience (waits.Given v) = moved_load
 array_patience waits.AtEnd = moved_load
-array_patience (waits.Threw r) = moved_load
+array_patience (waits.Threw r) = moved_load + given_load (end_of r)
 array_patience waits.NewResult = 0

@@ -1,7 +1,6 @@
 -- The result of a callee none of whose lines returns: the default of its type, if it has one.
 -- Source: this program's own.
-use Rattle.std.specs.Prelude.{Bool, false, if◌then◌else◌, [], ℕ, pos}
-use Rattle.std.specs.List.{list_any}
+use Rattle.std.specs.Prelude.{false, if◌then◌else◌, [], ℕ, pos}
 use Rattle.widl_dialog.specs.Dialog.{End, Steps}
 use Rattle.widl_idl.specs.DefinitionTerms.{DefsTerm}
 use Rattle.widl_idl.specs.Terms.{TypeTerm, AnyType, UndefinedType, BooleanType, IntegerType, StringType, EnumerationType, DictionaryType, SequenceType, RecordType, NullableType}
@@ -9,14 +8,10 @@ use Rattle.widl_value.specs.declared.value.Value.TheVariants as values
 use Rattle.widl_value.specs.IdlTerms.{UndefinedValue, NullValue, BooleanValue, IntegerValue, StringValue, EnumerationValue, AnyValue, SequenceValue, RecordValue, DictionaryValue, no_values, no_entries, no_members}
 use Rattle.widl_trace.specs.declared.code.Code.TheVariants as code
 use Rattle.widl_convert.specs.Built.{Built}
-use Rattle.widl_tables.specs.MemberOrder.{DeclaredMember, members_in_order}
+use Rattle.widl_convert.specs.Dictionaries.{requires_member}
 use Rattle.widl_convert.specs.Tasks.{Convert}
 use Rattle.widl_convert.specs.Words.{gives, fails, not_built}
 use Rattle.widl_calls.specs.CallTasks.{Of, CallTalk}
-
--- a member is required, inherited ones included
-abbrev pub requires_member : DefsTerm → ℕ → Bool
-requires_member list n = list_any (λ (m : DeclaredMember). m.member.needed) (members_in_order list n)
 
 -- a dictionary is made from undefined
 abbrev pub dictionary_result : DefsTerm → ℕ → CallTalk

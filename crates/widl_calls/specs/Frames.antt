@@ -16,7 +16,7 @@ use Rattle.widl_script_tree.specs.declared.steps.StepLine.{StepLine}
 use Rattle.widl_convert.specs.declared.outcome.Want.TheVariants as wants
 use Rattle.widl_convert.specs.AskTerms.{AnswerTerm, Fits, ask_term}
 use Rattle.widl_convert.specs.Frames.{end_of}
-use Rattle.widl_convert.specs.Loads.{load, object_load}
+use Rattle.widl_convert.specs.Loads.{given_load, load, object_load}
 use Rattle.widl_convert.specs.Stack.{rest, quiet}
 use Rattle.widl_convert.specs.Tasks.{TaskEnd, Convert, Resolve, Scalar, Out}
 use Rattle.widl_convert.specs.Words.{done, normal, number}
@@ -77,7 +77,7 @@ first_line list t named [] = default_result built_today list t
 first_line list t named (l ∷ more) = line t named l
 
 abbrev pub call_after : DefsTerm → StepsOf → CallWait → AnswerTerm → CallTalk
-call_after list steps (waits.Inside i) = λ a. rename Of (rest list i.asker a)
+call_after list steps (waits.Inside i) = λ a. rename Of (rest list i.asker.value a)
 call_after list steps (waits.Noted o read) = done (Steps (Lines (type_for list o) (named_terms read) (lines_in list steps o)) (result (type_for list o)))
 call_after list steps (waits.Line o read) = done (first_line list (type_for list o) (named_terms read) (lines_in list steps o))
 call_after list steps (waits.Tag o) = normal (with_tag o)
@@ -127,18 +127,22 @@ function_load list (builtins.Callee callee) args = operation_load list callee ar
 function_load list (builtins.InterfaceObject iface) args = 0
 function_load list (builtins.Pairs iface what) args = 0
 
+-- a dictionary that is made from undefined
+abbrev pub default_load : DefsTerm → Overload → ℕ
+default_load list o = 1 + inner_load (load list (Convert (type_for list o) values.Undefined))
+
 -- what a task does before a charge
 abbrev pub job_load : DefsTerm → CallJob → ℕ
 job_load list (jobs.Function f what this args construct) = function_load list what args.values
 job_load list (jobs.Resolve callee args) = inner_load (load list (Resolve callee args.values))
-job_load list (jobs.Lines o read) = 0
+job_load list (jobs.Lines o read) = default_load list o
 job_load list (jobs.OfUndefined o) = inner_load (load list (Convert (type_for list o) values.Undefined))
 job_load list (jobs.Out o value) = inner_load (load list (Out (type_for list o) (idl_term value)))
 job_load list (jobs.ToLength v) = inner_load (load list (Scalar wants.Length v))
 
 -- what a wait does after the answer to an ask that takes no charge
 abbrev pub call_patience : DefsTerm → CallWait → ℕ
-call_patience list (waits.Inside i) = inner_load (quiet list i.asker)
+call_patience list (waits.Inside i) = inner_load (quiet list i.asker.value)
 call_patience list (waits.Noted o read) = 0
 call_patience list (waits.Line o read) = 0
 call_patience list (waits.Tag o) = 0
@@ -147,6 +151,6 @@ call_patience list (waits.Array w) = array_patience w
 
 abbrev pub call_weight : DefsTerm → CallMove → ℕ
 call_weight list (moves.Asks p) = call_patience list p.wait
-call_weight list (moves.Gives r) = 0
+call_weight list (moves.Gives r) = given_load (end_of r)
 call_weight list (moves.Steps f j) = 1 + call_frame_load f + job_load list j
 call_weight list (moves.Goes j) = 1 + job_load list j

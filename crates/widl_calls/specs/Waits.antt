@@ -7,7 +7,7 @@ use Rattle.widl_calls.specs.ArrayWaits.{array_kind_for}
 use Rattle.widl_calls.specs.Kinds.{kind_in}
 
 abbrev pub call_kind_for : CallWait → AskKind
-call_kind_for (waits.Inside i) = kind_in i.asker
+call_kind_for (waits.Inside i) = kind_in i.asker.value
 call_kind_for (waits.Noted overload read) = OfNote
 call_kind_for (waits.Line overload read) = OfUnit
 call_kind_for (waits.Tag o) = OfGet

@@ -1,12 +1,13 @@
 //! The functions by which an array is iterated over: `values` of arrays, and `next` of their iterators.
 
-ghost use Rattle.std.specs.Prelude.{◌≡◌, ◌<◌, ◌≤◌, decimal, IfOk};
+ghost use Rattle.std.specs.Prelude.{◌≡◌, ◌<◌, ◌≤◌, ◌+◌, decimal, IfOk};
 ghost use Rattle.widl_dialog.specs.Dialog.{End, Say};
 ghost use Rattle.widl_text.specs.declared.key.Key.TheVariants.{Name};
 ghost use Rattle.widl_idl.specs.DefinitionTerms.{DefsTerm};
 ghost use Rattle.widl_calls.specs.Operations.{StepsOf};
 ghost use Rattle.widl_convert.specs.AskTerms.{IsFree, OfSetCursor, SetCursorAsk, answer_term, ask_term, kind_of};
 ghost use Rattle.widl_convert.specs.Frames.{end_of};
+ghost use Rattle.widl_convert.specs.Loads.{given_load};
 ghost use Rattle.widl_convert.specs.Words.{normal, returns};
 ghost use Rattle.widl_calls.specs.ArrayFunctions.{array_iterator_next, array_values, by_cursor, by_turn, cursor_in, element_read, ends_iterator, iterator_result, length_read, read_in_turn, with_length};
 ghost use Rattle.widl_calls.specs.ArrayWaits.{array_after, array_kind_for, array_patience, cursor_load, moved_load, with_turn};
@@ -177,7 +178,7 @@ fn sets(iterator: ObjRef, next: u64, turn: Turn, wait: ArrayWait) -> CallMove
 /// A turn that throws ends the iterator first.
 fn throws(iterator: ObjRef, next: u64, ending: Ending) -> CallMove
     ensures dialog { (list : DefsTerm) (steps : StepsOf) → call_dialog list steps result ≡ ends_iterator iterator next (End (end_of ending)) }
-    ensures weight { (list : DefsTerm) → call_weight list result ≡ moved_load }
+    ensures weight { (list : DefsTerm) → call_weight list result ≡ moved_load + given_load (end_of ending) }
 {
     sets(iterator, next, Turn::Ended, ArrayWait::Threw(ending))
 }
@@ -224,7 +225,7 @@ pub(crate) fn length_given(
     ending: Ending,
 ) -> Result<CallMove, AllocError>
     ensures dialog { IfOk result (λ m. (list : DefsTerm) (steps : StepsOf) → call_dialog list steps m ≡ length_to turn (end_of ending)) }
-    ensures weight { IfOk result (λ m. (list : DefsTerm) → call_weight list m < length_load) }
+    ensures weight { IfOk result (λ m. (list : DefsTerm) → call_weight list m < length_load + given_load (end_of ending)) }
 {
     match ending {
         Ending::Throw(reason) => Ok(throws(turn.iterator, turn.next, Ending::Throw(reason))),

@@ -128,7 +128,10 @@ impl CallAsker {
         ensures frames { self.new.frames ≡ self.old.frames }
     {
         let CallAsking { ask, wait } = asking;
-        discard(mem::replace(&mut self.state, CallState::Waits(wait)));
+        match mem::replace(&mut self.state, CallState::Waits(wait)) {
+            CallState::Ended => {}
+            former => discard(former),
+        }
         Next::Ask(ask)
     }
 }

@@ -22,13 +22,13 @@ use widl_tables::Tables;
 /// # Errors
 ///
 /// `AllocError` where there is no memory.
-pub(crate) fn begins(tables: &Tables, asker: Asker) -> Result<CallMove, AllocError>
+pub(crate) fn begins(alloc: Global, tables: &Tables, asker: Asker) -> Result<CallMove, AllocError>
     requires begins { Expects asker BeginAnswer }
     requires ready { IsQuiet asker }
     ensures leads { IfOk result (λ m. (steps : StepsOf) → CallLeads (defs_term tables.now.defs) steps (rename Of (rest (defs_term tables.now.defs) asker BeginAnswer)) (call_dialog (defs_term tables.now.defs) steps m)) }
     ensures weight { IfOk result (λ m. call_weight (defs_term tables.now.defs) m ≤ quiet (defs_term tables.now.defs) asker) }
 {
-    resume(tables, asker, Answer::Begin)
+    resume(tables, Box::new(alloc, asker)?, Answer::Begin)
 }
 
 /// A conversion goes on with an answer.
@@ -41,9 +41,9 @@ pub(crate) fn goes_on(
     inside: Inside,
     answer: Answer,
 ) -> Result<CallMove, AllocError>
-    requires { IsWanted (kind_in inside.asker) (answer_term answer) }
-    ensures leads { IfOk result (λ m. (steps : StepsOf) → CallLeads (defs_term tables.now.defs) steps (rename Of (rest (defs_term tables.now.defs) inside.asker (answer_term answer))) (call_dialog (defs_term tables.now.defs) steps m)) }
-    ensures weight { IfOk result (λ m. IsFree (kind_in inside.asker) → call_weight (defs_term tables.now.defs) m ≤ quiet (defs_term tables.now.defs) inside.asker) }
+    requires { IsWanted (kind_in inside.asker.value) (answer_term answer) }
+    ensures leads { IfOk result (λ m. (steps : StepsOf) → CallLeads (defs_term tables.now.defs) steps (rename Of (rest (defs_term tables.now.defs) inside.asker.value (answer_term answer))) (call_dialog (defs_term tables.now.defs) steps m)) }
+    ensures weight { IfOk result (λ m. IsFree (kind_in inside.asker.value) → call_weight (defs_term tables.now.defs) m ≤ quiet (defs_term tables.now.defs) inside.asker.value) }
 {
     let Inside { asker } = inside;
     resume(tables, asker, answer)
@@ -54,10 +54,10 @@ pub(crate) fn goes_on(
 /// # Errors
 ///
 /// `AllocError` where there is no memory.
-fn resume(tables: &Tables, asker: Asker, answer: Answer) -> Result<CallMove, AllocError>
-    requires { Expects asker (answer_term answer) }
-    ensures leads { IfOk result (λ m. (steps : StepsOf) → CallLeads (defs_term tables.now.defs) steps (rename Of (rest (defs_term tables.now.defs) asker (answer_term answer))) (call_dialog (defs_term tables.now.defs) steps m)) }
-    ensures weight { IfOk result (λ m. IsQuiet asker → call_weight (defs_term tables.now.defs) m ≤ quiet (defs_term tables.now.defs) asker) }
+fn resume(tables: &Tables, asker: Box<Asker>, answer: Answer) -> Result<CallMove, AllocError>
+    requires { Expects asker.value (answer_term answer) }
+    ensures leads { IfOk result (λ m. (steps : StepsOf) → CallLeads (defs_term tables.now.defs) steps (rename Of (rest (defs_term tables.now.defs) asker.value (answer_term answer))) (call_dialog (defs_term tables.now.defs) steps m)) }
+    ensures weight { IfOk result (λ m. IsQuiet asker.value → call_weight (defs_term tables.now.defs) m ≤ quiet (defs_term tables.now.defs) asker.value) }
 {
     let mut asker = asker;
     match asker.resume(tables, answer) {

@@ -1,60 +1,104 @@
 //! The result of an operation whose steps return nothing.
 
-ghost use Rattle.std.specs.Prelude.{◌≡◌};
-ghost use Rattle.std.specs.Option.{option_map_or};
-ghost use Rattle.widl_idl.specs.DefinitionTerms.{DefsTerm};
-ghost use Rattle.widl_idl.specs.Terms.{UndefinedType, type_term};
+ghost use Rattle.std.specs.Prelude.{◌≡◌, ◌≤◌, IfOk};
+ghost use Rattle.widl_idl.specs.DefinitionTerms.{defs_term};
+ghost use Rattle.widl_idl.specs.Terms.{DictionaryType, type_term};
 ghost use Rattle.widl_convert.specs.Built.{built_today};
-ghost use Rattle.widl_calls.specs.Operations.{StepsOf};
-ghost use Rattle.widl_calls.specs.Frames.{call_dialog, call_weight};
-ghost use Rattle.widl_calls.specs.DefaultResults.{default_result};
+ghost use Rattle.widl_calls.specs.Operations.{StepsOf, result_type};
+ghost use Rattle.widl_calls.specs.Frames.{call_dialog, call_weight, default_load};
+ghost use Rattle.widl_calls.specs.DefaultResults.{default_result, dictionary_result};
 
-use crate::ends::{NOT_BUILT, fails, gives, reaches};
+use crate::ends::{fails, gives};
+use crate::jobs::CallJob;
 use crate::moves::CallMove;
-use std::alloc::Global;
+use crate::overload::Overload;
+use std::alloc::{AllocError, Global};
+use widl_convert::requires_member;
 use widl_idl::IdlType;
+use widl_tables::Tables;
 use widl_text::Units;
 use widl_trace::Code;
 use widl_value::{IdlEntries, IdlValue, IdlValues, Value};
 
-/// The end with the default of a result's type, if it has one; no type stands for `undefined`.
-pub(crate) fn default_result(alloc: Global, ty: Option<&IdlType>) -> CallMove
-    ensures dialog { (list : DefsTerm) (steps : StepsOf) → call_dialog list steps result ≡ default_result built_today list (option_map_or (λ t. type_term t.now) ty.entry UndefinedType) }
-    ensures weight { (list : DefsTerm) → call_weight list result ≡ 0 }
+/// The move to the default of an overload's result, if its type has one; no type stands for `undefined`.
+///
+/// # Errors
+///
+/// `AllocError` where there is no memory.
+pub(crate) fn default_result(
+    alloc: Global,
+    tables: &Tables,
+    overload: Overload,
+) -> Result<CallMove, AllocError>
+    ensures dialog { IfOk result (λ m. (steps : StepsOf) → call_dialog (defs_term tables.now.defs) steps m ≡ default_result built_today (defs_term tables.now.defs) (result_type (defs_term tables.now.defs) overload.callee overload.number)) }
+    ensures weight { IfOk result (λ m. call_weight (defs_term tables.now.defs) m ≤ default_load (defs_term tables.now.defs) overload) }
 {
-    match ty {
-        None => gives(IdlValue::Undefined),
-        Some(ty) => default_of(alloc, ty),
+    match overload.result_type(tables) {
+        None | Some(IdlType::Undefined) => Ok(gives(IdlValue::Undefined)),
+        Some(ty) => default_of(alloc, tables, overload, ty),
     }
 }
 
-/// The end with the default of a type, if it has one.
-fn default_of(alloc: Global, ty: &IdlType) -> CallMove
-    ensures dialog { (list : DefsTerm) (steps : StepsOf) → call_dialog list steps result ≡ default_result built_today list (type_term ty.now) }
-    ensures weight { (list : DefsTerm) → call_weight list result ≡ 0 }
+/// The move to the default of a type, the one of an overload's result.
+///
+/// # Errors
+///
+/// `AllocError` where there is no memory.
+fn default_of(
+    alloc: Global,
+    tables: &Tables,
+    overload: Overload,
+    ty: &IdlType,
+) -> Result<CallMove, AllocError>
+    requires { result_type (defs_term tables.now.defs) overload.callee overload.number ≡ type_term ty.now }
+    ensures dialog { IfOk result (λ m. (steps : StepsOf) → call_dialog (defs_term tables.now.defs) steps m ≡ default_result built_today (defs_term tables.now.defs) (type_term ty.now)) }
+    ensures weight { IfOk result (λ m. call_weight (defs_term tables.now.defs) m ≤ default_load (defs_term tables.now.defs) overload) }
 {
     match ty {
-        IdlType::Any => gives(IdlValue::Any(Value::Undefined)),
-        IdlType::Undefined => gives(IdlValue::Undefined),
-        IdlType::Boolean => gives(IdlValue::Bool(false)),
-        IdlType::Int(_, _) => gives(IdlValue::Int(0)),
+        IdlType::Any => Ok(gives(IdlValue::Any(Value::Undefined))),
+        IdlType::Undefined => Ok(gives(IdlValue::Undefined)),
+        IdlType::Boolean => Ok(gives(IdlValue::Bool(false))),
+        IdlType::Int(_, _) => Ok(gives(IdlValue::Int(0))),
         IdlType::Text {
             kind: _,
             null_empty: _,
-        } => gives(IdlValue::Text(Units::new(alloc))),
-        IdlType::Choice(number) => gives(IdlValue::Choice {
+        } => Ok(gives(IdlValue::Text(Units::new(alloc)))),
+        IdlType::Choice(number) => Ok(gives(IdlValue::Choice {
             of: *number,
             index: 0,
-        }),
-        IdlType::Seq(_) => gives(IdlValue::List(IdlValues::new(alloc))),
-        IdlType::Rec(_, _) => gives(IdlValue::Entries(IdlEntries::new(alloc))),
-        IdlType::Nullable(_) => gives(IdlValue::Null),
-        IdlType::Dict(_) => reaches(NOT_BUILT),
-        IdlType::Interface(_) => fails(Code::NoDefault),
-        IdlType::CallbackFn(_) => fails(Code::NoDefault),
-        IdlType::CallbackIface(_) => fails(Code::NoDefault),
-        IdlType::Object => fails(Code::NoDefault),
-        IdlType::Promise(_) => fails(Code::NoDefault),
-        IdlType::Union(_) => fails(Code::NoDefault),
+        })),
+        IdlType::Seq(_) => Ok(gives(IdlValue::List(IdlValues::new(alloc)))),
+        IdlType::Rec(_, _) => Ok(gives(IdlValue::Entries(IdlEntries::new(alloc)))),
+        IdlType::Nullable(_) => Ok(gives(IdlValue::Null)),
+        IdlType::Dict(number) => dictionary_result(alloc, tables, overload, *number),
+        IdlType::Interface(_) => Ok(fails(Code::NoDefault)),
+        IdlType::CallbackFn(_) => Ok(fails(Code::NoDefault)),
+        IdlType::CallbackIface(_) => Ok(fails(Code::NoDefault)),
+        IdlType::Object => Ok(fails(Code::NoDefault)),
+        IdlType::Promise(_) => Ok(fails(Code::NoDefault)),
+        IdlType::Union(_) => Ok(fails(Code::NoDefault)),
+    }
+}
+
+/// The move to the default of a dictionary, which is made from `undefined`; where a member is required it has
+/// none.
+///
+/// # Errors
+///
+/// `AllocError` where there is no memory.
+fn dictionary_result(
+    alloc: Global,
+    tables: &Tables,
+    overload: Overload,
+    dictionary: u32,
+) -> Result<CallMove, AllocError>
+    requires { result_type (defs_term tables.now.defs) overload.callee overload.number ≡ DictionaryType dictionary }
+    ensures dialog { IfOk result (λ m. (steps : StepsOf) → call_dialog (defs_term tables.now.defs) steps m ≡ dictionary_result (defs_term tables.now.defs) dictionary) }
+    ensures weight { IfOk result (λ m. call_weight (defs_term tables.now.defs) m ≤ default_load (defs_term tables.now.defs) overload) }
+{
+    if requires_member(alloc, tables, dictionary)? {
+        Ok(fails(Code::NoDefault))
+    } else {
+        Ok(CallMove::Goes(CallJob::OfUndefined(overload)))
     }
 }

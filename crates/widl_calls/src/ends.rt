@@ -7,6 +7,7 @@ ghost use Rattle.widl_calls.specs.Operations.{StepsOf};
 ghost use Rattle.widl_value.specs.IdlTerms.{idl_term};
 ghost use Rattle.widl_convert.specs.Tasks.{Profile};
 ghost use Rattle.widl_convert.specs.Words.{fails, gives, returns};
+ghost use Rattle.widl_convert.specs.Loads.{value_load};
 ghost use Rattle.widl_calls.specs.Frames.{call_dialog, call_weight};
 
 use crate::moves::CallMove;
@@ -29,7 +30,7 @@ pub(crate) const NOT_BUILT: u8 = 99;
 /// The end with an IDL value.
 pub(crate) fn gives(value: IdlValue) -> CallMove
     ensures dialog { (list : DefsTerm) (steps : StepsOf) → call_dialog list steps result ≡ gives (idl_term value) }
-    ensures weight { (list : DefsTerm) → call_weight list result ≡ 0 }
+    ensures weight { (list : DefsTerm) → call_weight list result ≡ value_load (idl_term value) }
 {
     CallMove::Gives(Ending::Done(Outcome::Idl(value)))
 }

@@ -9,7 +9,7 @@ use widl_convert::Asker;
 /// A conversion that waits for an answer.
 #[derive(Drop)]
 pub struct Inside {
-    /// The conversion.
-    pub asker: Asker,
-    ghost waits: { pending asker ≡ Some (kind_in asker) },
+    /// The conversion; in a box, where it stays as long as it goes on.
+    pub asker: Box<Asker>,
+    ghost waits: { pending asker.value ≡ Some (kind_in asker.value) },
 }

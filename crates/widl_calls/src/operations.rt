@@ -1,10 +1,11 @@
 //! Operations: what the function of an operation does.
 
-ghost use Rattle.std.specs.Prelude.{◌≡◌, ◌≤◌, ◌<◌, ℕ, IfOk};
+ghost use Rattle.std.specs.Prelude.{◌≡◌, ◌≤◌, ◌<◌, ◌+◌, ℕ, IfOk};
 ghost use Rattle.widl_idl.specs.DefinitionTerms.{DefsTerm, defs_term};
 ghost use Rattle.widl_calls.specs.Operations.{StepsOf};
 ghost use Rattle.widl_value.specs.IdlTerms.{idl_terms};
 ghost use Rattle.widl_convert.specs.Frames.{end_of};
+ghost use Rattle.widl_convert.specs.Loads.{given_load};
 ghost use Rattle.widl_convert.specs.Tasks.{Picks};
 ghost use Rattle.widl_calls.specs.FoundSteps.{steps_over};
 ghost use Rattle.widl_calls.specs.Frames.{call_dialog, call_weight, operation_load, result_load};
@@ -62,7 +63,7 @@ pub(crate) fn chosen(
     ending: Ending,
 ) -> Result<CallMove, AllocError>
     ensures dialog { IfOk result (λ m. call_dialog (defs_term tables.now.defs) (steps_over tables.now script.now) m ≡ chosen (defs_term tables.now.defs) (steps_over tables.now script.now) callee (end_of ending)) }
-    ensures weight { IfOk result (λ m. call_weight (defs_term tables.now.defs) m ≡ 0) }
+    ensures weight { IfOk result (λ m. call_weight (defs_term tables.now.defs) m ≤ given_load (end_of ending)) }
 {
     match ending {
         Ending::Done(Outcome::Chosen { overload, values }) => noted(
@@ -107,7 +108,7 @@ fn noted(
 /// The move after the IDL value of a result.
 pub(crate) fn result(overload: Overload, ending: Ending) -> CallMove
     ensures dialog { (list : DefsTerm) (steps : StepsOf) → call_dialog list steps result ≡ to_script (result_type list overload.callee overload.number) (end_of ending) }
-    ensures weight { (list : DefsTerm) → call_weight list result < result_load }
+    ensures weight { (list : DefsTerm) → call_weight list result < result_load + given_load (end_of ending) }
 {
     match ending {
         Ending::Done(Outcome::Idl(value)) => CallMove::Goes(CallJob::Out { overload, value }),

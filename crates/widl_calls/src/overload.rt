@@ -5,12 +5,12 @@ ghost use Rattle.std.specs.List.{list_any};
 ghost use Rattle.std.specs.Option.{option_copied, option_map_or};
 ghost use Rattle.widl_idl.specs.DefinitionTerms.{defs_term, sig_term};
 ghost use Rattle.widl_idl.specs.Terms.{UndefinedType, type_term};
-ghost use Rattle.widl_tables.specs.Kept.{overloads_of};
+ghost use Rattle.widl_overload.specs.Entries.{overloads_of};
 ghost use Rattle.widl_calls.specs.FoundSteps.{lines_found, steps_over};
 ghost use Rattle.widl_calls.specs.Operations.{is_promise, lines_of, result_type, returns_promise};
 
 use widl_idl::{Callee, Defs, IdlType, Part, Sig};
-use widl_overload::overloads;
+use widl_overload::overload_list;
 use widl_script_tree::{Script, StepLine};
 use widl_tables::Tables;
 
@@ -21,16 +21,6 @@ pub struct Overload {
     pub callee: Callee,
     /// Its number among them.
     pub number: u32,
-}
-
-/// The overloads of a callee.
-fn overload_list<'d>(defs: &'d Defs, callee: &Callee) -> &'d [Sig]
-    ensures { map sig_term result.now ≡ overloads_of (defs_term defs.now) callee.now }
-{
-    match overloads(defs, callee) {
-        None => &[],
-        Some(sigs) => sigs.as_slice(),
-    }
 }
 
 /// Whether a type is a promise.

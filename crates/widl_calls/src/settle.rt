@@ -8,6 +8,7 @@ ghost use Rattle.widl_calls.specs.Frames.{call_frame_load, call_weight};
 ghost use Rattle.widl_calls.specs.Stack.{CallSettles, call_moves_on};
 
 use crate::frames::CallFrame;
+use crate::jobs::CallJob;
 use crate::moves::{CallAsking, CallMove};
 use crate::steps::{begin, returned};
 use std::alloc::Global;
@@ -50,6 +51,7 @@ pub(crate) fn settle(
             }
             CallMove::Steps(frame, job) => {
                 if !push(frames, frame) {
+                    let_go(job);
                     return CallSettled::Memory;
                 }
                 match begin(alloc, tables, script, job) {
@@ -64,6 +66,10 @@ pub(crate) fn settle(
         }
     }
 }
+
+/// A job isn't begun. It is dropped here alone, since a function pays for the room of all that it may drop.
+#[inline(never)]
+fn let_go(_job: CallJob) {}
 
 /// Puts a frame on the others; not where there is no memory.
 fn push(frames: &mut Vec<CallFrame>, frame: CallFrame) -> bool

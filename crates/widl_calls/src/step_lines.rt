@@ -1,6 +1,6 @@
 //! Steps blocks: a unit for each line, and what a line does.
 
-ghost use Rattle.std.specs.Prelude.{◌≡◌, [], ◌∷◌, nat_eq, if◌then◌else◌, IfOk, option_map, slice_get};
+ghost use Rattle.std.specs.Prelude.{◌≡◌, ◌≤◌, [], ◌∷◌, nat_eq, if◌then◌else◌, IfOk, option_map, slice_get};
 ghost use Rattle.std.specs.Map.{lookup};
 ghost use Rattle.std.specs.Option.{option_map_or, option_to_list};
 ghost use Rattle.widl_dialog.specs.Dialog.{End, Steps};
@@ -13,7 +13,7 @@ ghost use Rattle.widl_convert.specs.Literals.{given_or_dictionary};
 ghost use Rattle.widl_convert.specs.Tasks.{Default};
 ghost use Rattle.widl_calls.specs.CallTasks.{Of};
 ghost use Rattle.widl_calls.specs.FoundSteps.{steps_over};
-ghost use Rattle.widl_calls.specs.Frames.{CallLeads, call_dialog, call_weight, first_line};
+ghost use Rattle.widl_calls.specs.Frames.{CallLeads, call_dialog, call_weight, default_load, first_line};
 ghost use Rattle.widl_calls.specs.NamedTerms.{named_terms};
 ghost use Rattle.widl_calls.specs.Operations.{lines_of, result_type};
 ghost use Rattle.widl_convert.specs.Built.{built_today};
@@ -111,22 +111,26 @@ pub(crate) fn read_value(
 }
 
 /// The first move of the steps of an overload.
+///
+/// # Errors
+///
+/// `AllocError` where there is no memory.
 pub(crate) fn lines(
     alloc: Global,
     tables: &Tables,
     script: &Script,
     overload: Overload,
     read: Option<NamedValue>,
-) -> CallMove
-    ensures dialog { call_dialog (defs_term tables.now.defs) (steps_over tables.now script.now) result ≡ lines built_today (defs_term tables.now.defs) (result_type (defs_term tables.now.defs) overload.callee overload.number) (named_terms read) (steps_over tables.now script.now overload.callee overload.number) }
-    ensures weight { call_weight (defs_term tables.now.defs) result ≡ 0 }
+) -> Result<CallMove, AllocError>
+    ensures dialog { IfOk result (λ m. call_dialog (defs_term tables.now.defs) (steps_over tables.now script.now) m ≡ lines built_today (defs_term tables.now.defs) (result_type (defs_term tables.now.defs) overload.callee overload.number) (named_terms read) (steps_over tables.now script.now overload.callee overload.number)) }
+    ensures weight { IfOk result (λ m. call_weight (defs_term tables.now.defs) m ≤ default_load (defs_term tables.now.defs) overload) }
 {
     match overload.lines(tables, script) {
-        [] => default_result(alloc, overload.result_type(tables)),
-        [..] => CallMove::Asks(CallAsking {
+        [] => default_result(alloc, tables, overload),
+        [..] => Ok(CallMove::Asks(CallAsking {
             ask: Ask::Unit,
             wait: CallWait::Line { overload, read },
-        }),
+        })),
     }
 }
 
@@ -145,7 +149,7 @@ pub(crate) fn first_line(
     ensures { IfOk result (λ m. CallLeads (defs_term tables.now.defs) (steps_over tables.now script.now) (first_line (defs_term tables.now.defs) (result_type (defs_term tables.now.defs) overload.callee overload.number) (named_terms read) (steps_over tables.now script.now overload.callee overload.number)) (call_dialog (defs_term tables.now.defs) (steps_over tables.now script.now) m)) }
 {
     match overload.lines(tables, script) {
-        [] => Ok(default_result(alloc, overload.result_type(tables))),
+        [] => default_result(alloc, tables, overload),
         [line, ..] => do_line(alloc, tables, overload, read, line),
     }
 }

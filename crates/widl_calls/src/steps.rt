@@ -1,10 +1,11 @@
 //! The next move: of a task, after an answer, after the end of another task.
 
-ghost use Rattle.std.specs.Prelude.{◌≡◌, ◌≤◌, ◌<◌, IfOk};
+ghost use Rattle.std.specs.Prelude.{◌≡◌, ◌≤◌, ◌<◌, ◌+◌, IfOk};
 ghost use Rattle.widl_idl.specs.DefinitionTerms.{DefsTerm, defs_term};
 ghost use Rattle.widl_calls.specs.Operations.{StepsOf};
 ghost use Rattle.widl_convert.specs.AskTerms.{IsFree, IsWanted, answer_term};
 ghost use Rattle.widl_convert.specs.Frames.{end_of};
+ghost use Rattle.widl_convert.specs.Loads.{given_load};
 ghost use Rattle.widl_calls.specs.BuiltCalls.{calls_built_today};
 ghost use Rattle.widl_calls.specs.CallRules.{call_rule};
 ghost use Rattle.widl_calls.specs.FoundSteps.{steps_over};
@@ -14,7 +15,7 @@ ghost use Rattle.widl_calls.specs.Waits.{call_kind_for};
 use crate::arguments::Arguments;
 use crate::array_functions::{array_answered, length_given};
 use crate::conversions::{begins, goes_on};
-use crate::ends::gives;
+use crate::ends::{gives, returns};
 use crate::frames::CallFrame;
 use crate::functions::function;
 use crate::jobs::CallJob;
@@ -54,7 +55,7 @@ pub(crate) fn begin(
             construct: _,
         } => function(alloc, tables, what, this, args),
         CallJob::Resolve { callee, args } => resolve(alloc, tables, callee, args),
-        CallJob::Lines { overload, read } => Ok(lines(alloc, tables, script, overload, read)),
+        CallJob::Lines { overload, read } => lines(alloc, tables, script, overload, read),
         CallJob::OfUndefined(overload) => of_undefined(alloc, tables, overload),
         CallJob::Out { overload, value } => out(alloc, tables, overload, value),
         CallJob::ToLength(value) => to_length(alloc, tables, value),
@@ -76,7 +77,7 @@ fn resolve(
     ensures weight { IfOk result (λ m. call_weight (defs_term tables.now.defs) m ≤ job_load (defs_term tables.now.defs) (CallJob.Resolve callee args)) }
 {
     let Arguments { values } = args;
-    begins(tables, Asker::start_resolve(alloc, callee, values)?)
+    begins(alloc, tables, Asker::start_resolve(alloc, callee, values)?)
 }
 
 /// The conversion of `undefined` to the type of an overload's result begins.
@@ -90,11 +91,15 @@ fn of_undefined(alloc: Global, tables: &Tables, overload: Overload) -> Result<Ca
 {
     match overload.result_type(tables) {
         None => Ok(gives(IdlValue::Undefined)),
-        Some(ty) => begins(tables, Asker::start_convert(alloc, ty, Value::Undefined)?),
+        Some(ty) => begins(
+            alloc,
+            tables,
+            Asker::start_convert(alloc, ty, Value::Undefined)?,
+        ),
     }
 }
 
-/// The way of a result to a value of the script begins.
+/// The first move of a result's way to a value of the script. That of `undefined` and of a value of `any` is at its end.
 ///
 /// # Errors
 ///
@@ -108,9 +113,34 @@ fn out(
     ensures leads { IfOk result (λ m. (steps : StepsOf) → CallLeads (defs_term tables.now.defs) steps (call_rule calls_built_today (defs_term tables.now.defs) steps (call_job_of (defs_term tables.now.defs) steps (CallJob.Out overload value))) (call_dialog (defs_term tables.now.defs) steps m)) }
     ensures weight { IfOk result (λ m. call_weight (defs_term tables.now.defs) m ≤ job_load (defs_term tables.now.defs) (CallJob.Out overload value)) }
 {
+    match value {
+        IdlValue::Undefined => Ok(returns(Value::Undefined)),
+        IdlValue::Any(value) => Ok(returns(value)),
+        value => converts_out(alloc, tables, overload, value),
+    }
+}
+
+/// The conversion of a result to a value of the script begins.
+///
+/// # Errors
+///
+/// `AllocError` where there is no memory.
+fn converts_out(
+    alloc: Global,
+    tables: &Tables,
+    overload: Overload,
+    value: IdlValue,
+) -> Result<CallMove, AllocError>
+    ensures leads { IfOk result (λ m. (steps : StepsOf) → CallLeads (defs_term tables.now.defs) steps (call_rule calls_built_today (defs_term tables.now.defs) steps (call_job_of (defs_term tables.now.defs) steps (CallJob.Out overload value))) (call_dialog (defs_term tables.now.defs) steps m)) }
+    ensures weight { IfOk result (λ m. call_weight (defs_term tables.now.defs) m ≤ job_load (defs_term tables.now.defs) (CallJob.Out overload value)) }
+{
     match overload.result_type(tables) {
-        None => begins(tables, Asker::start_out(alloc, &IdlType::Undefined, value)?),
-        Some(ty) => begins(tables, Asker::start_out(alloc, ty, value)?),
+        None => begins(
+            alloc,
+            tables,
+            Asker::start_out(alloc, &IdlType::Undefined, value)?,
+        ),
+        Some(ty) => begins(alloc, tables, Asker::start_out(alloc, ty, value)?),
     }
 }
 
@@ -123,7 +153,11 @@ fn to_length(alloc: Global, tables: &Tables, value: Value) -> Result<CallMove, A
     ensures leads { IfOk result (λ m. (steps : StepsOf) → CallLeads (defs_term tables.now.defs) steps (call_rule calls_built_today (defs_term tables.now.defs) steps (call_job_of (defs_term tables.now.defs) steps (CallJob.ToLength value))) (call_dialog (defs_term tables.now.defs) steps m)) }
     ensures weight { IfOk result (λ m. call_weight (defs_term tables.now.defs) m ≤ job_load (defs_term tables.now.defs) (CallJob.ToLength value)) }
 {
-    begins(tables, Asker::start_scalar(alloc, Want::Length, value)?)
+    begins(
+        alloc,
+        tables,
+        Asker::start_scalar(alloc, Want::Length, value)?,
+    )
 }
 
 /// The move after an answer.
@@ -168,7 +202,7 @@ pub(crate) fn returned(
     ending: Ending,
 ) -> Result<CallMove, AllocError>
     ensures dialog { IfOk result (λ m. call_dialog (defs_term tables.now.defs) (steps_over tables.now script.now) m ≡ call_returned_to (defs_term tables.now.defs) (steps_over tables.now script.now) frame (end_of ending)) }
-    ensures weight { IfOk result (λ m. call_weight (defs_term tables.now.defs) m < call_frame_load frame) }
+    ensures weight { IfOk result (λ m. call_weight (defs_term tables.now.defs) m < call_frame_load frame + given_load (end_of ending)) }
 {
     match frame {
         CallFrame::Chosen(callee) => chosen(tables, script, callee, ending),

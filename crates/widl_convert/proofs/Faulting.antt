@@ -14,6 +14,7 @@ use Rattle.widl_idl.specs.declared.text_kind.TextKind.TheVariants as texts
 use Rattle.widl_idl.specs.DefinitionTerms.{DefsTerm, ArgTerm}
 use Rattle.widl_idl.specs.Flattened.{flattened_members, includes_nullable_type}
 use Rattle.widl_idl.specs.Terms.{TypeTerm, TypeTerms, AnyType, UndefinedType, BooleanType, IntegerType, StringType, EnumerationType, InterfaceType, CallbackFunctionType, CallbackInterfaceType, DictionaryType, ObjectType, SequenceType, RecordType, PromiseType, NullableType, UnionType}
+use Rattle.widl_overload.specs.Entries.{declared_args, type_at}
 use Rattle.widl_overload.specs.Sets.{TupleTerm, is_variadic}
 use Rattle.widl_value.specs.Classes.{class_of}
 use Rattle.widl_value.specs.declared.number.Number.{Number}
@@ -33,7 +34,7 @@ use Rattle.widl_trace.specs.declared.code.Code.{Code}
 use Rattle.widl_trace.specs.declared.code.Code.TheVariants as code
 use Rattle.widl_tables.specs.declared.pick.Pick.{Pick}
 use Rattle.widl_tables.specs.declared.pick.Pick.TheVariants.{Entry, Probe, Refuse}
-use Rattle.widl_tables.specs.Kept.{declared_args, entry_alone, telling_place, type_at}
+use Rattle.widl_tables.specs.Kept.{entry_alone, telling_place}
 use Rattle.widl_tables.specs.Picks.{pick_of, pick_member_of}
 use Rattle.widl_tables.specs.Tests.{is_null_or_undefined}
 use Rattle.widl_convert.specs.declared.hint.Hint.{Hint}

@@ -8,6 +8,7 @@ pub mod NameOrder
 pub mod MemberReads
 pub mod MemberValues
 pub mod Turning
+pub mod ResultSays
 pub mod ValidChains
 pub mod Bytes
 pub mod Suspending
@@ -16,6 +17,8 @@ pub mod Standing
 pub mod Resolving
 pub mod FirstAmong
 pub mod RecordEntries
+pub mod OutgoingItems
+pub mod GivenLoads
 pub mod UnionWalks
 pub mod UnionMembers
 pub mod ServedTypes

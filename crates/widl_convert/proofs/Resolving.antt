@@ -7,6 +7,7 @@ use Rattle.std.proofs.lemmas.List.{drop_all, length-map, length-take}
 use Rattle.widl_dialog.specs.Dialog.{End, Steps}
 use Rattle.widl_idl.specs.declared.callee.Callee.{Callee}
 use Rattle.widl_idl.specs.DefinitionTerms.{DefsTerm, SigTerm}
+use Rattle.widl_overload.specs.Entries.{declared_args, entry_for, overloads_of}
 use Rattle.widl_overload.specs.Sets.{TupleTerm}
 use Rattle.widl_value.specs.Classes.{class_of}
 use Rattle.widl_value.specs.declared.class.Class.{Class}
@@ -15,9 +16,9 @@ use Rattle.widl_value.specs.IdlTerms.{IdlTerm}
 use Rattle.widl_tables.specs.declared.kept_type.Kept.{Kept}
 use Rattle.widl_tables.specs.declared.pick.Pick.{Pick}
 use Rattle.widl_tables.specs.declared.pick.Pick.TheVariants.{Entry, Probe, Refuse}
-use Rattle.widl_tables.specs.Kept.{argcount_of, declared_args, entries_for, entries_of, entry_alone, entry_for, kept_tuples, longest, numbers_of, overloads_of, telling_place, choosing_place}
+use Rattle.widl_tables.specs.Kept.{argcount_of, entries_for, entries_of, entry_alone, kept_tuples, longest, numbers_of, telling_place, choosing_place}
 use Rattle.widl_tables.specs.Picks.{pick_kept, pick_of}
-use Rattle.widl_tables.specs.Standing.{has_entry}
+use Rattle.widl_tables.specs.ByNumber.{has_entry}
 use Rattle.widl_tables.proofs.Entries.{number_of_entry, numbers_more}
 use Rattle.widl_tables.proofs.FewOverloads.{place_or_0}
 use Rattle.widl_tables.proofs.PickLaws.{entry_is_kept, probe_is_kept}

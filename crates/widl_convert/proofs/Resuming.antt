@@ -13,14 +13,15 @@ use Rattle.widl_convert.specs.declared.asker.State.{State}
 use Rattle.widl_convert.specs.declared.asker.State.TheVariants.{Begins, Waits, Ended}
 use Rattle.widl_convert.specs.declared.frames.Frame.{Frame}
 use Rattle.widl_convert.specs.declared.moves.Asking.{Asking}
+use Rattle.widl_convert.specs.declared.moves.Ending.{Ending}
 use Rattle.widl_convert.specs.declared.moves.Move.{Move}
 use Rattle.widl_convert.specs.declared.outcome.Next.{Next as NextAnswer}
 use Rattle.widl_convert.specs.declared.outcome.Next.TheVariants as next
 use Rattle.widl_convert.specs.AskTerms.{AskTerm, AskKind, AnswerTerm, BeginAnswer, Fits, IsWanted, ask_term, kind_of}
 use Rattle.widl_convert.specs.Built.{built_today}
-use Rattle.widl_convert.specs.Frames.{after, move_dialog, returned_to}
+use Rattle.widl_convert.specs.Frames.{after, end_of, move_dialog, outcome_end, returned_to}
 use Rattle.widl_convert.specs.Laws.{Said}
-use Rattle.widl_convert.specs.Loads.{frame_load, patience, weight}
+use Rattle.widl_convert.specs.Loads.{frame_load, given_load, patience, weight}
 use Rattle.widl_convert.specs.Rules.{rule}
 use Rattle.widl_convert.specs.Stack.{Awaits, Expects, IsCalmer, IsQuietState, IsReached, IsTold, Leads, Resumes, Stands, Tells, kind_of_last, left, moves_on, next_said, pause, pending, quiet, rest, waiting}
 use Rattle.widl_convert.specs.Tasks.{Task, TaskEnd, Talk}
@@ -53,6 +54,19 @@ calm_at_ask list old new m p fs n same small less is_state is_frames is_next =
     let left_now : quiet list new ≡ stack_load (frame_load list) fs + patience p.wait =
     ap (λ (l : List Frame). stack_load (frame_load list) l + pause list new.state) is_frames ∙ ap (λ (s : State). stack_load (frame_load list) fs + pause list s) is_state in
     omega (arith, left_now, first, less)))
+
+-- it ends, and what comes of a value that is given is less than what was left
+pub calm_at_end : (list : DefsTerm) (old new : Asker) (m : Move) (r : Ending) (n : NextAnswer) {state : State} → state ≡ old.state → (IsQuietState state → weight list m < pause list state) → given_load (end_of r) ≤ stack_load (frame_load list) old.frames + weight list m → next_said n ≡ Some (Ends (end_of r)) → IsCalmer list old new n
+calm_at_end list old new m r (next.Ask ask) same small less said = absurd (cc)
+calm_at_end list old new m r (next.Done outcome) same small less said = λ free.
+    (let is : outcome_end outcome ≡ end_of r = cc in
+    let given : given_load (outcome_end outcome) ≡ given_load (end_of r) = ap given_load is in
+    let first : weight list m < pause list old.state = subst (λ (s : State). IsQuietState s → weight list m < pause list s) same small free in
+    omega (arith, given, first, less))
+calm_at_end list old new m r (next.Throw reason) same small less said = tt
+calm_at_end list old new m r (next.Rethrow v) same small less said = tt
+calm_at_end list old new m r (next.Profile k) same small less said = tt
+calm_at_end list old new m r next.Memory same small less said = tt
 
 -- the answer that fits what is waited for is expected
 pub expects : (asker : Asker) (k : AskKind) (a : AnswerTerm) → pending asker ≡ Some k → IsWanted k a → Expects asker a

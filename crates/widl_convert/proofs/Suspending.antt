@@ -15,10 +15,10 @@ use Rattle.widl_convert.specs.declared.moves.Move.TheVariants as moves
 use Rattle.widl_convert.specs.AskTerms.{Fits}
 use Rattle.widl_convert.specs.Built.{built_today}
 use Rattle.widl_convert.specs.Frames.{end_of, job_of, move_dialog, returned_to}
-use Rattle.widl_convert.specs.Loads.{end_load, frame_load, load, weight}
+use Rattle.widl_convert.specs.Loads.{end_load, frame_load, given_load, load, weight}
 use Rattle.widl_convert.specs.Rules.{rule}
 use Rattle.widl_convert.specs.Stack.{Follows, Leads}
-use Rattle.widl_convert.specs.Tasks.{Talk}
+use Rattle.widl_convert.specs.Tasks.{TaskEnd, Gives, Plain, Picks, Throw, Rethrow, Profile, Talk}
 
 -- 0. Over one list
 
@@ -67,3 +67,18 @@ pub gave : {list : DefsTerm} {d : Talk} {bound : ℕ} {m m' : Move} {r : Ending}
 gave {list = list} {m = m} {m' = m'} {r = r} {old = old} {fs = fs} f follows is is_old is_move less =
     let down = give_less list f r m m' old fs is is_old less in
     record { place = stacking.gave (rule built_today list) Fits (returned_to list) f old fs (end_of r) (at_move follows is).place is_old (led list is_move); less = omega (arith, down, follows.less) }
+
+-- 3. The end
+
+given_within : (r : TaskEnd) → given_load r ≤ end_load r
+given_within (Gives w) = omega arith
+given_within (Plain v) = omega arith
+given_within (Picks overload ws) = omega arith
+given_within (Throw reason) = omega arith
+given_within (Rethrow v) = omega arith
+given_within (Profile n) = omega arith
+
+pub given_last : {list : DefsTerm} {d : Talk} {bound : ℕ} {m : Move} {r : Ending} {fs : List Frame} → Follows list d bound m fs → m ≡ moves.Gives r → given_load (end_of r) ≤ bound
+given_last {list = list} {m = m} {r = r} follows is =
+    let b : weight list m ≡ end_load (end_of r) = ap (weight list) is in
+    omega (arith, b, given_within (end_of r), follows.less)

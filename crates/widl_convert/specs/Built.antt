@@ -38,9 +38,9 @@ is_built_value (StringValue text) = true
 is_built_value (EnumerationValue n place) = true
 is_built_value (ObjectValue object) = true
 is_built_value (AnyValue value) = true
-is_built_value (SequenceValue _) = false
-is_built_value (RecordValue _) = false
-is_built_value (DictionaryValue n _) = false
+is_built_value (SequenceValue _) = true
+is_built_value (RecordValue _) = true
+is_built_value (DictionaryValue n _) = true
 is_built_value (PromiseValue promise) = false
 
 abbrev pub built_today : Built

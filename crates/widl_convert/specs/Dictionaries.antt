@@ -1,6 +1,7 @@
 -- Values of the script to dictionaries.
 -- Source: Web IDL, "Dictionary types" (JavaScript binding).
-use Rattle.std.specs.Prelude.{ℕ, if◌then◌else◌, List, [], ◌∷◌, ◌++◌, Option, None, Some}
+use Rattle.std.specs.Prelude.{ℕ, Bool, if◌then◌else◌, List, [], ◌∷◌, ◌++◌, Option, None, Some}
+use Rattle.std.specs.List.{list_any}
 use Rattle.widl_dialog.specs.Dialog.{End, Say, Steps}
 use Rattle.widl_text.specs.declared.key.Key.TheVariants as keys
 use Rattle.widl_idl.specs.declared.literal.Literal.{Literal}
@@ -40,6 +41,10 @@ member n None m left made = Say UnitAsk (done (member_value n None m left made v
 abbrev pub members : ℕ → Option ObjRef → List DeclaredMember → List (ℕ × ℕ × IdlTerm) → Talk
 members n o [] made = gives (DictionaryValue n (packed_members made))
 members n o (m ∷ left) made = member n o m left made
+
+-- a member is required, inherited ones included
+abbrev pub requires_member : DefsTerm → ℕ → Bool
+requires_member list n = list_any (λ (m : DeclaredMember). m.member.needed) (members_in_order list n)
 
 -- 2. The dictionary of a value, of an object or of none
 

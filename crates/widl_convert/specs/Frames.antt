@@ -7,18 +7,22 @@ use Rattle.widl_idl.specs.DefinitionTerms.{DefsTerm}
 use Rattle.widl_idl.specs.declared.types.IdlType.{IdlType}
 use Rattle.widl_idl.specs.Flattened.{unannotated}
 use Rattle.widl_idl.specs.Terms.{StringType, type_term}
+use Rattle.widl_overload.specs.Entries.{declared_args, entry_for, type_at}
 use Rattle.widl_overload.specs.Sets.{TupleTerm}
 use Rattle.widl_value.specs.declared.idl_value.IdlValue.{IdlValue}
 use Rattle.widl_value.specs.declared.number.Number.{Number}
 use Rattle.widl_value.specs.declared.object.ObjRef.{ObjRef}
 use Rattle.widl_value.specs.declared.value.Value.{Value}
 use Rattle.widl_value.specs.declared.value.Value.TheVariants as values
-use Rattle.widl_value.specs.IdlTerms.{IdlTerm, entry_term, idl_term, idl_terms, member_terms}
+use Rattle.widl_value.specs.IdlTerms.{IdlTerm, IdlTerms, entry_term, idl_term, idl_terms, member_terms, packed_values}
 use Rattle.widl_scalar.specs.Enumerations.{value_place}
 use Rattle.widl_scalar.specs.Scalars.{integer_of}
-use Rattle.widl_tables.specs.Kept.{declared_args, entry_for, type_at}
 use Rattle.widl_tables.specs.MemberOrder.{members_in_order}
 use Rattle.widl_trace.specs.declared.code.Code.TheVariants as code
+use Rattle.widl_convert.specs.declared.containers.Container.{Container as MadeOf}
+use Rattle.widl_convert.specs.declared.containers.Container.TheVariants as containers
+use Rattle.widl_convert.specs.declared.containers.Filled.{Filled}
+use Rattle.widl_convert.specs.declared.containers.Outgoing.{Outgoing}
 use Rattle.widl_convert.specs.declared.frames.Frame.{Frame}
 use Rattle.widl_convert.specs.declared.frames.Frame.TheVariants as frames
 use Rattle.widl_convert.specs.declared.frames.IdlFrame.{IdlFrame}
@@ -65,7 +69,7 @@ use Rattle.widl_convert.specs.Records.{entry_value, key_value, keys_in, named_en
 use Rattle.widl_convert.specs.Resolution.{default_at, probed}
 use Rattle.widl_convert.specs.Scalars.{convert_plain, enumeration_result, integer_result, length_value, string_result}
 use Rattle.widl_convert.specs.Sequences.{element, found_iterator_method, if_sequences, told_done, turn_given, with_iterator, with_next}
-use Rattle.widl_convert.specs.Tasks.{Task, Primitive, Scalar, Convert, SequenceFrom, Turns, Entries, Members, Resolve, Arguments, Default, Defaults, Out, TaskEnd, Gives, Plain, Picks, Throw, Rethrow, Profile, Talk}
+use Rattle.widl_convert.specs.Tasks.{Container, ArrayOf, ObjectOf, Task, Primitive, Scalar, Convert, SequenceFrom, Turns, Entries, Members, Resolve, Arguments, Default, Defaults, Out, OutItems, OutUnits, TaskEnd, Gives, Plain, Picks, Throw, Rethrow, Profile, Talk}
 use Rattle.widl_convert.specs.Unions.{member_from, to_member}
 use Rattle.widl_convert.specs.Words.{done, fails, given, method_or, normal, number, returned, returns, text}
 
@@ -94,6 +98,21 @@ keys_left p = drop p.next p.keys
 abbrev pub properties_task : Properties → List (List ℕ × IdlTerm) → Task
 properties_task p made = Entries p.of.kind (type_term p.of.ty) p.of.obj (keys_left p) made
 
+-- what is made of the items of a container
+abbrev pub container_term : MadeOf → Container
+container_term containers.Array = ArrayOf
+container_term (containers.Object names) = ObjectOf names
+
+-- the items of a container that are left, and the container that goes on with them after these values
+abbrev pub items_left : Outgoing → IdlTerms
+items_left o = packed_values (drop o.next (idl_terms o.items))
+
+abbrev pub outgoing_task : Outgoing → List Value → Task
+outgoing_task o made = OutItems (container_term o.container) (items_left o) made
+
+abbrev pub units_task : Filled → Task
+units_task f = OutUnits f.left (container_term f.container) f.made
+
 abbrev pub job_of : DefsTerm → Job → Task
 job_of list (jobs.Primitive hint v) = Primitive hint v
 job_of list (jobs.Scalar want v) = Scalar want v
@@ -111,6 +130,8 @@ job_of list (jobs.Members f) = Members f.dictionary f.object (members_left list 
 job_of list (jobs.Member at v) = Convert (member_at list at).ty v
 job_of list (jobs.MemberDefault at) = Default (member_at list at).ty (member_at list at).value
 job_of list (jobs.Out t w) = Out (type_term t) (idl_term w)
+job_of list (jobs.OutItems o) = outgoing_task o.value o.value.made
+job_of list (jobs.OutUnits f) = units_task f
 
 abbrev pub outcome_end : Outcome → TaskEnd
 outcome_end (outcomes.Idl w) = Gives (idl_term w)
@@ -169,6 +190,8 @@ value_to list (value_waits.Sequence w) = sequence_to w
 value_to list (value_waits.Property p) = property_to p
 value_to list (value_waits.Member w) = member_to list w
 value_to list (value_waits.UnionProbe p) = union_to list p
+value_to list value_waits.NewArray = returns
+value_to list value_waits.NewObject = returns
 
 -- 3. What comes after an answer
 
@@ -183,11 +206,13 @@ after list (waits.Value w) = normal (value_to list w)
 after list (waits.Keys r) = keys_to r
 after list (waits.Own p) = own_to p
 after list (waits.Unit w) = done (member_to list w values.Undefined)
+after list (waits.Item f) = done (Steps (units_task f) End)
 
 -- 4. What comes after the end of a task
 
 abbrev pub plain_to : ValueFrame → Value → Talk
 plain_to (plains.Scalar want) v = Steps (Scalar want v) End
+plain_to (plains.Item o) v = Steps (outgoing_task o.value (o.value.made ++ v ∷ [])) End
 
 abbrev pub number_to : NumberFrame → Number → Talk
 number_to numbers.Length n = returns (length_value n)

@@ -18,6 +18,7 @@ pub mod Rules
 pub mod Laws
 pub mod ResolutionLaws
 pub mod ContainerLaws
+pub mod ResultLaws
 pub mod UnionLaws
 pub mod Waits
 pub mod Members

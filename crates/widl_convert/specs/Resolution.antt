@@ -10,6 +10,7 @@ use Rattle.widl_idl.specs.declared.callee.Callee.{Callee}
 use Rattle.widl_idl.specs.declared.literal.Literal.{Literal}
 use Rattle.widl_idl.specs.DefinitionTerms.{DefsTerm, ArgTerm}
 use Rattle.widl_idl.specs.Terms.{TypeTerm}
+use Rattle.widl_overload.specs.Entries.{declared_args, optionality_at, type_at}
 use Rattle.widl_overload.specs.Sets.{TupleTerm}
 use Rattle.widl_value.specs.Classes.{class_of}
 use Rattle.widl_value.specs.declared.object.ObjRef.{ObjRef}
@@ -19,7 +20,7 @@ use Rattle.widl_value.specs.IdlTerms.{IdlTerm}
 use Rattle.widl_trace.specs.declared.code.Code.TheVariants as code
 use Rattle.widl_tables.specs.declared.pick.Pick.{Pick}
 use Rattle.widl_tables.specs.declared.pick.Pick.TheVariants.{Entry, Probe, Refuse}
-use Rattle.widl_tables.specs.Kept.{argcount_of, declared_args, entry_alone, kept_tuples, optionality_at, telling_place, type_at}
+use Rattle.widl_tables.specs.Kept.{argcount_of, entry_alone, kept_tuples, telling_place}
 use Rattle.widl_tables.specs.Picks.{pick_of}
 use Rattle.widl_convert.specs.AskTerms.{GetAsk}
 use Rattle.widl_convert.specs.Built.{Built}

@@ -3,7 +3,6 @@
 use Rattle.std.specs.Prelude.{◌≡◌, ◌&&◌, Bool, true, false}
 use Rattle.std.specs.List.{list_all}
 use Rattle.widl_idl.specs.DefinitionTerms.{ArgTerm, DefsTerm, DictTerm, MemberTerm, OpNameTerm, SigTerm, SpaceTerm}
-use Rattle.widl_idl.specs.Flattened.{flattened_member}
 use Rattle.widl_idl.specs.Terms.{TypeTerm, TypeTerms, AnyType, UndefinedType, BooleanType, IntegerType, StringType, EnumerationType, DictionaryType, ObjectType, SequenceType, RecordType, NullableType, UnionType, no_types, more_types}
 use Rattle.widl_overload.specs.OperationsAlone.{HasOperationsAlone, is_none}
 
@@ -16,11 +15,6 @@ is_scalar (StringType kind null_empty) = true
 is_scalar (EnumerationType n) = true
 is_scalar ObjectType = true
 is_scalar t = false
-
--- the type of a result: `undefined`, or such a type, a nullable one of such, or a union of such
-abbrev pub is_served_result : TypeTerm → Bool
-is_served_result UndefinedType = true
-is_served_result t = list_all is_scalar (flattened_member t)
 
 abbrev mutual
   -- such a type, a dictionary, or a sequence, a record, a nullable type or a union of such, at any depth
@@ -35,6 +29,11 @@ abbrev mutual
   pub are_served_types : TypeTerms → Bool
   are_served_types no_types = true
   are_served_types (more_types t ts) = is_served_type t && are_served_types ts
+
+-- the type of a result: `undefined`, or such a type
+abbrev pub is_served_result : TypeTerm → Bool
+is_served_result UndefinedType = true
+is_served_result t = is_served_type t
 
 abbrev pub is_served_argument : ArgTerm → Bool
 is_served_argument a = is_served_type a.ty

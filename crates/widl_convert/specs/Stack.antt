@@ -18,7 +18,7 @@ use Rattle.widl_convert.specs.AskTerms.{AskTerm, AskKind, AnswerTerm, BeginAnswe
 use Rattle.widl_convert.specs.Built.{built_today}
 use Rattle.widl_convert.specs.Frames.{after, end_of, job_of, move_dialog, outcome_end, returned_to}
 use Rattle.widl_convert.specs.Laws.{Said, ChainsEnd, IsNext, HasOneNext}
-use Rattle.widl_convert.specs.Loads.{frame_load, load, patience, weight}
+use Rattle.widl_convert.specs.Loads.{frame_load, given_load, load, patience, weight}
 use Rattle.widl_convert.specs.Rules.{rule}
 use Rattle.widl_convert.specs.Tasks.{Task, TaskEnd, Throw, Rethrow, Profile, Talk}
 use Rattle.widl_convert.specs.Waits.{kind_for}
@@ -125,9 +125,10 @@ IsQuietState Ended = ⊥
 abbrev pub IsQuiet : Asker → Type 0
 IsQuiet asker = IsQuietState asker.state
 
--- where that was so, and it asks, less is left than before
+-- where that was so, less is left than before: of it where it asks, of what comes of its outcome where it ends
 abbrev pub IsCalmer : DefsTerm → Asker → Asker → NextAnswer → Type 0
 IsCalmer list old new (next.Ask ask) = IsQuiet old → quiet list new < quiet list old
+IsCalmer list old new (next.Done outcome) = IsQuiet old → given_load (outcome_end outcome) < quiet list old
 IsCalmer list old new _ = Unit {0}
 
 -- it asks, or it has ended
@@ -145,7 +146,7 @@ pub record Follows (list : DefsTerm) (d : Talk) (bound : ℕ) (m : Move) (frames
 abbrev pub Settles : DefsTerm → Talk → ℕ → List Frame → Settled → Type 0
 Settles list d bound frames (settled.Waits p) =
     Leads list d (bind (Say (ask_term p.ask) (after list p.wait)) (under (returned_to list) frames)) × (stack_load (frame_load list) frames + patience p.wait ≤ bound)
-Settles list d bound frames (settled.Ends r) = Leads list d (End (end_of r))
+Settles list d bound frames (settled.Ends r) = Leads list d (End (end_of r)) × (given_load (end_of r) ≤ bound)
 Settles list d bound frames settled.Memory = Unit {0}
 
 -- 7. Laws

@@ -7,7 +7,7 @@ use Rattle.widl_convert.specs.declared.waits.ValueWait.{ValueWait}
 use Rattle.widl_convert.specs.declared.waits.ValueWait.TheVariants as values
 use Rattle.widl_convert.specs.declared.waits.Wait.{Wait}
 use Rattle.widl_convert.specs.declared.waits.Wait.TheVariants as waits
-use Rattle.widl_convert.specs.AskTerms.{AskKind, OfGet, OfCall, OfOwnKeys, OfOwn, OfUnit}
+use Rattle.widl_convert.specs.AskTerms.{AskKind, OfGet, OfCall, OfOwnKeys, OfOwn, OfUnit, OfNewArray, OfNewObject}
 
 abbrev pub kind_for_primitive : PrimitiveWait → AskKind
 kind_for_primitive (Method hint o) = OfGet
@@ -30,9 +30,12 @@ kind_for_value (values.Sequence w) = kind_for_sequence w
 kind_for_value (values.Property p) = OfGet
 kind_for_value (values.Member w) = OfGet
 kind_for_value (values.UnionProbe p) = OfGet
+kind_for_value values.NewArray = OfNewArray
+kind_for_value values.NewObject = OfNewObject
 
 abbrev pub kind_for : Wait → AskKind
 kind_for (waits.Value w) = kind_for_value w
 kind_for (waits.Keys r) = OfOwnKeys
 kind_for (waits.Own p) = OfOwn
 kind_for (waits.Unit w) = OfUnit
+kind_for (waits.Item f) = OfUnit

@@ -4,13 +4,13 @@ ghost use Rattle.std.specs.Prelude.{◌≡◌, ◌≤◌, IfOk};
 ghost use Rattle.widl_dialog.specs.Dialog.{Steps};
 ghost use Rattle.widl_idl.specs.DefinitionTerms.{DefsTerm, defs_term};
 ghost use Rattle.widl_idl.specs.Terms.{NullableType, type_term};
+ghost use Rattle.widl_overload.specs.Entries.{declared_args, entry_for, type_at};
 ghost use Rattle.widl_scalar.specs.Enumerations.{value_place};
 ghost use Rattle.widl_scalar.specs.Scalars.{integer_of};
-ghost use Rattle.widl_tables.specs.Kept.{declared_args, entry_for, type_at};
 ghost use Rattle.widl_value.specs.IdlTerms.{ObjectValue, StringValue, idl_term};
 ghost use Rattle.widl_convert.specs.Built.{built_today};
 ghost use Rattle.widl_convert.specs.Frames.{move_dialog, number_to, text_to};
-ghost use Rattle.widl_convert.specs.Loads.{conversion_load, scalar_conversion_load, type_load, weight};
+ghost use Rattle.widl_convert.specs.Loads.{conversion_load, scalar_conversion_load, type_load, value_load, weight};
 ghost use Rattle.widl_convert.specs.Scalars.{convert, convert_plain, enumeration_result, integer_result, null_or_string, string_result};
 ghost use Rattle.widl_convert.specs.Tasks.{Scalar};
 ghost use Rattle.widl_convert.specs.Words.{fails, gives, not_built, number, object, text};
@@ -161,7 +161,7 @@ pub(crate) fn convert_argument(
 /// The end with an IDL value.
 pub(crate) fn gives(value: IdlValue) -> Move
     ensures dialog { (list : DefsTerm) → move_dialog list result ≡ gives (idl_term value) }
-    ensures weight { (list : DefsTerm) → weight list result ≡ 0 }
+    ensures weight { (list : DefsTerm) → weight list result ≡ value_load (idl_term value) }
 {
     Move::Gives(Ending::Done(Outcome::Idl(value)))
 }

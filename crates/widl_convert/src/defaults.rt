@@ -130,6 +130,7 @@ pub(crate) fn default_of(
 /// # Errors
 ///
 /// `AllocError` where there is no memory.
+#[tactic(auto, using(crate::proofs::GivenLoads::literal_costs_nothing))]
 fn with_literal(
     alloc: Global,
     tables: &Tables,

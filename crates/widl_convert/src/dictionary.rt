@@ -1,6 +1,6 @@
 //! Values of the script to dictionaries.
 
-ghost use Rattle.std.specs.Prelude.{◌≡◌, ◌≤◌, ◌<◌, [], option_map, slice_get, IfOk};
+ghost use Rattle.std.specs.Prelude.{◌≡◌, ◌≤◌, ◌<◌, ◌+◌, [], option_map, slice_get, IfOk};
 ghost use Rattle.std.specs.Option.{option_and_then};
 ghost use Rattle.widl_dialog.specs.Dialog.{End, Steps};
 ghost use Rattle.widl_idl.specs.DefinitionTerms.{DefsTerm, defs_term, member_term};
@@ -10,7 +10,7 @@ ghost use Rattle.widl_convert.specs.Built.{built_today};
 ghost use Rattle.widl_convert.specs.Defaults.{default};
 ghost use Rattle.widl_convert.specs.Dictionaries.{dictionary_of, member, member_given, member_value, members, to_dictionary, undefined_member};
 ghost use Rattle.widl_convert.specs.Frames.{idl_to, move_dialog};
-ghost use Rattle.widl_convert.specs.Loads.{conversion_load, default_load, idl_frame_load, type_load, weight};
+ghost use Rattle.widl_convert.specs.Loads.{conversion_load, default_load, idl_frame_load, made_members_load, type_load, value_load, weight};
 ghost use Rattle.widl_convert.specs.Members.{declared_at, member_at, members_left};
 ghost use Rattle.widl_convert.specs.Scalars.{convert};
 ghost use Rattle.widl_convert.specs.Tasks.{Default, Members};
@@ -63,7 +63,7 @@ pub(crate) fn first_member(
     object: Option<ObjRef>,
 ) -> Result<Move, AllocError>
     ensures dialog { IfOk result (λ m. move_dialog (defs_term tables.now.defs) m ≡ members dictionary object (members_in_order (defs_term tables.now.defs) dictionary) []) }
-    ensures weight { IfOk result (λ m. weight (defs_term tables.now.defs) m ≡ 0) }
+    ensures weight { IfOk result (λ m. weight (defs_term tables.now.defs) m ≤ 0) }
 {
     let left = MembersLeft::of(alloc, tables, dictionary)?;
     next_member(
@@ -89,7 +89,7 @@ pub(crate) fn next_member(
     filling: Filling,
 ) -> Result<Move, AllocError>
     ensures dialog { IfOk result (λ m. move_dialog (defs_term tables.now.defs) m ≡ members filling.dictionary filling.object (members_left (defs_term tables.now.defs) filling.left) (member_terms filling.made)) }
-    ensures weight { IfOk result (λ m. weight (defs_term tables.now.defs) m ≡ 0) }
+    ensures weight { IfOk result (λ m. weight (defs_term tables.now.defs) m ≤ made_members_load (member_terms filling.made)) }
 {
     let Filling {
         dictionary,
@@ -161,7 +161,7 @@ fn name_of(alloc: Global, tables: &Tables, at: MemberPlace) -> Result<Units, All
 }
 
 /// The member at a place.
-fn declared_member(defs: &Defs, at: MemberPlace) -> Option<&Member>
+pub(crate) fn declared_member(defs: &Defs, at: MemberPlace) -> Option<&Member>
     ensures { option_map (λ m. member_term m.now) result ≡ option_and_then (λ d. slice_get d.members at.number) (slice_get (defs_term defs.now).dicts at.dictionary) }
 {
     match defs.dicts.as_slice().get(at.dictionary as usize) {
@@ -263,9 +263,10 @@ pub(crate) fn member_default(
 /// # Errors
 ///
 /// `AllocError` where there is no memory.
+#[tactic(auto, using(crate::proofs::GivenLoads::member_put))]
 pub(crate) fn with_member(wait: MemberWait, value: IdlValue) -> Result<Move, AllocError>
     ensures dialog { IfOk result (λ m. (list : DefsTerm) → move_dialog list m ≡ idl_to list (IdlFrame.Member wait) (idl_term value)) }
-    ensures weight { IfOk result (λ m. (list : DefsTerm) → weight list m < idl_frame_load list (IdlFrame.Member wait)) }
+    ensures weight { IfOk result (λ m. (list : DefsTerm) → weight list m < idl_frame_load list (IdlFrame.Member wait) + value_load (idl_term value)) }
 {
     let MemberWait { at, filling } = wait;
     let mut filling = filling;

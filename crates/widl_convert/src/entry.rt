@@ -4,14 +4,13 @@ ghost use Rattle.std.specs.Prelude.{◌≡◌, false, map, option_map, slice_get
 ghost use Rattle.std.specs.Option.{option_map_or};
 ghost use Rattle.widl_idl.specs.DefinitionTerms.{arg_term, defs_term, sig_term};
 ghost use Rattle.widl_idl.specs.Terms.{AnyType, type_term};
-ghost use Rattle.widl_tables.specs.Kept.{declared_args, entry_for, optionality_at, overloads_of, type_at};
-ghost use Rattle.widl_tables.specs.Standing.{args_in};
+ghost use Rattle.widl_overload.specs.Entries.{declared_args, entry_for, optionality_at, type_at};
+ghost use Rattle.widl_overload.specs.Standing.{args_in};
 ghost use Rattle.widl_tables.specs.Tests.{is_optional};
 
 use crate::jobs::ArgumentPlace;
-use widl_idl::{Arg, Callee, Defs, Sig};
-use widl_overload::overloads;
-use widl_tables::{Standing, type_at};
+use widl_idl::{Arg, Defs, Sig};
+use widl_overload::{Standing, overload_list, type_at};
 
 /// The type and the optionality value at a place of an overload's entry of a length (Web IDL, "compute
 /// the effective overload set"). There are none past its end, nor where the overload has no arguments.
@@ -31,16 +30,6 @@ pub(crate) fn declared(defs: &Defs, at: ArgumentPlace) -> Option<&Arg>
     ensures { option_map (λ a. arg_term a.now) result ≡ slice_get (declared_args (defs_term defs.now) at.callee at.overload) at.place }
 {
     declared_among(overload_list(defs, &at.callee), at.overload, at.place)
-}
-
-/// The overloads of a callee; none where it is no operation name and no constructor of the list.
-fn overload_list<'d>(defs: &'d Defs, callee: &Callee) -> &'d [Sig]
-    ensures { map sig_term result.now ≡ overloads_of (defs_term defs.now) callee.now }
-{
-    match overloads(defs, callee) {
-        None => &[],
-        Some(sigs) => sigs.as_slice(),
-    }
 }
 
 /// The argument that one of these overloads declares at a place.

@@ -2,6 +2,7 @@
 //!
 //! Each goes on with one kind of end, and passes any other on.
 
+use crate::containers::Outgoing;
 use crate::jobs::Beginning;
 use crate::outcome::Want;
 use crate::record::{NamedProperty, Property};
@@ -15,6 +16,8 @@ use widl_idl::{IntKind, Mode, TextKind};
 pub enum ValueFrame {
     /// It is a primitive value, which becomes a Number, a String or a length.
     Scalar(Want),
+    /// It is that of the item of a container that was taken last.
+    Item(Box<Outgoing>),
 }
 
 /// What goes on with a Number.

@@ -1,5 +1,6 @@
 //! Jobs: the tasks of a conversation.
 
+use crate::containers::{Filled, Outgoing};
 use crate::hint::Hint;
 use crate::members_left::{MemberPlace, MembersLeft};
 use crate::outcome::Want;
@@ -117,4 +118,8 @@ pub enum Job {
         /// The value.
         value: IdlValue,
     },
+    /// The items of a container that are left, on their way to script.
+    OutItems(Box<Outgoing>),
+    /// The units of a container that are left, and then the container.
+    OutUnits(Filled),
 }

@@ -8,6 +8,7 @@ ghost use Rattle.widl_value.specs.declared.object.ObjRef.{ObjRef};
 ghost use Rattle.widl_convert.specs.Built.{Built};
 ghost use Rattle.widl_convert.specs.ContainerLaws.{MembersAreReadInOrder, MembersStandInOrder, NamesAscend, RecordsAskOnce, SequencesAskOnce, SequencesTakeTurns};
 ghost use Rattle.widl_convert.specs.Laws.{AsksAreTalked, BeginningsHaveOneNext, ChainsEnd, EachTaskEnds, FaultsEnd, PartsMakeWholes, ValidChainsEnd};
+ghost use Rattle.widl_convert.specs.ResultLaws.{ItemsComeFirst, UnitsAreAllThatIsSaid};
 ghost use Rattle.widl_convert.specs.ResolutionLaws.{OthersAreNotLookedAt, ValuesAreCounted};
 ghost use Rattle.widl_convert.specs.Rules.{rule};
 ghost use Rattle.widl_convert.specs.UnionLaws.{UnionsAskAsMembers};
@@ -89,6 +90,17 @@ pub fn names_ascend()
 /// Of a dictionary's object each member is read once, in their order.
 pub fn members_are_read_in_order()
     ensures { (built : Built) (list : DefsTerm) → MembersAreReadInOrder built list }
+{}
+
+/// On the way of an array or an object to script the conversations of its items come first, in their order; then
+/// a unit is taken for each, and then it is made.
+pub fn items_come_first()
+    ensures { (built : Built) (list : DefsTerm) → ItemsComeFirst built list }
+{}
+
+/// Of a container of so many items with no container in it so many units are said, and one ask for it.
+pub fn units_are_all_that_is_said()
+    ensures { (built : Built) (list : DefsTerm) → UnitsAreAllThatIsSaid built list }
 {}
 
 /// A conversion to a union is that to one of its flattened members, behind at most one Get of `@iterator`; or

@@ -7,15 +7,14 @@
 //! section of the standard at its head: `rule` (`specs/Rules.antt`) gives each task its steps. An
 //! [`Asker`] is a conversion that is suspended at each ask. The contract that the crates above use: what
 //! [`Asker::resume`] answers is exactly what comes next in the talk of its task, tasks alone lead to it
-//! from what was left, and less is left after each ask that takes no charge. Today conversions to all
-//! types but interfaces, callbacks and promises have code, the choice of an overload, and the way of
-//! scalars to script; that of containers has definitions alone. The laws are the contracts of the
-//! functions of [`laws`].
+//! from what was left, and less is left after each ask that takes no charge. Interfaces, callbacks and
+//! promises aren't converted yet. The laws are the contracts of the functions of [`laws`].
 #![tactic(auto)]
 
 mod answer;
 mod ask;
 mod asker;
+mod containers;
 mod convert;
 mod defaults;
 mod dictionary;
@@ -49,6 +48,7 @@ pub use answer::{Answer, CursorState, KindName};
 pub use ask::{Ask, ScriptEntries};
 pub use asker::Asker;
 pub use literals::literal_value;
+pub use members_left::requires_member;
 pub use moves::Ending;
 pub use outcome::{Next, Outcome, Want};
 pub use served::is_served;

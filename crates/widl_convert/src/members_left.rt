@@ -4,8 +4,10 @@ ghost use Rattle.std.specs.Prelude.{◌≡◌, ◌≤◌, ◌<◌, ◌-◌, ◌^
 ghost use Rattle.widl_idl.specs.DefinitionTerms.{defs_term};
 ghost use Rattle.widl_tables.specs.Levels.{nearest};
 ghost use Rattle.widl_tables.specs.MemberOrder.{members_in_order, own_order};
-ghost use Rattle.widl_convert.specs.Members.{declared_at, members_left};
+ghost use Rattle.widl_convert.specs.Members.{declared_at, member_at, members_left};
+ghost use Rattle.widl_convert.specs.Dictionaries.{requires_member};
 
+use crate::dictionary::declared_member;
 use std::alloc::{AllocError, Global};
 use widl_tables::{Level, Tables, parent_of};
 
@@ -109,5 +111,32 @@ fn level_within(tables: &Tables, at: Option<u32>, links: usize) -> Option<Level>
                 None
             },
         },
+    }
+}
+
+/// Whether a member of a dictionary is required, inherited ones included.
+///
+/// # Errors
+///
+/// `AllocError` where there is no memory.
+pub fn requires_member(alloc: Global, tables: &Tables, dictionary: u32) -> Result<bool, AllocError>
+    ensures { IfOk result (λ required. required ≡ requires_member (defs_term tables.now.defs) dictionary) }
+{
+    let mut left = MembersLeft::of(alloc, tables, dictionary)?;
+    while let Some(at) = left.next(tables) {
+        if is_required(tables, at) {
+            return Ok(true);
+        }
+    }
+    Ok(false)
+}
+
+/// Whether the member at a place is required.
+fn is_required(tables: &Tables, at: MemberPlace) -> bool
+    ensures { result ≡ (member_at (defs_term tables.now.defs) at).needed }
+{
+    match declared_member(tables.list().defs(), at) {
+        None => false,
+        Some(member) => member.required,
     }
 }

@@ -1,12 +1,12 @@
 //! Values of the script to records.
 
-ghost use Rattle.std.specs.Prelude.{◌≡◌, ◌≤◌, ◌<◌, ◌*◌, [], ◌∷◌, length, IfNone, IfOk, IfSome};
+ghost use Rattle.std.specs.Prelude.{◌≡◌, ◌≤◌, ◌<◌, ◌+◌, ◌*◌, [], ◌∷◌, length, IfNone, IfOk, IfSome};
 ghost use Rattle.widl_idl.specs.DefinitionTerms.{DefsTerm};
 ghost use Rattle.widl_idl.specs.Terms.{type_term};
 ghost use Rattle.widl_value.specs.IdlTerms.{StringValue, idl_term};
 ghost use Rattle.widl_convert.specs.AskTerms.{answer_term};
 ghost use Rattle.widl_convert.specs.Frames.{after, entries_in, enumerable_to, idl_to, keys_left, move_dialog, named_to, property_to};
-ghost use Rattle.widl_convert.specs.Loads.{conversion_load, entry_load, idl_frame_load, patience, weight};
+ghost use Rattle.widl_convert.specs.Loads.{conversion_load, entry_load, idl_frame_load, made_entries_load, patience, value_load, weight};
 ghost use Rattle.widl_convert.specs.Records.{entries, flags_in, is_enumerable, key_value, keys_in, to_record};
 ghost use Rattle.widl_convert.specs.Tasks.{Gives};
 
@@ -127,7 +127,7 @@ fn keys_in(alloc: Global, answer: Answer) -> Keys
 /// `AllocError` where there is no memory.
 pub(crate) fn entries(alloc: Global, properties: Box<Properties>) -> Result<Move, AllocError>
     ensures dialog { IfOk result (λ m. (list : DefsTerm) → move_dialog list m ≡ entries properties.value.of.kind (type_term properties.value.of.ty) properties.value.of.obj (keys_left properties.value) (entries_in properties.value.made)) }
-    ensures weight { IfOk result (λ m. (list : DefsTerm) → weight list m ≤ entry_load * length (keys_left properties.value)) }
+    ensures weight { IfOk result (λ m. (list : DefsTerm) → weight list m ≤ entry_load * length (keys_left properties.value) + made_entries_load (entries_in properties.value.made)) }
 {
     let mut left = properties;
     match take_key(&mut left) {
@@ -155,7 +155,7 @@ fn take_key(properties: &mut Properties) -> Option<Key>
 /// The ask for the flags of a property.
 fn own(left: Box<Properties>, key: Key) -> Result<Move, AllocError>
     ensures dialog { IfOk result (λ m. (list : DefsTerm) → move_dialog list m ≡ entries left.value.of.kind (type_term left.value.of.ty) left.value.of.obj (key ∷ keys_left left.value) (entries_in left.value.made)) }
-    ensures weight { IfOk result (λ m. (list : DefsTerm) → weight list m ≡ entry_load * length (key ∷ keys_left left.value)) }
+    ensures weight { IfOk result (λ m. (list : DefsTerm) → weight list m ≡ entry_load * length (key ∷ keys_left left.value) + made_entries_load (entries_in left.value.made)) }
 {
     let asked = key.copy()?;
     Ok(Move::Asks(Asking {
@@ -170,7 +170,7 @@ fn own(left: Box<Properties>, key: Key) -> Result<Move, AllocError>
 /// The end with a record.
 fn finished(alloc: Global, properties: Properties) -> Result<Move, AllocError>
     ensures dialog { IfOk result (λ m. (list : DefsTerm) → move_dialog list m ≡ entries properties.of.kind (type_term properties.of.ty) properties.of.obj [] (entries_in properties.made)) }
-    ensures weight { IfOk result (λ m. (list : DefsTerm) → weight list m ≡ 0) }
+    ensures weight { IfOk result (λ m. (list : DefsTerm) → weight list m ≡ made_entries_load (entries_in properties.made)) }
 {
     let entries = properties.made.into_entries(alloc)?;
     Ok(gives(IdlValue::Entries(entries)))
@@ -229,7 +229,7 @@ fn key_value(key: &Key) -> Result<Value, AllocError>
 /// The move after the key of an entry: the property is read, by its own key.
 pub(crate) fn with_name(property: Property, value: IdlValue) -> Move
     ensures dialog { (list : DefsTerm) → move_dialog list result ≡ named_to property (Gives (idl_term value)) }
-    ensures weight { (list : DefsTerm) → weight list result ≡ 0 }
+    ensures weight { (list : DefsTerm) → weight list result ≤ value_load (idl_term value) }
 {
     match value {
         IdlValue::Text(name) => read(property, name),
@@ -276,9 +276,10 @@ pub(crate) fn with_value(
 /// # Errors
 ///
 /// `AllocError` where there is no memory.
+#[tactic(auto, using(crate::proofs::GivenLoads::entry_put))]
 pub(crate) fn after_entry(property: NamedProperty, value: IdlValue) -> Result<Move, AllocError>
     ensures dialog { IfOk result (λ m. (list : DefsTerm) → move_dialog list m ≡ idl_to list (IdlFrame.Property property) (idl_term value)) }
-    ensures weight { IfOk result (λ m. (list : DefsTerm) → weight list m < idl_frame_load list (IdlFrame.Property property)) }
+    ensures weight { IfOk result (λ m. (list : DefsTerm) → weight list m < idl_frame_load list (IdlFrame.Property property) + value_load (idl_term value)) }
 {
     let NamedProperty { left, name } = property;
     let mut left = left;

@@ -1,6 +1,6 @@
 //! IDL values to values of the script.
 
-ghost use Rattle.std.specs.Prelude.{◌≡◌, ◌≤◌, IfOk};
+ghost use Rattle.std.specs.Prelude.{◌≡◌, ◌≤◌, ◌+◌, IfOk};
 ghost use Rattle.std.specs.Option.{option_copied};
 ghost use Rattle.widl_idl.specs.DefinitionTerms.{DefsTerm, defs_term};
 ghost use Rattle.widl_idl.specs.Terms.{AnyType};
@@ -8,10 +8,11 @@ ghost use Rattle.widl_value.specs.IdlTerms.{idl_term};
 ghost use Rattle.widl_trace.specs.IdlValueTexts.{enumeration_value};
 ghost use Rattle.widl_convert.specs.Built.{built_today};
 ghost use Rattle.widl_convert.specs.Frames.{move_dialog};
-ghost use Rattle.widl_convert.specs.Loads.{object_load, weight};
+ghost use Rattle.widl_convert.specs.Loads.{object_load, value_load, weight};
 ghost use Rattle.widl_convert.specs.Results.{enumeration_text, integer_to_script, out};
 ghost use Rattle.widl_convert.specs.Words.{returns};
 
+use crate::containers::{array_of, object_of_entries, object_of_members};
 use crate::convert::not_built;
 use crate::moves::{Ending, Move};
 use crate::outcome::Outcome;
@@ -33,7 +34,7 @@ const GREATEST: i128 = 18_446_744_073_709_551_616;
 /// `AllocError` where there is no memory.
 pub(crate) fn out(alloc: Global, tables: &Tables, value: IdlValue) -> Result<Move, AllocError>
     ensures dialog { IfOk result (λ m. move_dialog (defs_term tables.now.defs) m ≡ out built_today (defs_term tables.now.defs) AnyType (idl_term value)) }
-    ensures weight { IfOk result (λ m. weight (defs_term tables.now.defs) m ≤ object_load) }
+    ensures weight { IfOk result (λ m. weight (defs_term tables.now.defs) m ≤ object_load + value_load (idl_term value)) }
 {
     match value {
         IdlValue::Undefined => Ok(returns(Value::Undefined)),
@@ -48,15 +49,17 @@ pub(crate) fn out(alloc: Global, tables: &Tables, value: IdlValue) -> Result<Mov
         } => choice(alloc, tables.list().defs(), enumeration, index),
         IdlValue::Object(obj) => Ok(returns(Value::Obj(obj))),
         IdlValue::Any(value) => Ok(returns(value)),
-        IdlValue::List(_) => Ok(not_built()),
-        IdlValue::Entries(_) => Ok(not_built()),
-        IdlValue::Dict { of: _, members: _ } => Ok(not_built()),
+        IdlValue::List(values) => array_of(alloc, values),
+        IdlValue::Entries(entries) => object_of_entries(alloc, entries),
+        IdlValue::Dict { of, members } => {
+            object_of_members(alloc, tables.list().defs(), of, members)
+        }
         IdlValue::Promise(_) => Ok(not_built()),
     }
 }
 
 /// The end with a value of the script.
-fn returns(value: Value) -> Move
+pub(crate) fn returns(value: Value) -> Move
     ensures dialog { (list : DefsTerm) → move_dialog list result ≡ returns value }
     ensures weight { (list : DefsTerm) → weight list result ≤ object_load }
 {

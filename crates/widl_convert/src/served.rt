@@ -3,7 +3,6 @@
 ghost use Rattle.std.specs.Prelude.{◌≡◌, ◌↔◌, IsTrue};
 ghost use Rattle.std.specs.List.{list_all};
 ghost use Rattle.widl_idl.specs.DefinitionTerms.{arg_term, defs_term, dict_term, member_term, op_name_term, sig_term, space_term};
-ghost use Rattle.widl_idl.specs.Flattened.{flattened_member, flattened_members};
 ghost use Rattle.widl_idl.specs.Terms.{packed, type_term, type_terms};
 ghost use Rattle.widl_convert.specs.Served.{IsServed, are_served_types, has_no_callbacks, has_served_definitions, has_served_operations, is_scalar, is_served_argument, is_served_dictionary, is_served_member, is_served_name, is_served_namespace, is_served_result, is_served_signature, is_served_type};
 
@@ -11,10 +10,9 @@ use widl_idl::{Arg, Defs, Dict, IdlType, IdlTypes, Member, OpName, Sig, Space};
 use widl_overload::{Accepted, has_operations_alone};
 
 /// Whether a script can be run over an accepted set today: beside enumerations and dictionaries it has
-/// namespaces alone, with operations alone. The types of their arguments and of members are `any`, booleans,
-/// integers, texts, enumerations, `object`, dictionaries, and sequences, records, nullable types and unions of
-/// these, at any depth; those of their results `undefined`, or the same without dictionaries, sequences and
-/// records.
+/// namespaces alone, with operations alone. The types of their arguments, of their results and of members are
+/// `any`, booleans, integers, texts, enumerations, `object`, dictionaries, and sequences, records, nullable types
+/// and unions of these, at any depth; that of a result may also be `undefined`.
 pub fn is_served(accepted: &Accepted) -> bool
     ensures { IsTrue result ↔ IsServed (defs_term accepted.now.defs) }
 {
@@ -162,40 +160,12 @@ fn is_scalar(ty: &IdlType) -> bool
     )
 }
 
-/// Whether a type is `undefined`, or a scalar one, a nullable one of such, or a union of such.
+/// Whether a type is `undefined`, or one that an argument may have.
 fn is_served_result(ty: &IdlType) -> bool
     ensures { result ≡ is_served_result (type_term ty.now) }
 {
     match ty {
         IdlType::Undefined => true,
-        _ => is_flattened_to_scalars(ty),
+        _ => is_served_type(ty),
     }
-}
-
-/// Whether all that a type is flattened to are scalar types.
-///
-/// A type of a list of definitions nests at most 16 levels, which bounds the recursion; the members of a
-/// union are walked by a loop.
-#[cycle(flattened)]
-fn is_flattened_to_scalars(ty: &IdlType) -> bool
-    ensures { result ≡ list_all is_scalar (flattened_member (type_term ty.now)) }
-{
-    match ty {
-        IdlType::Nullable(inner) => is_flattened_to_scalars(inner),
-        IdlType::Union(members) => are_flattened_to_scalars(members),
-        _ => is_scalar(ty),
-    }
-}
-
-/// Whether all that the members of a union are flattened to are scalar types.
-#[cycle(flattened)]
-fn are_flattened_to_scalars(members: &IdlTypes) -> bool
-    ensures { result ≡ list_all is_scalar (flattened_members (packed (type_terms members.now))) }
-{
-    for member in members.as_slice() {
-        if !is_flattened_to_scalars(member) {
-            return false;
-        }
-    }
-    true
 }

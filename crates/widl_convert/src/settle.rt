@@ -23,6 +23,7 @@ pub enum Settled {
 }
 
 /// Makes all moves up to the next ask or the end.
+#[tactic(auto, using(crate::proofs::Suspending::given_last))]
 pub(crate) fn settle(alloc: Global, tables: &Tables, frames: &mut Stack, first: Move) -> Settled
     ensures { Settles (defs_term tables.now.defs) (moves_on (defs_term tables.now.defs) first frames.old) (stack_load (frame_load (defs_term tables.now.defs)) frames.old + weight (defs_term tables.now.defs) first) frames.new result }
 {

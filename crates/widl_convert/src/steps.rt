@@ -5,13 +5,14 @@ ghost use Rattle.widl_idl.specs.DefinitionTerms.{DefsTerm, defs_term};
 ghost use Rattle.widl_convert.specs.AskTerms.{IsFree, answer_term};
 ghost use Rattle.widl_convert.specs.Built.{built_today};
 ghost use Rattle.widl_convert.specs.Frames.{after, end_of, job_of, move_dialog, number_to, returned_to, text_to, value_to};
-ghost use Rattle.widl_convert.specs.Loads.{end_load, frame_load, load, patience, weight};
+ghost use Rattle.widl_convert.specs.Loads.{end_load, frame_load, load, patience, value_load, weight};
 ghost use Rattle.widl_convert.specs.Rules.{rule};
 ghost use Rattle.widl_value.specs.IdlTerms.{idl_term};
 ghost use Rattle.widl_convert.specs.Tasks.{Gives, Plain};
 ghost use Rattle.widl_convert.specs.Waits.{kind_for};
 
 use crate::answer::Answer;
+use crate::containers::{out_items, out_units, with_item};
 use crate::convert::{convert, convert_argument, gives, to_enumeration, to_integer, to_string};
 use crate::defaults::{default, defaults, with_default};
 use crate::dictionary::{
@@ -25,7 +26,7 @@ use crate::outcome::Outcome;
 use crate::primitive::to_primitive;
 use crate::record::{after_entry, entries, with_keys, with_name, with_own};
 use crate::resolve::{arguments, probed, resolve, with_argument};
-use crate::results::out;
+use crate::results::{out, returns};
 use crate::scalar::{to_length, to_scalar, with_primitive};
 use crate::sequence::{after_element, sequence_from, turns};
 use crate::waits::{ValueWait, Wait};
@@ -63,6 +64,8 @@ pub(crate) fn begin(alloc: Global, tables: &Tables, job: Job) -> Result<Move, Al
         Job::Member { at, value } => convert_member(alloc, tables, at, value),
         Job::MemberDefault(at) => member_default(alloc, tables, at),
         Job::Out { ty: _, value } => out(alloc, tables, value),
+        Job::OutItems(outgoing) => Ok(out_items(outgoing)),
+        Job::OutUnits(filled) => out_units(alloc, filled),
     }
 }
 
@@ -85,6 +88,7 @@ pub(crate) fn answered(
         Wait::Keys(of) => with_keys(alloc, of, answer),
         Wait::Own(property) => with_own(property, answer),
         Wait::Unit(wait) => Ok(undefined_member(tables, wait)),
+        Wait::Item(filled) => Ok(Move::Goes(Job::OutUnits(filled))),
     }
 }
 
@@ -128,6 +132,8 @@ fn with_value(
         ValueWait::Property(property) => record::with_value(alloc, property, value),
         ValueWait::Member(wait) => Ok(with_member_value(tables, wait, value)),
         ValueWait::UnionProbe(probe) => union::probed(alloc, probe, value),
+        ValueWait::NewArray => Ok(returns(value)),
+        ValueWait::NewObject => Ok(returns(value)),
     }
 }
 
@@ -168,6 +174,7 @@ fn with_script(
 {
     match frame {
         Frame::Value(ValueFrame::Scalar(want)) => Ok(with_primitive(want, value)),
+        Frame::Value(ValueFrame::Item(outgoing)) => with_item(outgoing, value),
         Frame::Number(frame) => match value {
             Value::Num(number) => Ok(with_number(frame, number)),
             value => Ok(Move::Gives(Ending::Done(Outcome::Script(value)))),
@@ -188,7 +195,7 @@ fn with_script(
 /// `AllocError` where there is no memory.
 fn with_idl(frame: Frame, value: IdlValue) -> Result<Move, AllocError>
     ensures dialog { IfOk result (λ m. (list : DefsTerm) → move_dialog list m ≡ returned_to list frame (Gives (idl_term value))) }
-    ensures weight { IfOk result (λ m. (list : DefsTerm) → weight list m < frame_load list frame) }
+    ensures weight { IfOk result (λ m. (list : DefsTerm) → weight list m < frame_load list frame + value_load (idl_term value)) }
 {
     match frame {
         Frame::Idl(IdlFrame::Argument(resolution)) => with_argument(resolution, value),

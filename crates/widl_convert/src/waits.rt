@@ -2,6 +2,7 @@
 //!
 //! An ask goes out with its arguments, so a wait doesn't hold them. It knows the kind of its ask.
 
+use crate::containers::Filled;
 use crate::jobs::Filling;
 use crate::members_left::MemberPlace;
 use crate::primitive::PrimitiveWait;
@@ -34,6 +35,10 @@ pub enum ValueWait {
     Member(MemberWait),
     /// Of an object that is converted to a union, for its method `@iterator`.
     UnionProbe(UnionProbe),
+    /// For an array that is made.
+    NewArray,
+    /// For an object that is made.
+    NewObject,
 }
 
 /// What waits for an answer.
@@ -47,4 +52,6 @@ pub enum Wait {
     Own(Property),
     /// It is none: the unit was taken that a member takes where it is not read.
     Unit(MemberWait),
+    /// It is none: the unit was taken of an item on its way to script.
+    Item(Filled),
 }

@@ -2,6 +2,8 @@ pub mod Inheritance
 pub mod Distinct
 pub mod Pairs
 pub mod Sets
+pub mod Entries
+pub mod Standing
 pub mod Spans
 pub mod OperationsAlone
 pub mod Index

@@ -1,10 +1,12 @@
 //! The overloads of a callee.
 
-ghost use Rattle.std.specs.Prelude.{◌≡◌, slice_get, option_and_then};
+ghost use Rattle.std.specs.Prelude.{◌≡◌, map, slice_get, option_and_then};
 ghost use Rattle.std.specs.Option.{option_copied};
+ghost use Rattle.widl_idl.specs.DefinitionTerms.{defs_term, sig_term};
+ghost use Rattle.widl_overload.specs.Entries.{overloads_of as overload_terms_of};
 ghost use Rattle.widl_overload.specs.Sets.{interface_overloads, namespace_overloads, overloads_named, overloads_of};
 
-use widl_idl::{Callee, Defs, Iface, OpName, Owner, Part, Sigs, Space};
+use widl_idl::{Callee, Defs, Iface, OpName, Owner, Part, Sig, Sigs, Space};
 
 /// The overloads of a callee; none where it is no operation name and no constructor of the list.
 pub fn overloads<'a>(defs: &'a Defs, callee: &Callee) -> Option<&'a Sigs>
@@ -13,6 +15,16 @@ pub fn overloads<'a>(defs: &'a Defs, callee: &Callee) -> Option<&'a Sigs>
     match callee.owner {
         Owner::Iface(number) => of_interface(defs.ifaces.as_slice(), number, callee.part),
         Owner::Space(number) => of_namespace(defs.spaces.as_slice(), number, callee.part),
+    }
+}
+
+/// The same as a list, which is empty where the callee is no operation name and no constructor of the list.
+pub fn overload_list<'d>(defs: &'d Defs, callee: &Callee) -> &'d [Sig]
+    ensures { map sig_term result.now ≡ overload_terms_of (defs_term defs.now) callee.now }
+{
+    match overloads(defs, callee) {
+        None => &[],
+        Some(sigs) => sigs.as_slice(),
     }
 }
 

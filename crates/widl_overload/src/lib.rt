@@ -20,6 +20,7 @@ mod overload_sizes;
 mod overload_violations;
 mod sets;
 mod span;
+mod standing;
 mod telling;
 #[cfg(test)]
 mod tests;
@@ -28,7 +29,7 @@ mod type_role;
 mod validity_rule;
 
 pub use accepted::Accepted;
-pub use callees::overloads;
+pub use callees::{overload_list, overloads};
 pub use category::Category;
 pub use distinct::{
     distinguishable, distinguishable_by_rules, distinguishable_from_itself,
@@ -40,6 +41,7 @@ pub use operations_alone::has_operations_alone;
 pub use overload_rules::first_overload_violations;
 pub use overload_violations::OverloadViolations;
 pub use sets::{all_free, effective_set, effective_set_is_as_constructed, is_free};
+pub use standing::{Standing, standing_in, type_at};
 pub use tuple::{OverloadSet, Tuple};
 pub use type_role::TypeRole;
 pub use validity_rule::ValidityRule;

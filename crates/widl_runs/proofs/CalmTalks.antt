@@ -1,5 +1,5 @@
 -- For proofs alone. The tasks of conversations are calm: between two asks that pay they only go to lower ones.
-use Rattle.std.proofs.Common.{◌≡◌, ℕ, zero, suc, ◌+◌, ◌^◌, ◌<◌, ℤ, List, [], ◌∷◌, ◌++◌, Option, Some, None, Bool, true, false, length, refl, arith, if◌then◌else◌}
+use Rattle.std.proofs.Common.{◌≡◌, ℕ, zero, suc, ◌+◌, ◌^◌, ◌<◌, ℤ, List, [], ◌∷◌, ◌++◌, Option, Some, None, Bool, true, false, length, refl, ap, arith, if◌then◌else◌}
 use Rattle.std.specs.Prelude.{◌&&◌, codes, nat_abs, nat_eq, nat_le, slice_get, take}
 use Rattle.std.specs.declared.result.Result.{Result}
 use Rattle.std.specs.declared.result.Result.TheVariants as results
@@ -21,6 +21,7 @@ use Rattle.widl_idl.specs.declared.text_kind.TextKind.TheVariants as texts
 use Rattle.widl_idl.specs.DefinitionTerms.{ArgTerm}
 use Rattle.widl_idl.specs.Flattened.{flattened_members, includes_nullable_type}
 use Rattle.widl_idl.specs.Terms.{TypeTerm, TypeTerms, AnyType, UndefinedType, BooleanType, IntegerType, StringType, EnumerationType, InterfaceType, CallbackFunctionType, CallbackInterfaceType, DictionaryType, ObjectType, SequenceType, RecordType, PromiseType, NullableType, UnionType}
+use Rattle.widl_overload.specs.Entries.{declared_args, optionality_at, type_at}
 use Rattle.widl_overload.specs.Sets.{TupleTerm, is_variadic}
 use Rattle.widl_text.specs.declared.key.Key.{Key}
 use Rattle.widl_text.specs.declared.key.Key.TheVariants as keys
@@ -29,7 +30,7 @@ use Rattle.widl_value.specs.declared.number.Number.{Number}
 use Rattle.widl_value.specs.declared.object.ObjRef.{ObjRef}
 use Rattle.widl_value.specs.declared.value.Value.{Value}
 use Rattle.widl_value.specs.declared.value.Value.TheVariants as values
-use Rattle.widl_value.specs.IdlTerms.{IdlTerm, IdlTerms, no_values, more_values, UndefinedValue, NullValue, MissingValue, BooleanValue, IntegerValue, StringValue, EnumerationValue, ObjectValue, AnyValue, SequenceValue, RecordValue, DictionaryValue, PromiseValue}
+use Rattle.widl_value.specs.IdlTerms.{IdlTerm, IdlTerms, EntryTerms, MemberTerms, no_values, more_values, no_entries, more_entries, no_members, more_members, UndefinedValue, NullValue, MissingValue, BooleanValue, IntegerValue, StringValue, EnumerationValue, ObjectValue, AnyValue, SequenceValue, RecordValue, DictionaryValue, PromiseValue}
 use Rattle.widl_value.specs.Rounding.{nearest_of}
 use Rattle.widl_scalar.specs.declared.int.NotInRange.{NotInRange}
 use Rattle.widl_scalar.specs.declared.numerals.Read.{Read}
@@ -46,7 +47,7 @@ use Rattle.widl_store.specs.declared.inner.Turn.TheVariants.{Idle, Running, Ende
 use Rattle.widl_script_tree.specs.declared.steps.StepLine.{StepLine}
 use Rattle.widl_tables.specs.Picks.{pick_of, pick_member_of}
 use Rattle.widl_tables.specs.Tests.{is_null_or_undefined}
-use Rattle.widl_tables.specs.Kept.{argcount_of, declared_args, entry_alone, kept_tuples, optionality_at, type_at}
+use Rattle.widl_tables.specs.Kept.{argcount_of, entry_alone, kept_tuples}
 use Rattle.widl_tables.specs.declared.pick.Pick.{Pick}
 use Rattle.widl_tables.specs.declared.pick.Pick.TheVariants.{Entry, Probe, Refuse}
 use Rattle.widl_trace.specs.declared.code.Code.{Code}
@@ -59,13 +60,13 @@ use Rattle.widl_convert.specs.declared.outcome.Want.TheVariants as wants
 use Rattle.widl_convert.specs.AskTerms.{CursorAsk, GetAsk, OwnKeysAsk}
 use Rattle.widl_convert.specs.Built.{built_today, is_built_type}
 use Rattle.widl_convert.specs.Defaults.{default, default_given, defaults_from, literal_value}
-use Rattle.widl_convert.specs.Dictionaries.{members, to_dictionary}
+use Rattle.widl_convert.specs.Dictionaries.{members, requires_member, to_dictionary}
 use Rattle.widl_tables.specs.MemberOrder.{DeclaredMember}
 use Rattle.widl_convert.specs.Nullables.{to_nullable}
 use Rattle.widl_convert.specs.Primitives.{to_primitive}
 use Rattle.widl_convert.specs.Records.{entries, keys_in}
 use Rattle.widl_convert.specs.Resolution.{argument, argument_given, arguments, default_at, picked, takes_default, with_entries}
-use Rattle.widl_convert.specs.Results.{out, out_items, out_units}
+use Rattle.widl_convert.specs.Results.{entry_items, member_items, out, out_items, out_units}
 use Rattle.widl_convert.specs.Rules.{rule as task_rule}
 use Rattle.widl_convert.specs.Scalars.{convert, convert_plain, enumeration_result, integer_result, is_bytes, null_or_string, string_result, to_number, to_plain, to_scalar, to_string, to_type}
 use Rattle.widl_convert.specs.Sequences.{found_iterator_method, iterator_symbol}
@@ -84,7 +85,7 @@ use Rattle.widl_runs.specs.Actions.{Reply}
 use Rattle.widl_runs.specs.Asks.{in_world, ways}
 use Rattle.widl_runs.specs.Ends.{answer_of, task_end_in}
 use Rattle.widl_runs.specs.Jobs.{Program, Talk}
-use Rattle.widl_runs.proofs.Ranks.{high, low, task_high, task_low, call_high, call_low, want_low, is_object, talk_spends, ranks, count_of_values}
+use Rattle.widl_runs.proofs.Ranks.{high, low, task_high, task_low, call_high, call_low, want_low, is_object, talk_spends, ranks, value_low, values_low, entries_low, members_low}
 
 module _ (p : Program) where
   abbrev IsCalm : ℕ → ℕ → TaskTalk → Type 0
@@ -298,9 +299,9 @@ module _ (p : Program) where
   calm_members n None (m ∷ left) made = (inl (omega arith), tt)
   calm_members n (Some o) (m ∷ left) made = (inl (omega arith), tt)
 
-  calm_items : (container : Container) (left : IdlTerms) (made : List Value) → IsCalm 0 (1 + count_of_values left) (out_items container left made)
+  calm_items : (container : Container) (left : IdlTerms) (made : List Value) → IsCalm 0 (1 + values_low left) (out_items container left made)
   calm_items container no_values made = (inr (refl, omega arith), λ b. tt)
-  calm_items container (more_values w left) made = (inr (refl, omega arith), λ b. calm_returned 0 (1 + count_of_values (more_values w left)) _ (λ v. (inr (refl, omega arith), λ r. tt)) (task_end_in b))
+  calm_items container (more_values w left) made = (inr (refl, omega arith), λ b. calm_returned 0 (1 + values_low (more_values w left)) _ (λ v. (inr (refl, omega arith), λ r. tt)) (task_end_in b))
 
   calm_ask : (m n : ℕ) (container : Container) (made : List Value) → IsCalm m n (out_units 0 container made)
   calm_ask m n ArrayOf made = (inl (omega arith), tt)
@@ -314,7 +315,15 @@ module _ (p : Program) where
   calm_whole true n = tt
   calm_whole false n = tt
 
-  calm_out : (t : TypeTerm) (w : IdlTerm) → IsCalm 0 0 (out built_today p.list t w)
+  same_entries : (entries : EntryTerms) → values_low (entry_items entries) ≡ entries_low entries
+  same_entries no_entries = refl
+  same_entries (more_entries name w entries) = ap (λ n. suc (value_low w + n)) (same_entries entries)
+
+  same_members : (members : MemberTerms) → values_low (member_items members) ≡ members_low members
+  same_members no_members = refl
+  same_members (more_members dictionary number w members) = ap (λ n. suc (value_low w + n)) (same_members members)
+
+  calm_out : (t : TypeTerm) (w : IdlTerm) → IsCalm 0 (value_low w) (out built_today p.list t w)
   calm_out t UndefinedValue = tt
   calm_out t NullValue = tt
   calm_out t MissingValue = tt
@@ -324,9 +333,9 @@ module _ (p : Program) where
   calm_out t (EnumerationValue n place) = tt
   calm_out t (ObjectValue o) = tt
   calm_out t (AnyValue v) = tt
-  calm_out t (SequenceValue items) = tt
-  calm_out t (RecordValue es) = tt
-  calm_out t (DictionaryValue n ms) = tt
+  calm_out t (SequenceValue items) = (inr (refl, omega arith), λ b. tt)
+  calm_out t (RecordValue es) = (inr (refl, omega (arith, same_entries es)), λ b. tt)
+  calm_out t (DictionaryValue n ms) = (inr (refl, omega (arith, same_members ms)), λ b. tt)
   calm_out t (PromiseValue o) = tt
 
   -- 4. Defaults
@@ -506,7 +515,7 @@ module _ (p : Program) where
   calm_function steps (builtins.InterfaceObject iface) this args = tt
   calm_function steps (builtins.Pairs iface what) this args = tt
 
-  calm_result : (t : TypeTerm) → IsCalmCall 0 0 (default_result built_today p.list t)
+  calm_result : (t : TypeTerm) → IsCalmCall 0 4 (default_result built_today p.list t)
   calm_result AnyType = tt
   calm_result UndefinedType = tt
   calm_result BooleanType = tt
@@ -516,7 +525,7 @@ module _ (p : Program) where
   calm_result (InterfaceType n) = tt
   calm_result (CallbackFunctionType n) = tt
   calm_result (CallbackInterfaceType n) = tt
-  calm_result (DictionaryType n) = tt
+  calm_result (DictionaryType n) = cond_both (requires_member p.list n) (fails code.NoDefault) (Steps (Of (Convert (DictionaryType n) values.Undefined)) End) (IsCalmCall 0 4) (λ i. tt) (λ i. (inr (refl, omega arith), λ b. tt))
   calm_result ObjectType = tt
   calm_result (SequenceType t) = tt
   calm_result (RecordType key t) = tt
@@ -524,7 +533,7 @@ module _ (p : Program) where
   calm_result (NullableType t) = tt
   calm_result (UnionType ts) = tt
 
-  calm_lines : (t : TypeTerm) (named : NamedValues) (ls : List StepLine) → IsCalmCall 0 0 (lines built_today p.list t named ls)
+  calm_lines : (t : TypeTerm) (named : NamedValues) (ls : List StepLine) → IsCalmCall 0 4 (lines built_today p.list t named ls)
   calm_lines t named [] = calm_result t
   calm_lines t named (l ∷ more) = (inl (omega arith), tt)
 

@@ -19,12 +19,13 @@ use Rattle.widl_idl.specs.declared.text_kind.TextKind.TheVariants as texts
 use Rattle.widl_idl.specs.DefinitionTerms.{ArgTerm, DefsTerm}
 use Rattle.widl_idl.specs.Flattened.{flattened_member, flattened_members, includes_nullable_type}
 use Rattle.widl_idl.specs.Terms.{AnyType, BooleanType, CallbackFunctionType, CallbackInterfaceType, DictionaryType, EnumerationType, IntegerType, InterfaceType, NullableType, ObjectType, PromiseType, RecordType, SequenceType, StringType, TypeTerm, TypeTerms, UndefinedType, UnionType}
+use Rattle.widl_overload.specs.Entries.{declared_args, optionality_at, type_at}
 use Rattle.widl_overload.specs.Sets.{TupleTerm, is_variadic}
 use Rattle.widl_value.specs.Classes.{class_of}
 use Rattle.widl_value.specs.declared.object.ObjRef.{ObjRef}
 use Rattle.widl_value.specs.declared.value.Value.{Value}
 use Rattle.widl_value.specs.declared.value.Value.TheVariants as values
-use Rattle.widl_value.specs.IdlTerms.{UndefinedValue, NullValue, MissingValue, BooleanValue, IntegerValue, StringValue, EnumerationValue, ObjectValue, AnyValue, SequenceValue, RecordValue, DictionaryValue, PromiseValue, IdlTerm, IdlTerms, more_values, no_values, packed_entries, packed_members, packed_values}
+use Rattle.widl_value.specs.IdlTerms.{UndefinedValue, NullValue, MissingValue, BooleanValue, IntegerValue, StringValue, EnumerationValue, ObjectValue, AnyValue, SequenceValue, RecordValue, DictionaryValue, PromiseValue, IdlTerm, IdlTerms, EntryTerms, MemberTerms, more_entries, more_members, more_values, no_entries, no_members, no_values, packed_entries, packed_members, packed_values}
 use Rattle.widl_scalar.specs.declared.int.NotInRange.{NotInRange}
 use Rattle.widl_scalar.specs.declared.primitives.ValueNumber.{ValueNumber}
 use Rattle.widl_scalar.specs.declared.primitives.ValueNumber.TheVariants as read
@@ -44,7 +45,7 @@ use Rattle.widl_script_tree.specs.declared.steps.StepLine.{StepLine}
 use Rattle.widl_script_tree.specs.declared.steps.StepLine.TheVariants as step_lines
 use Rattle.widl_tables.specs.declared.pick.Pick.{Pick}
 use Rattle.widl_tables.specs.declared.pick.Pick.TheVariants.{Entry, Probe, Refuse}
-use Rattle.widl_tables.specs.Kept.{argcount_of, declared_args, entry_alone, kept_tuples, optionality_at, type_at}
+use Rattle.widl_tables.specs.Kept.{argcount_of, entry_alone, kept_tuples}
 use Rattle.widl_tables.specs.Picks.{pick_of, pick_member_of}
 use Rattle.widl_tables.specs.Tests.{is_null_or_undefined}
 use Rattle.widl_trace.specs.declared.code.Code.TheVariants as code
@@ -57,13 +58,13 @@ use Rattle.widl_convert.specs.declared.outcome.Want.TheVariants as wants
 use Rattle.widl_convert.specs.AskTerms.{GetAsk, CallAsk, AnswerTerm, BeginAnswer, DoneAnswer, NormalAnswer, ThrownAnswer, KindAnswer, KeysAnswer, OwnAnswer, CursorAnswer}
 use Rattle.widl_convert.specs.Built.{built_today, is_built_type}
 use Rattle.widl_convert.specs.Defaults.{default, defaults_from, enumeration_among, literal_value, null_of, value_of_text}
-use Rattle.widl_convert.specs.Dictionaries.{member_given, member_value, members, to_dictionary, undefined_member, with_value}
+use Rattle.widl_convert.specs.Dictionaries.{member_given, member_value, members, requires_member, to_dictionary, undefined_member, with_value}
 use Rattle.widl_tables.specs.MemberOrder.{DeclaredMember}
 use Rattle.widl_convert.specs.Nullables.{to_nullable}
 use Rattle.widl_convert.specs.Primitives.{call_method, found_method, found_ordinary, object_to_primitive, ordinary, primitive_result, to_primitive, tried, try_method}
 use Rattle.widl_convert.specs.Records.{entries, entry_value, flags_in, is_enumerable, key_value, named, named_entry, own_entry, to_record, with_entry}
 use Rattle.widl_convert.specs.Resolution.{argument, arguments, default_at, from_method, looked_for, picked, probed, sequence_given, takes_default, with_entries, without_method}
-use Rattle.widl_convert.specs.Results.{out, out_items, out_units, properties}
+use Rattle.widl_convert.specs.Results.{entry_items, member_items, out, out_items, out_units, properties}
 use Rattle.widl_convert.specs.Rules.{rule as task_rule}
 use Rattle.widl_convert.specs.Scalars.{convert, convert_plain, enumeration_result, integer_result, is_bytes, null_or_string, string_result, to_number, to_scalar, to_plain, to_string, to_text, to_type}
 use Rattle.widl_convert.specs.Sequences.{element, element_of, element_within, found_iterator_method, sequence_from, to_sequence, told_done, turn_given, turns, with_next}
@@ -397,6 +398,14 @@ module _ (list : DefsTerm) (objects : List Obj) where
   safe_out_units zero container made l = safe_container container made l
   safe_out_units (suc left) container made l = (tt, λ a la. (l, λ r lr. lr))
 
+  live_entry_items : (entries : EntryTerms) → LiveEntries objects entries → LiveTerms objects (entry_items entries)
+  live_entry_items no_entries l = tt
+  live_entry_items (more_entries name w entries) l = (l.0, live_entry_items entries l.1)
+
+  live_member_items : (members : MemberTerms) → LiveMembers objects members → LiveTerms objects (member_items members)
+  live_member_items no_members l = tt
+  live_member_items (more_members dictionary number w members) l = (l.0, live_member_items members l.1)
+
   safe_out : (t : TypeTerm) (w : IdlTerm) → LiveTerm objects w → Conv (out built_today list t w)
   safe_out t UndefinedValue l = tt
   safe_out t NullValue l = tt
@@ -407,9 +416,9 @@ module _ (list : DefsTerm) (objects : List Obj) where
   safe_out t (EnumerationValue n place) l = tt
   safe_out t (ObjectValue o) l = l
   safe_out t (AnyValue v) l = l
-  safe_out t (SequenceValue items) l = tt
-  safe_out t (RecordValue es) l = tt
-  safe_out t (DictionaryValue n ms) l = tt
+  safe_out t (SequenceValue items) l = ((l, tt), λ r lr. lr)
+  safe_out t (RecordValue es) l = ((live_entry_items es l, tt), λ r lr. lr)
+  safe_out t (DictionaryValue n ms) l = ((live_member_items ms l, tt), λ r lr. lr)
   safe_out t (PromiseValue o) l = tt
 
   -- defaults
@@ -569,7 +578,7 @@ module _ (list : DefsTerm) (steps : StepsOf) (plain : (callee : Callee) (overloa
   safe_default_result (InterfaceType n) = tt
   safe_default_result (CallbackFunctionType n) = tt
   safe_default_result (CallbackInterfaceType n) = tt
-  safe_default_result (DictionaryType n) = tt
+  safe_default_result (DictionaryType n) = safe_if objects LiveC (requires_member list n) (fails code.NoDefault) (Steps (Of (Convert (DictionaryType n) values.Undefined)) End) tt (tt, λ r lr. lr)
   safe_default_result ObjectType = tt
   safe_default_result (SequenceType t) = tt
   safe_default_result (RecordType key t) = tt

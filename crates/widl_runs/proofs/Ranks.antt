@@ -2,10 +2,10 @@
 use Rattle.std.proofs.Common.{ℕ, suc, ◌+◌, ◌-◌, Bool, true, false, length}
 use Rattle.widl_dialog.specs.Calm.{Ranks}
 use Rattle.widl_idl.specs.DefinitionTerms.{DefsTerm}
+use Rattle.widl_overload.specs.Entries.{declared_args}
 use Rattle.widl_value.specs.declared.value.Value.{Value}
 use Rattle.widl_value.specs.declared.value.Value.TheVariants as values
-use Rattle.widl_value.specs.IdlTerms.{IdlTerms, no_values, more_values}
-use Rattle.widl_tables.specs.Kept.{declared_args}
+use Rattle.widl_value.specs.IdlTerms.{IdlTerm, IdlTerms, EntryTerms, MemberTerms, no_values, more_values, no_entries, more_entries, no_members, more_members, SequenceValue, RecordValue, DictionaryValue}
 use Rattle.widl_script_tree.specs.Trees.{ExpressionTree, UndefinedT, NullT, ThisT, NewSymbolT, NewObjectT, BoolT, NumberT, TextT, NameT, SymbolT, ObjectOfT, NewArrayT, MemberT, IndexT, CallT, NewT, CallWithT, ExpressionTrees, none, more, StatementTrees, no_statements, then_more}
 use Rattle.widl_convert.specs.declared.outcome.Want.{Want}
 use Rattle.widl_convert.specs.declared.outcome.Want.TheVariants as wants
@@ -89,9 +89,25 @@ want_low wants.Number = 1
 want_low wants.Text = 1
 want_low wants.Length = 2
 
-abbrev pub count_of_values : IdlTerms → ℕ
-count_of_values no_values = 0
-count_of_values (more_values w left) = suc (count_of_values left)
+-- a value on its way to script, with all that it holds
+abbrev mutual
+  pub value_low : IdlTerm → ℕ
+  value_low (SequenceValue items) = 2 + values_low items
+  value_low (RecordValue entries) = 2 + entries_low entries
+  value_low (DictionaryValue n members) = 2 + members_low members
+  value_low _ = 0
+
+  pub values_low : IdlTerms → ℕ
+  values_low no_values = 0
+  values_low (more_values w left) = suc (value_low w + values_low left)
+
+  pub entries_low : EntryTerms → ℕ
+  entries_low no_entries = 0
+  entries_low (more_entries name w entries) = suc (value_low w + entries_low entries)
+
+  pub members_low : MemberTerms → ℕ
+  members_low no_members = 0
+  members_low (more_members dictionary number w members) = suc (value_low w + members_low members)
 
 abbrev pub task_low : DefsTerm → Task → ℕ
 task_low list (Primitive hint v) = 0
@@ -105,8 +121,8 @@ task_low list (Resolve callee args) = 2 + length args
 task_low list (Arguments callee entries place left made) = 1 + length left
 task_low list (Default t literal) = 4
 task_low list (Defaults callee overload made) = 5 + (length (declared_args list callee overload) - length made)
-task_low list (Out t w) = 0
-task_low list (OutItems container left made) = 1 + count_of_values left
+task_low list (Out t w) = value_low w
+task_low list (OutItems container left made) = 1 + values_low left
 task_low list (OutUnits left container made) = 0
 
 abbrev pub call_high : CallTask → ℕ
@@ -117,7 +133,7 @@ call_high (Lines t named ls) = 0
 abbrev pub call_low : DefsTerm → CallTask → ℕ
 call_low list (Of t) = task_low list t
 call_low list (Function f what this args construct) = 0
-call_low list (Lines t named ls) = 0
+call_low list (Lines t named ls) = 4
 
 -- an object becomes a primitive value by asks that pay, and so does each ask but these three
 abbrev pub is_object : Value → Bool

@@ -6,11 +6,13 @@ use Rattle.std.proofs.lemmas.List.{drop-map, length-append, length-map, length-r
 use Rattle.widl_idl.specs.declared.argument.Arg.{Arg}
 use Rattle.widl_idl.specs.declared.interface.Iface.{Iface}
 use Rattle.widl_idl.specs.DefinitionTerms.{ArgTerm, DefsTerm, SigTerm, arg_term}
+use Rattle.widl_overload.specs.Entries.{cut, entry_for, entry_of, is_variadic_list, optionalities_of, repeated, types_of}
 use Rattle.widl_overload.specs.Index.{apart_at, each_two}
 use Rattle.widl_overload.specs.Sets.{TupleTerm, are_free, declared_opts, is_variadic, with_tuple}
+use Rattle.widl_overload.specs.Standing.{args_in}
 use Rattle.widl_overload.proofs.SameTuples.{opts_are}
-use Rattle.widl_tables.specs.Kept.{choosing_place, counted_args, cut, entries_of, entry_for, entry_of, is_variadic_list, numbers_of, optionalities_of, parents_of, repeated, telling_from, types_of}
-use Rattle.widl_tables.specs.Standing.{args_in, entries_in, has_entry, telling_among}
+use Rattle.widl_tables.specs.Kept.{choosing_place, counted_args, entries_of, numbers_of, parents_of, telling_from}
+use Rattle.widl_tables.specs.ByNumber.{entries_in, has_entry, telling_among}
 
 -- 1. The entry of one overload
 

@@ -16,10 +16,11 @@ use Rattle.widl_idl.specs.declared.operation.OpName.{OpName}
 use Rattle.widl_idl.specs.declared.signature.Sig.{Sig}
 use Rattle.widl_idl.specs.Counts.{IsNumberedList}
 use Rattle.widl_idl.specs.DefinitionTerms.{DefsTerm, IfaceTerm, OpNameTerm, SigTerm, SpaceTerm, defs_term, iface_term, op_name_term, sig_term, space_term}
+use Rattle.widl_overload.specs.Entries.{interface_overloads, namespace_overloads, overloads_of}
 use Rattle.widl_overload.specs.Sets.{AreNumbered, TupleTerm}
 use Rattle.widl_overload.specs.Sets.{interface_overloads as declared_in_interface, namespace_overloads as declared_in_namespace, overloads_of as declared_overloads}
 use Rattle.widl_overload.proofs.Numbered.{overloads_numbered}
-use Rattle.widl_tables.specs.Kept.{choosing_place, interface_overloads, namespace_overloads, overloads_of, parents_of, telling_from, telling_place}
+use Rattle.widl_tables.specs.Kept.{choosing_place, parents_of, telling_from, telling_place}
 
 -- 1. The overloads of a callee, as terms
 

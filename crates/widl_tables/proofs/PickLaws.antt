@@ -3,13 +3,14 @@ use Rattle.std.proofs.Common.{◌≡◌, ◌↔◌, ℕ, suc, ◌<◌, ◌++◌,
 use Rattle.widl_idl.specs.DefinitionTerms.{DefsTerm}
 use Rattle.widl_idl.specs.Flattened.{flattened_members}
 use Rattle.widl_idl.specs.Terms.{TypeTerms}
+use Rattle.widl_overload.specs.Entries.{optionality_at, type_at}
 use Rattle.widl_overload.specs.Sets.{TupleTerm}
 use Rattle.widl_value.specs.declared.class.Class.{Class}
 use Rattle.widl_tables.specs.declared.entry_test.Test.{Test}
 use Rattle.widl_tables.specs.declared.entry_test.Test.TheVariants.{IsOptional, IsNullable, IsImplemented, IsCallback, IsSequence, IsObject, IsBoolean, IsNumeric, TakesText, TakesNumber, TakesTruth, TakesAny}
 use Rattle.widl_tables.specs.declared.pick.Pick.{Pick}
 use Rattle.widl_tables.specs.declared.pick.Pick.TheVariants.{Entry, Probe, Refuse}
-use Rattle.widl_tables.specs.Kept.{numbers_of, optionality_at, type_at}
+use Rattle.widl_tables.specs.Kept.{numbers_of}
 use Rattle.widl_tables.specs.Laws.{IsProbed}
 use Rattle.widl_tables.specs.Picks.{Met, first_entry, first_pick, is_probe, met_by, met_members, pick_member_of, pick_of, picks_by, tests}
 use Rattle.widl_tables.specs.Tests.{is_an_object, is_sequence, meets, some_type}

@@ -1,7 +1,7 @@
 pub mod Kept
 pub mod Tests
 pub mod Picks
-pub mod Standing
+pub mod ByNumber
 pub mod TypeTests
 pub mod Decided
 pub mod ValuePlaces

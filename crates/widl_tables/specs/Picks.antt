@@ -5,12 +5,12 @@ use Rattle.widl_idl.specs.DefinitionTerms.{DefsTerm}
 use Rattle.widl_idl.specs.Flattened.{flattened_members}
 use Rattle.widl_idl.specs.Terms.{TypeTerm, TypeTerms}
 use Rattle.widl_overload.specs.Distinct.{is_dictionary}
+use Rattle.widl_overload.specs.Entries.{type_at, optionality_at}
 use Rattle.widl_overload.specs.Sets.{TupleTerm}
 use Rattle.widl_scalar.specs.Enumerations.{told_place}
 use Rattle.widl_value.specs.declared.class.Class.{Class}
 use Rattle.widl_tables.specs.declared.pick.Pick.{Pick}
 use Rattle.widl_tables.specs.declared.pick.Pick.TheVariants.{Entry, Probe, Refuse}
-use Rattle.widl_tables.specs.Kept.{type_at, optionality_at}
 use Rattle.widl_tables.specs.declared.entry_test.Test.{Test}
 use Rattle.widl_tables.specs.declared.entry_test.Test.TheVariants.{IsOptional, IsNullable, IsImplemented, IsCallback, IsSequence, IsObject, IsBoolean, IsNumeric, TakesText, TakesNumber, TakesTruth, TakesAny}
 use Rattle.widl_tables.specs.Tests.{meets, is_null_or_undefined, is_platform_object, is_callable, is_an_object, is_a_boolean, is_a_number, is_object_type, is_implemented_by, is_callback_function, is_callback_interface, is_sequence, is_record, is_boolean_type, is_numeric, is_string}

@@ -1,6 +1,5 @@
 //! Large lists, whose choices are of one call's cost.
 
-use crate::entry_types::overload_list;
 use crate::test_lists::{
     THE_OPERATION, add_argument, interface, interfaces, list_with, of_kind, overload,
 };
@@ -10,6 +9,7 @@ use std::alloc::{AllocError, Global};
 use std::process::Abort;
 use std::test::Fail;
 use widl_idl::{Args, Choice, Choices, Defs, IdlType, IdlTypes, Ifaces, Optionality, Sigs, Texts};
+use widl_overload::overload_list;
 use widl_text::{Place, Units};
 use widl_value::Class;
 

@@ -3,16 +3,16 @@
 ghost use Rattle.std.specs.Prelude.{◌≡◌, ◌<◌, ◌≤◌, ◌^◌, ◌++◌, drop, length, map, min, IfOk, IfSome, OnOk};
 ghost use Rattle.std.specs.List.{list_any};
 ghost use Rattle.widl_idl.specs.DefinitionTerms.{arg_term, defs_term, sig_term};
+ghost use Rattle.widl_overload.specs.Entries.{entry_of, is_variadic_list, optionalities_of, overloads_of};
 ghost use Rattle.widl_overload.specs.Sets.{are_free};
-ghost use Rattle.widl_tables.specs.Kept.{argcount_of, choosing_place as choosing_place_of, counted_args, entries_for, entries_of, entry_of, is_variadic_list, kept_tuples, longest as longest_of, numbers_of, optionalities_of, overloads_of};
-ghost use Rattle.widl_tables.specs.Standing.{has_entry as has_entry_of};
+ghost use Rattle.widl_tables.specs.Kept.{argcount_of, choosing_place as choosing_place_of, counted_args, entries_for, entries_of, kept_tuples, longest as longest_of, numbers_of};
+ghost use Rattle.widl_tables.specs.ByNumber.{has_entry as has_entry_of};
 
-use crate::entry_types::overload_list;
 use crate::kept_type::Kept;
 use crate::telling::choosing_place;
 use std::alloc::{AllocError, Global};
 use widl_idl::{Arg, Callee, Defs, Optionality, Sig};
-use widl_overload::all_free;
+use widl_overload::{all_free, overload_list};
 use widl_text::Items;
 
 /// The overloads of a callee that `args` arguments keep, with the place that tells them apart: the entries

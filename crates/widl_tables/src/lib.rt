@@ -38,7 +38,6 @@ mod value_places;
 mod value_test;
 
 pub use entry_test::Test;
-pub use entry_types::{Standing, type_at};
 pub use kept_overloads::kept;
 pub use kept_type::Kept;
 pub use level::{Level, parent_of};

@@ -6,22 +6,24 @@ ghost use Rattle.widl_idl.specs.DefinitionTerms.{defs_term, sig_term};
 ghost use Rattle.widl_idl.specs.Flattened.{includes_nullable_type};
 ghost use Rattle.widl_idl.specs.Terms.{type_term};
 ghost use Rattle.widl_overload.specs.Distinct.{has_dictionary as has_dictionary_of};
+ghost use Rattle.widl_overload.specs.Entries.{optionality_at, type_at};
 ghost use Rattle.widl_overload.specs.Sets.{TupleTerm};
 ghost use Rattle.widl_tables.specs.Decided.{decided_by, met_test};
-ghost use Rattle.widl_tables.specs.Kept.{entries_for, optionality_at, type_at};
+ghost use Rattle.widl_tables.specs.Kept.{entries_for};
 ghost use Rattle.widl_tables.specs.Picks.{first_entry as first_entry_of, is_probe as is_probe_of, pick_kept, pick_of};
-ghost use Rattle.widl_tables.specs.Standing.{entries_in};
+ghost use Rattle.widl_tables.specs.ByNumber.{entries_in};
 ghost use Rattle.widl_tables.specs.Tests.{is_optional, meets as meets_of};
 
 use crate::decision::decided;
 use crate::entry_test::Test;
-use crate::entry_types::{Standing, overload_list, standing_at};
+use crate::entry_types::standing_at;
 use crate::kept_type::Kept;
 use crate::pick::Pick;
 use crate::type_test::TypeTest;
 use crate::type_walk::{has_dictionary, some_type};
 use crate::value_test::ValueTest;
 use widl_idl::{Defs, IdlType, Optionality, Sig, includes_nullable};
+use widl_overload::{Standing, overload_list};
 use widl_value::Class;
 
 /// The tests, in their order.

@@ -3,9 +3,11 @@
 ghost use Rattle.std.specs.Prelude.{◌≡◌, map};
 ghost use Rattle.std.specs.List.{list_all};
 ghost use Rattle.widl_idl.specs.DefinitionTerms.{defs_term, sig_term};
+ghost use Rattle.widl_overload.specs.Entries.{entry_for};
 ghost use Rattle.widl_overload.specs.Index.{apart_at, each_two};
-ghost use Rattle.widl_tables.specs.Kept.{entry_for, parents_of, telling_from};
-ghost use Rattle.widl_tables.specs.Standing.{args_in, entries_in, telling_among};
+ghost use Rattle.widl_overload.specs.Standing.{args_in};
+ghost use Rattle.widl_tables.specs.Kept.{parents_of, telling_from};
+ghost use Rattle.widl_tables.specs.ByNumber.{entries_in, telling_among};
 
 use crate::entry_types::standing_at;
 use widl_idl::{Defs, Sig};

@@ -1,6 +1,5 @@
 //! Worked choices: each class against each kind of type, overloads, unions, and hostile lists.
 
-use crate::entry_types::{Standing, overload_list, type_at};
 use crate::overload_pick::{TESTS, meets};
 use crate::test_lists::{
     THE_OPERATION, add_argument, interfaces, list_with, nested_unions, nullable, of_kind, one_of,
@@ -11,6 +10,7 @@ use std::alloc::{AllocError, Global};
 use std::process::Abort;
 use std::test::Fail;
 use widl_idl::{Args, Callee, Defs, IdlType, IdlTypes, Optionality, Owner, Part, Sigs};
+use widl_overload::{Standing, overload_list, type_at};
 use widl_value::Class;
 
 const CLASSES: [Class; 9] = [

@@ -41,9 +41,6 @@ object_is_itself = (10, refl)
 anything_is_itself : Says nothing_defined (Out AnyType (AnyValue (values.Sym 3))) [] (Ends (Plain (values.Sym 3)))
 anything_is_itself = (10, refl)
 
-no_array : Says nothing_defined (Out (SequenceType AnyType) (SequenceValue no_values)) [] (Ends (Profile 99))
-no_array = (10, refl)
-
 no_promise : Says nothing_defined (Out (PromiseType AnyType) (PromiseValue (plain 1))) [] (Ends (Profile 99))
 no_promise = (10, refl)
 

@@ -5,8 +5,8 @@ use Rattle.widl_calls.proofs.InnerConversions.{awaits_kind, under_free}
 use Rattle.widl_calls.proofs.conversions.goes_on.Goals as goal
 
 pub resume-requires : goal.resume-requires
-resume-requires c = awaits_kind c.args.inside.asker.state (answer_term c.args.answer) c.args.inside.waits c.requires
+resume-requires c = awaits_kind c.args.inside.asker.value.state (answer_term c.args.answer) c.args.inside.waits c.requires
 
 pub returns-clause-weight : goal.returns-clause-weight
 returns-clause-weight c =
-    under_free (defs_term c.args.tables.now.defs) c.args.inside.asker c.resume.result (quiet (defs_term c.args.tables.now.defs) c.args.inside.asker) c.resume.ensures.weight
+    under_free (defs_term c.args.tables.now.defs) c.args.inside.asker.value c.resume.result (quiet (defs_term c.args.tables.now.defs) c.args.inside.asker.value) c.resume.ensures.weight

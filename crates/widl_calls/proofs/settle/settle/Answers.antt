@@ -7,7 +7,7 @@ returns-in-Asks c = let known = at_move c.loop-current.invariant c.in-Asks.is in
 
 pub loop-current-smaller-in-Ok : goal.loop-current-smaller-in-Ok
 loop-current-smaller-in-Ok c =
-    give_less (defs_term c.args.tables.now.defs) c.in-Some.frame c.loop-current.current c.in-Ok.next c.loop-current.frames.items c.pop.new.frames.items c.in-Some.ensures.some c.in-Ok.ensures.weight
+    give_less (defs_term c.args.tables.now.defs) c.in-Some.frame c.in-Gives.ending c.loop-current.current c.in-Ok.next c.loop-current.frames.items c.pop.new.frames.items c.in-Gives.is c.in-Some.ensures.some c.in-Ok.ensures.weight
 
 pub loop-current-preserved-in-Ok : goal.loop-current-preserved-in-Ok
 loop-current-preserved-in-Ok c = gave c.in-Some.frame c.loop-current.invariant c.in-Gives.is c.in-Some.ensures.some c.in-Ok.ensures.dialog c.in-Ok.ensures.weight

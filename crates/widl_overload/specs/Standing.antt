@@ -1,14 +1,11 @@
 -- For proofs alone. What stands at a place of an overload's entries, without the entries.
-use Rattle.std.specs.Prelude.{ℕ, ◌-◌, Bool, if◌then◌else◌, nat_lt, List, [], ◌∷◌, length, drop, map, slice_get, Option, None, Some, option_map}
+use Rattle.std.specs.Prelude.{ℕ, ◌-◌, List, [], length, map, slice_get, Option, None, Some, option_map}
 use Rattle.std.specs.Option.{option_map_or}
 use Rattle.widl_idl.specs.declared.argument.Optionality.{Optionality}
 use Rattle.widl_idl.specs.declared.argument.Optionality.TheVariants.{Variadic}
-use Rattle.widl_idl.specs.declared.interface.Iface.{Iface}
 use Rattle.widl_idl.specs.DefinitionTerms.{ArgTerm, SigTerm}
 use Rattle.widl_idl.specs.Terms.{TypeTerm, type_term}
-use Rattle.widl_overload.specs.Sets.{TupleTerm, are_free}
-use Rattle.widl_tables.specs.declared.entry_types.Standing.{Standing}
-use Rattle.widl_tables.specs.Kept.{entry_for, is_variadic_list, optionalities_of, telling_from}
+use Rattle.widl_overload.specs.declared.standing.Standing.{Standing}
 
 pub record StandingTerm : Type 0 where
   pub ty : TypeTerm
@@ -35,17 +32,3 @@ standing_among args place = standing_or (slice_get args place) args
 -- the arguments of one of these overloads
 abbrev pub args_in : List SigTerm → ℕ → List ArgTerm
 args_in sigs e = option_map_or (λ (s : SigTerm). s.args) (slice_get sigs e) []
-
--- the entries of the overloads with these numbers, of those that are listed, for a length
-abbrev pub entries_in : List SigTerm → ℕ → List ℕ → List TupleTerm
-entries_in sigs m numbers = map (λ (e : ℕ). entry_for e (args_in sigs e) m) numbers
-
--- the place by which a value chooses among entries of a length
-abbrev pub telling_among : List Iface → ℕ → List TupleTerm → Option ℕ
-telling_among ifaces m [] = None
-telling_among ifaces m (t ∷ []) = None
-telling_among ifaces m (t ∷ u ∷ more) = Some (telling_from ifaces (t ∷ u ∷ more) 0 m)
-
--- whether an overload with these arguments has an entry of a length
-abbrev pub has_entry : List ArgTerm → ℕ → Bool
-has_entry args m = if nat_lt (length args) m then is_variadic_list args else are_free (optionalities_of (drop m args))
