@@ -11,17 +11,23 @@ use std::test::Fail;
 use widl_sink::{MemorySink, Numbers, SureSink};
 
 mod arrays;
+mod budgets;
+mod chains;
+mod classes;
 mod containers;
 mod dictionaries;
 mod faults;
 mod first_stores;
 mod fragments;
+mod hostile_containers;
 mod hostile_runs;
 mod inheritance;
 mod limits;
 mod merging;
 mod overloads;
 mod profile;
+mod reentrance;
+mod results;
 mod runs;
 mod scalars;
 mod scripts;
@@ -30,6 +36,7 @@ mod sizes;
 mod suspended;
 mod unions;
 mod validity;
+mod wide;
 
 const FRAGMENT: &str = "namespace N { undefined f(octet a); };";
 

@@ -189,13 +189,20 @@ fn a_turn_reads_the_length_first(rt: HostRuntime) -> Result<(), Fail> {
 }
 
 /// Getters of elements and lengths that call `next` again, delete and add elements, and throw.
-const GETTERS: [Row; 6] = [
+const GETTERS: [Row; 7] = [
     (
         EMPTY,
         "function g()\nreturn i.next()\nend\nlet a = array(1)\ndefine a[\"0\"] get g\nlet i = a.values()\ndo i.next()\n",
         "100000",
         Status::Uncaught,
         "call #12 this #20 ()\nret #21\ncall #13 this #21 ()\nget #20 \"length\"\nget #20 \"0\"\ncall #19 this #20 ()\ncall #13 this #21 ()\nerror #22 running\nthr #22\nthr #22\nthr #22\nuncaught #22\n",
+    ),
+    (
+        EMPTY,
+        "function g()\nreturn i.next()\nend\nlet a = array(1)\ndefine a[\"0\"] get g\nlet i = a.values()\ntry\ndo i.next()\ncatch e\nend\nlet r = i.next()\nshow r.value\nshow r.done\n",
+        "100000",
+        Status::Done,
+        "call #12 this #20 ()\nret #21\ncall #13 this #21 ()\nget #20 \"length\"\nget #20 \"0\"\ncall #19 this #20 ()\ncall #13 this #21 ()\nerror #22 running\nthr #22\nthr #22\nthr #22\ncall #13 this #21 ()\nret #23\nshow undefined\nshow true\ndone\n",
     ),
     (
         EMPTY,

@@ -14,7 +14,7 @@ pub const RECORD: &str = "namespace N { undefined f(record<DOMString, long> r); 
 pub const CHOICE: &str =
     "namespace N { undefined f(DOMString s); undefined f(sequence<long> q); };";
 
-const RECORDS: [Row; 6] = [
+const RECORDS: [Row; 7] = [
     (
         RECORD,
         "let o = object()\ndefine o.b = 1\ndefine o[\"10\"] = 2\ndefine o[\"2\"] = 3\ndefine hidden o.h = 4\ndefine o[symbol()] = 5\ndo N.f(o)\n",
@@ -28,13 +28,6 @@ const RECORDS: [Row; 6] = [
         "100000",
         Status::Done,
         "call #19 this #18 (#20)\nkeys #20\nown #20 \"\\ud800\"\nget #20 \"\\ud800\"\nown #20 \"\\udc00\"\nget #20 \"\\udc00\"\nop N.f#0 ({\"\\ufffd\": 2})\nret undefined\ndone\n",
-    ),
-    (
-        RECORD,
-        "function g()\ndelete this.b\nreturn 1\nend\nlet o = object()\ndefine o.a get g\ndefine o.b = 2\ndefine o.c = 3\ndo N.f(o)\n",
-        "100000",
-        Status::Done,
-        "call #19 this #18 (#21)\nkeys #21\nown #21 \"a\"\nget #21 \"a\"\ncall #20 this #21 ()\nret 1\nown #21 \"b\"\nown #21 \"c\"\nget #21 \"c\"\nop N.f#0 ({\"a\": 1, \"c\": 3})\nret undefined\ndone\n",
     ),
     (
         RECORD,
@@ -56,6 +49,20 @@ const RECORDS: [Row; 6] = [
         "100000",
         Status::Done,
         "call #19 this #18 (#20)\nkeys #20\nown #20 \"v\"\nget #20 \"v\"\nown #20 \"k1\"\nget #20 \"k1\"\ncall #21 this #20 ()\nret 1\nown #20 \"k2\"\nown #20 \"k3\"\nown #20 \"k4\"\nget #20 \"k4\"\nop N.f#0 ({\"v\": 1, \"k1\": 1, \"k4\": 1})\nret undefined\ndone\n",
+    ),
+    (
+        RECORD,
+        "function g()\nthrow \"g\"\nend\nlet o = object()\ndefine o.a get g\ndefine o.b = 1\ndo N.f(o)\n",
+        "100000",
+        Status::Uncaught,
+        "call #19 this #18 (#21)\nkeys #21\nown #21 \"a\"\nget #21 \"a\"\ncall #20 this #21 ()\nthr \"g\"\nthr \"g\"\nuncaught \"g\"\n",
+    ),
+    (
+        RECORD,
+        "let o = object()\ndefine o.a = @iterator\ndefine o.b = 1\ndo N.f(o)\n",
+        "100000",
+        Status::Uncaught,
+        "call #19 this #18 (#20)\nkeys #20\nown #20 \"a\"\nget #20 \"a\"\nerror #21 symbol\nthr #21\nuncaught #21\n",
     ),
 ];
 
@@ -114,7 +121,7 @@ fn sequences_take_the_turns_of_an_iterator(rt: HostRuntime) -> Result<(), Fail> 
     expect_runs(&rt, rt.alloc(), &SEQUENCES)
 }
 
-const SEQUENCE_ERRORS: [Row; 7] = [
+const SEQUENCE_ERRORS: [Row; 14] = [
     (
         SEQUENCE,
         "do N.f(1)\n",
@@ -163,6 +170,55 @@ const SEQUENCE_ERRORS: [Row; 7] = [
         "100000",
         Status::Uncaught,
         "call #19 this #18 (#21)\nget #21 @iterator\ncall #20 this #21 ()\nthr \"m\"\nthr \"m\"\nuncaught \"m\"\n",
+    ),
+    (
+        SEQUENCE,
+        "let o = object()\ndefine o[@iterator] = 1\ndo N.f(o)\n",
+        "100000",
+        Status::Uncaught,
+        "call #19 this #18 (#20)\nget #20 @iterator\nerror #21 not-callable\nthr #21\nuncaught #21\n",
+    ),
+    (
+        SEQUENCE,
+        "let o = object()\ndefine o[@iterator] = null\ndo N.f(o)\n",
+        "100000",
+        Status::Uncaught,
+        "call #19 this #18 (#20)\nget #20 @iterator\nerror #21 not-iterable\nthr #21\nuncaught #21\n",
+    ),
+    (
+        SEQUENCE,
+        "function g()\nthrow \"g\"\nend\nlet o = object()\ndefine o[@iterator] get g\ndo N.f(o)\n",
+        "100000",
+        Status::Uncaught,
+        "call #19 this #18 (#21)\nget #21 @iterator\ncall #20 this #21 ()\nthr \"g\"\nthr \"g\"\nuncaught \"g\"\n",
+    ),
+    (
+        SEQUENCE,
+        "function m()\nreturn this\nend\nlet o = object()\ndefine o[@iterator] = m\ndefine o.next = 1\ndo N.f(o)\n",
+        "100000",
+        Status::Uncaught,
+        "call #19 this #18 (#21)\nget #21 @iterator\ncall #20 this #21 ()\nret #21\nget #21 \"next\"\nerror #22 not-callable\nthr #22\nuncaught #22\n",
+    ),
+    (
+        SEQUENCE,
+        "function m()\nreturn this\nend\nfunction g()\nthrow \"g\"\nend\nlet o = object()\ndefine o[@iterator] = m\ndefine o.next get g\ndo N.f(o)\n",
+        "100000",
+        Status::Uncaught,
+        "call #19 this #18 (#22)\nget #22 @iterator\ncall #20 this #22 ()\nret #22\nget #22 \"next\"\ncall #21 this #22 ()\nthr \"g\"\nthr \"g\"\nuncaught \"g\"\n",
+    ),
+    (
+        SEQUENCE,
+        "function m()\nreturn this\nend\nfunction g()\nthrow \"g\"\nend\nlet o = object()\ndefine o[@iterator] = m\ndefine o.next = m\ndefine o.done get g\ndo N.f(o)\n",
+        "100000",
+        Status::Uncaught,
+        "call #19 this #18 (#22)\nget #22 @iterator\ncall #20 this #22 ()\nret #22\nget #22 \"next\"\ncall #20 this #22 ()\nret #22\nget #22 \"done\"\ncall #21 this #22 ()\nthr \"g\"\nthr \"g\"\nuncaught \"g\"\n",
+    ),
+    (
+        SEQUENCE,
+        "function m()\nreturn this\nend\nfunction g()\nthrow \"g\"\nend\nlet o = object()\ndefine o[@iterator] = m\ndefine o.next = m\ndefine o.value get g\ndo N.f(o)\n",
+        "100000",
+        Status::Uncaught,
+        "call #19 this #18 (#22)\nget #22 @iterator\ncall #20 this #22 ()\nret #22\nget #22 \"next\"\ncall #20 this #22 ()\nret #22\nget #22 \"done\"\nget #22 \"value\"\ncall #21 this #22 ()\nthr \"g\"\nthr \"g\"\nuncaught \"g\"\n",
     ),
 ];
 

@@ -1,43 +1,22 @@
-//! Dictionaries and nullable types. The traces of the first rows were worked by hand.
+//! Dictionaries and nullable types. The traces and the ends were worked by hand.
 
 use super::hostile_runs::{MOST, expect_end, expect_ends};
-use super::runs::{Row, expect_runs, many};
+use super::runs::{Row, expect_runs};
 use super::sizes::Parts;
-use super::{add, expect_run, words_of};
+use super::{add, words_of};
 use crate::{Files, MemoryFolder, Status, widl};
 use std::alloc::Global;
 use std::test::Fail;
 use widl_sink::{MemorySink, Numbers};
 
-/// Its two members are declared against their order.
-const INHERITING: &str =
-    "dictionary B { long b = 1; }; dictionary D : B { long c = 9; long a; }; namespace N { undefined f(optional D d = {}); };";
-
-/// A getter that takes away a member that comes later, and changes the last one.
-const CHANGING: &str =
-    "function g()\ndelete this.a\ndefine this.c = 5\nreturn 2\nend\nlet o = object()\ndefine o.a = 1\ndefine o.c = 3\ndefine o.b get g\ndo N.f(o)\n";
-
-const CHANGED: &str =
-    "call #19 this #18 (#21)\nget #21 \"b\"\ncall #20 this #21 ()\nret 2\nget #21 \"a\"\nget #21 \"c\"\nop N.f#0 (D{b: 2, c: 5})\nret undefined\ndone\n";
-
 const DEFAULTED: &str =
     "dictionary D { long a = 1; long b; }; namespace N { undefined f(optional D d = {}); };";
-
-/// A getter that calls the operation again with the object of which it reads.
-const TWICE: &str =
-    "dictionary D { long a; long b; }; namespace N { undefined f(optional D d = {}); };";
-
-const READS_AGAIN: &str =
-    "function g()\ndefine this.a = 7\ndo N.f(this)\nreturn 1\nend\nlet o = object()\ndefine o.a get g\ndefine o.b = 2\ndo N.f(o)\n";
-
-const READ_AGAIN: &str =
-    "call #19 this #18 (#21)\nget #21 \"a\"\ncall #20 this #21 ()\ncall #19 this #18 (#21)\nget #21 \"a\"\nget #21 \"b\"\nop N.f#0 (D{a: 7, b: 2})\nret undefined\nret 1\nget #21 \"b\"\nop N.f#0 (D{a: 1, b: 2})\nret undefined\ndone\n";
 
 /// Dictionaries as defaults, in which others are defaults, with those of the other kinds that have no text.
 const NESTED: &str =
     "dictionary A { long x; long? y = null; any z = null; sequence<long> w = []; }; dictionary B { A a = {}; A b; DOMString s = \"q\"; }; namespace N { undefined f(optional B d = {}); };";
 
-const ORDERS: [Row; 7] = [
+const ORDERS: [Row; 5] = [
     (
         "dictionary D { required long x; }; namespace N { undefined f(long a, DOMString b); undefined f(long a, D b); };",
         "function v()\nreturn 3\nend\nlet o = object()\nset o.valueOf = v\ndo N.f(o, null)\n",
@@ -45,8 +24,6 @@ const ORDERS: [Row; 7] = [
         Status::Uncaught,
         "call #19 this #18 (#21, null)\nget #21 @toPrimitive\nget #21 \"valueOf\"\ncall #20 this #21 ()\nret 3\nerror #22 required\nthr #22\nuncaught #22\n",
     ),
-    (INHERITING, CHANGING, "100", Status::Done, CHANGED),
-    (TWICE, READS_AGAIN, "100", Status::Done, READ_AGAIN),
     (
         "dictionary D { required long x; }; namespace N { undefined f(sequence<long> q); undefined f(D d); };",
         "do N.f(1)\n",
@@ -119,7 +96,7 @@ fn a_member_of_nothing_takes_a_unit(rt: HostRuntime) -> Result<(), Fail> {
     expect_runs(&rt, rt.alloc(), &DEFAULTS)
 }
 
-const NULLABLES: [Row; 4] = [
+const NULLABLES: [Row; 5] = [
     (
         "namespace N { undefined f(long? a); };",
         "do N.f(null)\ndo N.f(undefined)\ndo N.f(\"7\")\n",
@@ -140,6 +117,13 @@ const NULLABLES: [Row; 4] = [
         "100",
         Status::Uncaught,
         "call #19 this #18 (null)\nop N.f#0 (null)\nret undefined\ncall #19 this #18 (undefined)\nop N.f#0 (null)\nret undefined\ncall #19 this #18 (7)\nerror #20 not-object\nthr #20\nuncaught #20\n",
+    ),
+    (
+        "namespace N { undefined f(sequence<long>? a); };",
+        "do N.f(array(7))\n",
+        "100",
+        Status::Done,
+        "call #19 this #18 (#20)\nget #20 @iterator\ncall #12 this #20 ()\nret #21\nget #21 \"next\"\ncall #13 this #21 ()\nget #20 \"length\"\nget #20 \"0\"\nret #22\nget #22 \"done\"\nget #22 \"value\"\ncall #13 this #21 ()\nget #20 \"length\"\nret #23\nget #23 \"done\"\nop N.f#0 ([7])\nret undefined\ndone\n",
     ),
     (
         "namespace N { long? f(); };",
@@ -181,50 +165,6 @@ fn members_of_three_files_are_one_order(rt: HostRuntime) -> Result<(), Fail> {
     assert_eq!(rt; widl(alloc, &words, &mut folder, &mut out), Status::Done);
     assert_eq!(rt; out.held(), text.as_bytes());
     Ok(())
-}
-
-/// A chain of 256 dictionaries, each with the one before as its only member.
-fn chain(alloc: Global) -> Result<String, Fail> {
-    let mut text = String::from_str(alloc, "dictionary D0 { long v; };")?;
-    for before in 0..255u32 {
-        let number = before.saturating_add(1);
-        let dictionary = format!(in alloc; "dictionary D{number} {{ D{before} v; }};")?;
-        text.push_str(dictionary.as_str())?;
-    }
-    text.push_str("namespace N { undefined f(optional D255 d = {}); };")?;
-    Ok(text)
-}
-
-/// What the conversion of an object that holds itself prints, with its value.
-fn chain_trace(alloc: Global) -> Result<String, Fail> {
-    let mut text = many(alloc, 1, "call #19 this #18 (#20)\n", "")?;
-    text.push_str(many(alloc, 256, "get #20 \"v\"\n", "")?.as_str())?;
-    text.push_str(
-        "get #20 @toPrimitive\nget #20 \"valueOf\"\ncall #9 this #20 ()\nret #20\nget #20 \"toString\"\ncall #8 this #20 ()\nget #20 @toStringTag\nret \"[object Object]\"\nop N.f#0 (",
-    )?;
-    for number in (0..256).rev() {
-        let opened = format!(in alloc; "D{number}{{v: ")?;
-        text.push_str(opened.as_str())?;
-    }
-    text.push_str("0")?;
-    text.push_str(many(alloc, 256, "}", ")\nret undefined\ndone\n")?.as_str())?;
-    Ok(text)
-}
-
-#[test]
-fn an_object_that_holds_itself_is_converted(rt: HostRuntime) -> Result<(), Fail> {
-    let alloc = rt.alloc();
-    let fragment = chain(alloc)?;
-    let trace = chain_trace(alloc)?;
-    expect_run(
-        &rt,
-        alloc,
-        "10000",
-        fragment.as_str(),
-        "let o = object()\nset o.v = o\ndo N.f(o)\n",
-        Status::Done,
-        trace.as_str(),
-    )
 }
 
 /// A line of dictionaries, each of which inherits from the one before, with as many members.
@@ -308,17 +248,4 @@ fn many_members_and_such_that_go_are_converted(rt: HostRuntime) -> Result<(), Fa
         "ret 1\nget #21 \"a1\"\nget #21 \"a2\"\nget #21 \"a3\"\nget #21 \"a4\"\nget #21 \"a5\"\nget #21 \"a6\"\nget #21 \"a7\"\nget #21 \"a8\"\nget #21 \"a9\"\nop N.f#0 (D{a0: 1, a1: 1, a2: 2, a3: 3, a4: 4, a5: 5, a6: 6, a7: 7, a8: 8, a9: 9})\nret undefined\ndone\n",
     )];
     expect_ends(&rt, alloc, DELETED, &rows)
-}
-
-/// The value of the innermost member calls the operation again.
-const CALLS_AGAIN: &str =
-    "let o = object()\nset o.v = o\nfunction t()\ndo N.f(o)\nend\ndefine o.valueOf = t\ndo N.f(o)\n";
-
-#[test]
-fn a_chain_waits_in_fifty_calls(rt: HostRuntime) -> Result<(), Fail> {
-    let alloc = rt.alloc();
-    let fragment = Vec::from_slice(alloc, chain(alloc)?.as_bytes())?;
-    let script = Vec::from_slice(alloc, CALLS_AGAIN.as_bytes())?;
-    let end = "get #20 \"valueOf\"\ncall #21 this #20 ()\nstop depth\n";
-    expect_end(&rt, alloc, fragment, script, MOST, Status::Stopped, end)
 }

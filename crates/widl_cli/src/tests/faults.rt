@@ -2,6 +2,11 @@
 
 ghost use Rattle.std.specs.Prelude.{◌<◌};
 
+use super::containers::{RECORD, SEQUENCE};
+use super::reentrance::{
+    DICTIONARY, MEMBER_CALLED_AGAIN, MEMBER_CALLS_AGAIN, STEP_DELETED, STEP_DELETES,
+    VALUE_CALLED_AGAIN, VALUE_CALLS_AGAIN,
+};
 use super::runs::{ANY, GIVEN_BACK, GIVES_BACK};
 use super::scalars::LONG;
 use super::suspended::{CALLED_AGAIN, CALLS_AGAIN};
@@ -19,8 +24,9 @@ struct Run {
     text: &'static str,
 }
 
-/// A run that converts a number, one that gives an object back, and one whose conversion waits while it is asked for again.
-const RUNS: [Run; 3] = [
+/// A run that converts a number, one that gives an object back, and one whose conversion waits while it is asked for again; and
+/// such with a sequence, a dictionary and a record that change while they are read.
+const RUNS: [Run; 6] = [
     Run {
         fragment: FRAGMENT,
         script: "do N.f(300)\n",
@@ -35,6 +41,21 @@ const RUNS: [Run; 3] = [
         fragment: LONG,
         script: CALLS_AGAIN,
         text: CALLED_AGAIN,
+    },
+    Run {
+        fragment: SEQUENCE,
+        script: STEP_DELETES,
+        text: STEP_DELETED,
+    },
+    Run {
+        fragment: DICTIONARY,
+        script: MEMBER_CALLS_AGAIN,
+        text: MEMBER_CALLED_AGAIN,
+    },
+    Run {
+        fragment: RECORD,
+        script: VALUE_CALLS_AGAIN,
+        text: VALUE_CALLED_AGAIN,
     },
 ];
 

@@ -247,7 +247,7 @@ const SECOND: &[u8] = b"0123456789ABCDEFGHIJKLMNOPQRSTUVWXYZbcdfghijklmopqstuvwx
 const THIRD: &[u8] = b"0123456789ABCDEFGHIJKLMNOPQRSTUVWXYZabcdefghijklmnopqrstuvwxyz";
 
 /// Adds the name of this number, of three bytes: the first is one of 26 letters from the given one on.
-fn push_name(script: &mut Vec<u8>, first: u8, number: usize) -> Result<(), AllocError>
+pub fn push_name(script: &mut Vec<u8>, first: u8, number: usize) -> Result<(), AllocError>
     requires letter { first ≤ 97 }
     requires number { number < 70000 }
 {
@@ -298,7 +298,7 @@ const CALLS_FROM_PROPERTY: Parts = &[(
     1,
 )];
 
-/// Properties that a record passes over, each by a look that takes no unit.
+/// Properties that a record passes over, each for the unit of its look.
 const HIDDEN: Parts = &[
     ("let o = object()\n", 1),
     ("define hidden o[symbol()] = 1\n", 5_000),

@@ -1,5 +1,6 @@
 //! What runs of scripts by the engine print.
 
+use super::budgets::expect_each_budget;
 use super::{FRAGMENT, add, expect_run, words_of};
 use crate::{Files, MemoryFolder, Status, widl};
 use std::alloc::Global;
@@ -26,8 +27,6 @@ const DEEP: &str = "function g()\nreturn o.x\nend\nlet o = object()\ndefine o.x 
 const CHANGING_GETTER: &str =
     "function g()\ndefine this.n = 1\nthrow \"x\"\nend\nlet o = object()\ndefine o.a get g\ntry\ndo o.a\ncatch e\nshow e\nshow o.n\nend\n";
 
-const CHANGED: &str = "call #18 this #19 ()\nthr \"x\"\nshow \"x\"\nshow 1\n";
-
 /// A run: its fragment, its script, its budget, its status and what it prints.
 pub type Row = (
     &'static str,
@@ -37,10 +36,13 @@ pub type Row = (
     &'static str,
 );
 
-/// Runs scripts, and compares how each ends and what it prints.
+/// Runs scripts, and compares how each ends and what it prints; those that run also with each lesser budget.
 pub fn expect_runs(rt: &impl Abort, alloc: Global, rows: &[Row]) -> Result<(), Fail> {
     for (fragment, script, budget, status, text) in rows {
         expect_run(rt, alloc, budget, fragment, script, *status, text)?;
+        if matches!(*status, Status::Done | Status::Uncaught | Status::Stopped) {
+            expect_each_budget(rt, alloc, fragment, script, text)?;
+        }
     }
     Ok(())
 }
@@ -278,26 +280,6 @@ fn blocks_and_calls_have_their_limits(rt: HostRuntime) -> Result<(), Fail> {
     )?;
     let calls = many(alloc, 100, "call #18 this #19 ()\n", "stop depth\n")?;
     expect_run(&rt, alloc, "100000", "", DEEP, Status::Stopped, &calls)
-}
-
-/// With each lesser budget the run of the changing getter stops after a prefix of its lines.
-#[test]
-fn lesser_budgets_stop_after_a_prefix(rt: HostRuntime) -> Result<(), Fail> {
-    let alloc = rt.alloc();
-    for budget in 1..16u32 {
-        let budget = format!(in alloc; "{budget}")?;
-        let mut folder = MemoryFolder::new(
-            super::files_of(alloc, CHANGING_GETTER, "")?,
-            Numbers::new(alloc),
-        );
-        let mut out = MemorySink::new(alloc, 1_000, 1_000, Numbers::new(alloc))?;
-        let words = super::run_words(alloc, &budget)?;
-        assert_eq!(rt; widl(alloc, &words, &mut folder, &mut out), Status::Stopped);
-        let text = std::str::from_utf8(out.held())?;
-        let lines = text.strip_suffix("stop budget\n").unwrap_or("!");
-        assert!(rt; CHANGED.starts_with(lines));
-    }
-    Ok(())
 }
 
 /// A run over two fragments.

@@ -57,7 +57,7 @@ fn expect_each(
 }
 
 #[test]
-fn runs_are_supported_over_operations_of_namespaces(rt: HostRuntime) -> Result<(), Fail> {
+fn runs_are_supported_over_operations(rt: HostRuntime) -> Result<(), Fail> {
     let files = [
         "",
         "enum E { \"a\" };",
@@ -71,9 +71,10 @@ fn runs_are_supported_over_operations_of_namespaces(rt: HostRuntime) -> Result<(
         "namespace N { undefined f(long a); undefined f(long a, sequence<long> b); };",
         "typedef sequence<any> T; namespace N { undefined f(record<USVString, T> a, T... b); };",
         "namespace N { boolean f(); }; partial namespace N { unsigned short g(); };",
-        "dictionary D { }; dictionary E : D { sequence<D> a = []; long? b; };",
+        "dictionary D { long? a; }; dictionary E : D { sequence<D> b = []; }; namespace N { E f(optional D a = {}); };",
+        "namespace N { octet? g(octet a); sequence<long>? h(optional sequence<long>? b = null); };",
+        "namespace N { record<DOMString, long> f((long or DOMString) a); sequence<(long or object?)> g(); };",
         "typedef DOMString? T; namespace N { T f(optional any a, T... b); };",
-        "dictionary D { }; namespace N { undefined f(optional D a = {}, optional sequence<D>? b = null); };",
         "namespace N { (long or DOMString)? f((long or (boolean? or sequence<(long or DOMString)>)) a); };",
         "dictionary D { (long or DOMString) a; }; namespace N { undefined f(sequence<record<DOMString, (long or D)>> a); };",
     ];
@@ -83,13 +84,10 @@ fn runs_are_supported_over_operations_of_namespaces(rt: HostRuntime) -> Result<(
 #[test]
 fn runs_are_not_supported_over_other_sets(rt: HostRuntime) -> Result<(), Fail> {
     let files = [
-        "namespace N { record<DOMString, long> f(); };",
-        "namespace N { (long or sequence<long>) f(); };",
         "namespace N { Promise<undefined> f(); };",
+        "namespace N { sequence<Promise<any>> f(); };",
         "namespace N { readonly attribute any a; };",
         "namespace N { const long c = 1; };",
-        "dictionary D { }; namespace N { D f(); };",
-        "namespace N { sequence<long>? f(); };",
         "interface I { };",
         "callback C = undefined ();",
         "callback interface C { undefined f(); };",

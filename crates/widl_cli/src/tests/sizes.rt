@@ -22,7 +22,7 @@ pub fn bytes_of(alloc: Global, parts: Parts) -> Result<Vec<u8>, AllocError> {
     Ok(bytes)
 }
 
-fn add_numbered(
+pub fn add_numbered(
     alloc: Global,
     bytes: &mut Vec<u8>,
     text: &str,

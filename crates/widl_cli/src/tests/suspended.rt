@@ -1,9 +1,11 @@
 //! Conversions that wait while a script runs: deep ones, such that are called again, and their errors. The traces were worked
 //! by hand.
 
+use super::containers::{CHOICE, RECORD, SEQUENCE};
 use super::expect_run;
 use super::runs::{Row, expect_runs, many};
 use super::scalars::{ENFORCED, LONG};
+use super::unions::NUMBERS_OR_DICTIONARY;
 use crate::Status;
 use std::test::Fail;
 
@@ -105,7 +107,7 @@ fn getters_change_what_is_converted(rt: HostRuntime) -> Result<(), Fail> {
 }
 
 /// Runs that end where a hundred calls are open: their fragment, their script, and what they print how many times before.
-const DEEP: [(&str, &str, &str, usize); 3] = [
+const DEEP: [(&str, &str, &str, usize); 8] = [
     (
         LONG,
         "function v()\nreturn N.f(this)\nend\nlet o = object()\nset o.valueOf = v\ndo N.f(o)\n",
@@ -124,9 +126,39 @@ const DEEP: [(&str, &str, &str, usize); 3] = [
         "call #8 this #18 ()\nget #18 @toStringTag\n",
         100,
     ),
+    (
+        SEQUENCE,
+        "function g()\nreturn N.f(this)\nend\nlet o = object()\ndefine o[@iterator] get g\ndo N.f(o)\n",
+        "call #19 this #18 (#21)\nget #21 @iterator\ncall #20 this #21 ()\n",
+        50,
+    ),
+    (
+        SEQUENCE,
+        "function m()\nreturn this\nend\nfunction n()\nreturn N.f(this)\nend\nlet o = object()\ndefine o[@iterator] = m\ndefine o.next = n\ndo N.f(o)\n",
+        "call #19 this #18 (#22)\nget #22 @iterator\ncall #20 this #22 ()\nret #22\nget #22 \"next\"\ncall #21 this #22 ()\n",
+        50,
+    ),
+    (
+        CHOICE,
+        "function m()\nreturn N.f(this)\nend\nlet o = object()\ndefine o[@iterator] = m\ndo N.f(o)\n",
+        "call #19 this #18 (#21)\nget #21 @iterator\ncall #20 this #21 ()\n",
+        50,
+    ),
+    (
+        RECORD,
+        "function g()\nreturn N.f(this)\nend\nlet o = object()\ndefine o.a get g\ndo N.f(o)\n",
+        "call #19 this #18 (#21)\nkeys #21\nown #21 \"a\"\nget #21 \"a\"\ncall #20 this #21 ()\n",
+        50,
+    ),
+    (
+        NUMBERS_OR_DICTIONARY,
+        "function g()\nreturn N.f(this)\nend\nlet o = object()\ndefine o.x get g\ndo N.f(o)\n",
+        "call #19 this #18 (#21)\nget #21 @iterator\nget #21 \"x\"\ncall #20 this #21 ()\n",
+        50,
+    ),
 ];
 
-/// Of a hundred open calls every second one waits in a conversion, and in the last run each in its own steps.
+/// Of a hundred open calls every second one waits in a conversion, and in one run each in its own steps.
 #[test]
 fn conversions_wait_as_deep_as_calls_can_be(rt: HostRuntime) -> Result<(), Fail> {
     let alloc = rt.alloc();
