@@ -18,7 +18,7 @@ use Rattle.widl_tables.specs.declared.pick.Pick.{Pick}
 use Rattle.widl_tables.specs.declared.pick.Pick.TheVariants.{Entry, Probe, Refuse}
 use Rattle.widl_tables.specs.Kept.{argcount_of, entries_for, entries_of, entry_alone, kept_tuples, longest, numbers_of, telling_place, choosing_place}
 use Rattle.widl_tables.specs.Picks.{pick_kept, pick_of}
-use Rattle.widl_tables.specs.ByNumber.{has_entry}
+use Rattle.widl_tables.specs.EntriesByNumber.{has_entry}
 use Rattle.widl_tables.proofs.Entries.{number_of_entry, numbers_more}
 use Rattle.widl_tables.proofs.FewOverloads.{place_or_0}
 use Rattle.widl_tables.proofs.PickLaws.{entry_is_kept, probe_is_kept}

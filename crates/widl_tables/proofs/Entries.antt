@@ -12,7 +12,7 @@ use Rattle.widl_overload.specs.Sets.{TupleTerm, are_free, declared_opts, is_vari
 use Rattle.widl_overload.specs.Standing.{args_in}
 use Rattle.widl_overload.proofs.SameTuples.{opts_are}
 use Rattle.widl_tables.specs.Kept.{choosing_place, counted_args, entries_of, numbers_of, parents_of, telling_from}
-use Rattle.widl_tables.specs.ByNumber.{entries_in, has_entry, telling_among}
+use Rattle.widl_tables.specs.EntriesByNumber.{entries_in, has_entry, telling_among}
 
 -- 1. The entry of one overload
 

@@ -1,7 +1,7 @@
 pub mod Kept
 pub mod Tests
 pub mod Picks
-pub mod ByNumber
+pub mod EntriesByNumber
 pub mod TypeTests
 pub mod Decided
 pub mod ValuePlaces

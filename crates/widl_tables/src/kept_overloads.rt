@@ -6,7 +6,7 @@ ghost use Rattle.widl_idl.specs.DefinitionTerms.{arg_term, defs_term, sig_term};
 ghost use Rattle.widl_overload.specs.Entries.{entry_of, is_variadic_list, optionalities_of, overloads_of};
 ghost use Rattle.widl_overload.specs.Sets.{are_free};
 ghost use Rattle.widl_tables.specs.Kept.{argcount_of, choosing_place as choosing_place_of, counted_args, entries_for, entries_of, kept_tuples, longest as longest_of, numbers_of};
-ghost use Rattle.widl_tables.specs.ByNumber.{has_entry as has_entry_of};
+ghost use Rattle.widl_tables.specs.EntriesByNumber.{has_entry as has_entry_of};
 
 use crate::kept_type::Kept;
 use crate::telling::choosing_place;

@@ -11,7 +11,7 @@ ghost use Rattle.widl_overload.specs.Sets.{TupleTerm};
 ghost use Rattle.widl_tables.specs.Decided.{decided_by, met_test};
 ghost use Rattle.widl_tables.specs.Kept.{entries_for};
 ghost use Rattle.widl_tables.specs.Picks.{first_entry as first_entry_of, is_probe as is_probe_of, pick_kept, pick_of};
-ghost use Rattle.widl_tables.specs.ByNumber.{entries_in};
+ghost use Rattle.widl_tables.specs.EntriesByNumber.{entries_in};
 ghost use Rattle.widl_tables.specs.Tests.{is_optional, meets as meets_of};
 
 use crate::decision::decided;

@@ -7,7 +7,7 @@ ghost use Rattle.widl_overload.specs.Entries.{entry_for};
 ghost use Rattle.widl_overload.specs.Index.{apart_at, each_two};
 ghost use Rattle.widl_overload.specs.Standing.{args_in};
 ghost use Rattle.widl_tables.specs.Kept.{parents_of, telling_from};
-ghost use Rattle.widl_tables.specs.ByNumber.{entries_in, telling_among};
+ghost use Rattle.widl_tables.specs.EntriesByNumber.{entries_in, telling_among};
 
 use crate::entry_types::standing_at;
 use widl_idl::{Defs, Sig};

@@ -2,7 +2,7 @@ use Rattle.std.proofs.Common.{◌≡◌, rules, map, None, sym, ap, ◌∙◌, a
 use Rattle.widl_idl.specs.DefinitionTerms.{defs_term, sig_term}
 use Rattle.widl_tables.specs.Decided.{met_test}
 use Rattle.widl_tables.specs.Picks.{pick_of, tests}
-use Rattle.widl_tables.specs.ByNumber.{entries_in}
+use Rattle.widl_tables.specs.EntriesByNumber.{entries_in}
 use Rattle.widl_tables.proofs.Picking.{settled, undecided}
 use Rattle.widl_tables.proofs.overload_pick.by_tests.Goals as goal
 

@@ -3,7 +3,7 @@ use Rattle.widl_idl.specs.DefinitionTerms.{defs_term, sig_term}
 use Rattle.widl_tables.specs.Decided.{met_test}
 use Rattle.widl_tables.specs.Kept.{entries_for}
 use Rattle.widl_tables.specs.Picks.{first_pick, pick_of}
-use Rattle.widl_tables.specs.ByNumber.{entries_in}
+use Rattle.widl_tables.specs.EntriesByNumber.{entries_in}
 use Rattle.widl_tables.proofs.overload_pick.by_tests.Given as goal
 
 abbrev pub invariant-loop-test : goal.invariant-loop-test

@@ -1,7 +1,7 @@
 use Rattle.std.proofs.Common.{◌≡◌, drop, map}
 use Rattle.widl_idl.specs.DefinitionTerms.{defs_term, sig_term}
 use Rattle.widl_tables.specs.Picks.{first_entry}
-use Rattle.widl_tables.specs.ByNumber.{entries_in}
+use Rattle.widl_tables.specs.EntriesByNumber.{entries_in}
 use Rattle.widl_tables.proofs.overload_pick.first_entry.Given as goal
 
 abbrev pub invariant-loop-overload : goal.invariant-loop-overload

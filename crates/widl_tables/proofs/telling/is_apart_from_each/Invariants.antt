@@ -5,7 +5,7 @@ use Rattle.widl_overload.specs.Entries.{entry_for}
 use Rattle.widl_overload.specs.Index.{apart_at}
 use Rattle.widl_overload.specs.Standing.{args_in}
 use Rattle.widl_tables.specs.Kept.{parents_of}
-use Rattle.widl_tables.specs.ByNumber.{entries_in}
+use Rattle.widl_tables.specs.EntriesByNumber.{entries_in}
 use Rattle.widl_tables.proofs.telling.is_apart_from_each.Given as goal
 
 abbrev pub invariant-loop-other : goal.invariant-loop-other

@@ -1,7 +1,7 @@
 use Rattle.std.proofs.Common.{map, ◌∙◌, sym, arith}
 use Rattle.widl_idl.specs.DefinitionTerms.{defs_term, sig_term}
 use Rattle.widl_tables.specs.Kept.{parents_of}
-use Rattle.widl_tables.specs.ByNumber.{entries_in}
+use Rattle.widl_tables.specs.EntriesByNumber.{entries_in}
 use Rattle.widl_tables.proofs.Entries.{telling_more}
 use Rattle.widl_tables.proofs.telling.telling_place.Goals as goal
 
