@@ -2,7 +2,7 @@
 
 use super::containers::{RECORD, SEQUENCE};
 use super::hostile_runs::{MOST, expect_end, expect_ends};
-use super::sizes::{Parts, add_numbered, bytes_of};
+use super::sizes::{Parts, add_numbered, add_overload, bytes_of};
 use crate::Status;
 use std::alloc::{AllocError, Global};
 use std::test::Fail;
@@ -198,13 +198,7 @@ fn container_overloads(alloc: Global) -> Result<Vec<u8>, AllocError> {
             &WITH_DICTIONARY
         };
         for first in types {
-            fragment.extend_from_slice(b"undefined f(")?;
-            fragment.extend_from_slice(first.as_bytes())?;
-            fragment.extend_from_slice(b" a")?;
-            for number in 0..more {
-                add_numbered(alloc, &mut fragment, ", any a#", number)?;
-            }
-            fragment.extend_from_slice(b");\n")?;
+            add_overload(alloc, &mut fragment, first, more)?;
         }
     }
     fragment.extend_from_slice(b"};")?;

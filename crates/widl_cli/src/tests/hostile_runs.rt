@@ -4,7 +4,7 @@ ghost use Rattle.std.specs.Prelude.{◌<◌, ◌≤◌};
 
 use super::containers::{CHOICE, RECORD};
 use super::runs::ANY;
-use super::sizes::{Parts, bytes_of};
+use super::sizes::{Parts, add_overload, bytes_of};
 use super::words_of;
 use crate::{Files, MemoryFolder, NamedFile, Status, widl};
 use std::alloc::{AllocError, Global};
@@ -160,11 +160,7 @@ fn many_arguments_and_values_are_converted(rt: HostRuntime) -> Result<(), Fail> 
 fn many_overloads(alloc: Global) -> Result<Vec<u8>, AllocError> {
     let mut fragment = Vec::from_slice(alloc, b"namespace N {\n")?;
     for more in 0..64usize {
-        fragment.extend_from_slice(b"undefined f(any a")?;
-        for number in 0..more {
-            fragment.extend_from_slice(format!(in alloc; ", any a{number}")?.as_bytes())?;
-        }
-        fragment.extend_from_slice(b");\n")?;
+        add_overload(alloc, &mut fragment, "any", more)?;
     }
     fragment.extend_from_slice(b"};")?;
     Ok(fragment)

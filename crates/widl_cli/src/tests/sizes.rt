@@ -22,6 +22,7 @@ pub fn bytes_of(alloc: Global, parts: Parts) -> Result<Vec<u8>, AllocError> {
     Ok(bytes)
 }
 
+/// Appends a text, with the number in place of each `#`.
 pub fn add_numbered(
     alloc: Global,
     bytes: &mut Vec<u8>,
@@ -37,6 +38,22 @@ pub fn add_numbered(
         }
     }
     Ok(())
+}
+
+/// Appends an overload of `f` with a first argument of this type and so many more of any.
+pub fn add_overload(
+    alloc: Global,
+    bytes: &mut Vec<u8>,
+    first: &str,
+    more: usize,
+) -> Result<(), AllocError> {
+    bytes.extend_from_slice(b"undefined f(")?;
+    bytes.extend_from_slice(first.as_bytes())?;
+    bytes.extend_from_slice(b" a")?;
+    for number in 0..more {
+        add_numbered(alloc, bytes, ", any a#", number)?;
+    }
+    bytes.extend_from_slice(b");\n")
 }
 
 /// Checks a fragment, and compares the status and the bytes.
