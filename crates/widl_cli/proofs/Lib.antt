@@ -5,7 +5,6 @@ mod Endings
 mod Fetches
 mod Names
 mod OneOutput
-mod OneText
 mod PlainSteps
 mod ReadScripts
 mod ScriptRuns

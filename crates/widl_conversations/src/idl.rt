@@ -1,13 +1,13 @@
 //! Tables of the definitions that rows need.
 
-ghost use Rattle.std.specs.Prelude.{◌≡◌, ◌≤◌, ◌∷◌, [], length, IfOk};
+ghost use Rattle.std.specs.Prelude.{◌≤◌, length};
 ghost use Rattle.widl_text.specs.Limits.{most_file_bytes};
 
 use crate::fault::Fault;
 use crate::repeats::expanded;
 use crate::task::{Task, many_of, with_steps};
 use std::alloc::{AllocError, Global};
-use widl_front::{Texts, Verdict, judge};
+use widl_front::{Verdict, judge_one};
 use widl_idl::{Callee, IdlType, Owner, Part};
 use widl_overload::{Accepted, type_at};
 use widl_tables::{Tables, compile};
@@ -19,22 +19,11 @@ pub const OPERATION: Callee = Callee {
     part: Part::Op(0),
 };
 
-/// One text alone.
-fn alone(alloc: Global, bytes: &[u8]) -> Result<Texts, AllocError>
-    ensures { IfOk result (λ texts. texts ≡ bytes.now ∷ []) }
-{
-    let mut texts = Texts::new(alloc);
-    texts.push(Vec::from_slice(alloc, bytes)?)?;
-    Ok(texts)
-}
-
 /// The set of one file, which is accepted.
-#[tactic(auto, using(crate::proofs::OneText::alone_short))]
 fn accepted(alloc: Global, file: &[u8]) -> Result<Accepted, Fault>
     requires { length file.now ≤ most_file_bytes }
 {
-    let texts = alone(alloc, file)?;
-    match judge(alloc, &texts)? {
+    match judge_one(alloc, file)? {
         Verdict::Accepted(list) => Ok(list),
         Verdict::Fault(_) | Verdict::Broken(_) => Err(Fault::Line("the definitions are refused")),
     }

@@ -1,5 +1,6 @@
 mod Found
 mod OneFinding
+mod OneText
 mod OneVerdict
 mod TokenCounts
 mod Trees

@@ -9,11 +9,13 @@ mod checking;
 mod finding;
 pub mod laws;
 mod lines;
+mod one_text;
 mod texts;
 mod verdict;
 
 pub use checking::judge;
 pub use finding::Finding;
 pub use lines::{line_of_finding, line_of_refusal};
+pub use one_text::judge_one;
 pub use texts::Texts;
 pub use verdict::Verdict;

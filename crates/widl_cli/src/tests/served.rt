@@ -1,32 +1,21 @@
 //! Over which accepted sets a script can be run today.
 
-ghost use Rattle.std.specs.Prelude.{◌≡◌, ◌∷◌, [], ◌≤◌, IfOk, length};
+ghost use Rattle.std.specs.Prelude.{◌≤◌, length};
 ghost use Rattle.widl_text.specs.Limits.{most_file_bytes};
 
 use std::alloc::{AllocError, Global};
 use std::process::Abort;
 use std::test::Fail;
 use widl_convert::is_served;
-use widl_front::{Texts, Verdict, judge};
+use widl_front::{Verdict, judge_one};
 use widl_overload::Accepted;
 use widl_text::limits::MOST_FILE_BYTES;
 
-/// One text alone.
-fn alone(alloc: Global, bytes: &[u8]) -> Result<Texts, AllocError>
-    ensures { IfOk result (λ texts. texts ≡ bytes.now ∷ []) }
-{
-    let mut texts = Texts::new(alloc);
-    texts.push(Vec::from_slice(alloc, bytes)?)?;
-    Ok(texts)
-}
-
 /// The set of one file, if it is accepted.
-#[tactic(auto, using(crate::proofs::OneText::alone_short))]
 pub fn accepted(alloc: Global, file: &[u8]) -> Result<Option<Accepted>, AllocError>
     requires { length file.now ≤ most_file_bytes }
 {
-    let texts = alone(alloc, file)?;
-    match judge(alloc, &texts)? {
+    match judge_one(alloc, file)? {
         Verdict::Accepted(list) => Ok(Some(list)),
         Verdict::Fault(_) | Verdict::Broken(_) => Ok(None),
     }
