@@ -39,7 +39,7 @@ next_argument (a ∷ args) (suc m) (suc k) v x below is =
     let on : suc k + 1 ≡ suc (k + 1) = omega arith in
     next_argument args m k v x (omega arith) is ∙ ap (λ n. v ∷ drop n (take (suc m) (a ∷ set args k x))) (sym on)
 
-none_left : {X : Type 0} (args : List X) (m k : ℕ) → min (length args) m ≤ k → drop k (take m args) ≡ []
+pub none_left : {X : Type 0} (args : List X) (m k : ℕ) → min (length args) m ≤ k → drop k (take m args) ≡ []
 none_left args m k past = drop_all k (take m args) (omega (arith, length-take m args, past))
 
 -- 2. The numbers of overloads
@@ -285,35 +285,35 @@ last_of list kept (Some e) (t ∷ []) made several is =
 last_of list kept (Some e) (t ∷ u ∷ more) made several is = absurd (cc)
 
 -- no argument is left
-pub last_is : (list : DefsTerm) (kept : Kept) (overload : Option ℕ) (args : List Value) (made : List IdlTerm) → IsOpen kept overload → min (length args) kept.argcount ≤ length made
-    → arguments built_today list kept.callee (entries_left list kept overload) (place_in kept) (left_from (length made) kept args) made ≡ after_arguments kept.callee overload made
-last_is list kept overload args made several past =
+pub last_is : (list : DefsTerm) (kept : Kept) (overload : Option ℕ) (left : List Value) (made : List IdlTerm) → IsOpen kept overload → left ≡ []
+    → arguments built_today list kept.callee (entries_left list kept overload) (place_in kept) left made ≡ after_arguments kept.callee overload made
+last_is list kept overload left made several none_left =
     let long : length (entries_for list kept.callee kept.argcount kept.overloads) ≡ length kept.overloads = length-map kept.overloads (λ (e : ℕ). entry_for e (declared_args list kept.callee e) kept.argcount) in
     let many : overload ≡ None → 2 ≤ length (entries_left list kept overload) = λ none. subst (λ (o : Option ℕ). 2 ≤ length (entries_left list kept o)) (sym none) (omega (arith, long, (several none).several)) in
-    ap (λ (left : List Value). arguments built_today list kept.callee (entries_left list kept overload) (place_in kept) left made) (none_left args kept.argcount (length made) past)
+    ap (λ (l : List Value). arguments built_today list kept.callee (entries_left list kept overload) (place_in kept) l made) none_left
     ∙ last_of list kept overload (entries_left list kept overload) made many refl
 
-left_is : (kept : Kept) (args rest : List Value) (k : ℕ) (v x : Value) → k < min (length args) kept.argcount → slice_get args k ≡ Some v → rest ≡ set args k x → left_from k kept args ≡ v ∷ left_from (k + 1) kept rest
+-- the next argument is taken
+pub left_is : (kept : Kept) (args rest : List Value) (k : ℕ) (v x : Value) → k < min (length args) kept.argcount → slice_get args k ≡ Some v → rest ≡ set args k x → left_from k kept args ≡ v ∷ left_from (k + 1) kept rest
 left_is kept args rest k v x below is taken = next_argument args kept.argcount k v x (omega (arith, below)) is ∙ ap (λ (l : List Value). v ∷ left_from (k + 1) kept l) (sym taken)
 
--- the next argument, where an overload is left alone
-pub next_alone : (list : DefsTerm) (kept : Kept) (overload : Option ℕ) (e : ℕ) (args rest : List Value) (v x : Value) (made : List IdlTerm) → overload ≡ Some e → length made < min (length args) kept.argcount → slice_get args (length made) ≡ Some v → rest ≡ set args (length made) x
-    → arguments built_today list kept.callee (entries_left list kept overload) (place_in kept) (left_from (length made) kept args) made
-    ≡ Steps (argument_task list kept.callee (entry_in list kept e) (length made) v) (argument_given kept.callee (entries_left list kept overload) (place_in kept) (left_from (length made + 1) kept rest) made)
-next_alone list kept overload e args rest v x made some below is taken =
-    subst (λ (o : Option ℕ). ◌≡◌ {A = Talk} (arguments built_today list kept.callee (entries_left list kept o) (place_in kept) (left_from (length made) kept args) made) (Steps (argument_task list kept.callee (entry_in list kept e) (length made) v) (argument_given kept.callee (entries_left list kept o) (place_in kept) (left_from (length made + 1) kept rest) made)))
-    (sym some) (ap (λ (left : List Value). arguments built_today list kept.callee (entry_in list kept e ∷ []) (place_in kept) left made) (left_is kept args rest (length made) v x below is taken))
+-- an argument that was taken, where an overload is left alone
+pub next_alone : (list : DefsTerm) (kept : Kept) (overload : Option ℕ) (e : ℕ) (v : Value) (left : List Value) (made : List IdlTerm) → overload ≡ Some e
+    → arguments built_today list kept.callee (entries_left list kept overload) (place_in kept) (v ∷ left) made
+    ≡ Steps (argument_task list kept.callee (entry_in list kept e) (length made) v) (argument_given kept.callee (entries_left list kept overload) (place_in kept) left made)
+next_alone list kept overload e v left made some =
+    subst (λ (o : Option ℕ). ◌≡◌ {A = Talk} (arguments built_today list kept.callee (entries_left list kept o) (place_in kept) (v ∷ left) made) (Steps (argument_task list kept.callee (entry_in list kept e) (length made) v) (argument_given kept.callee (entries_left list kept o) (place_in kept) left made)))
+    (sym some) refl
 
 several_next : (list : DefsTerm) (callee : Callee) (entries : List TupleTerm) (place : ℕ) (v : Value) (left : List Value) (made : List IdlTerm) → 2 ≤ length entries → arguments built_today list callee entries place (v ∷ left) made ≡ several_by built_today list callee entries place v left made
 several_next list callee [] place v left made several = absurd (omega arith)
 several_next list callee (t ∷ []) place v left made several = absurd (omega arith)
 several_next list callee (t ∷ u ∷ more) place v left made several = refl
 
--- the next argument, where several entries are left
-pub next_several : (list : DefsTerm) (kept : Kept) (overload : Option ℕ) (args rest : List Value) (v x : Value) (made : List IdlTerm) → overload ≡ None → AreSeveral kept → length made < min (length args) kept.argcount → slice_get args (length made) ≡ Some v → rest ≡ set args (length made) x
-    → arguments built_today list kept.callee (entries_left list kept overload) (place_in kept) (left_from (length made) kept args) made ≡ several_by built_today list kept.callee (entries_left list kept overload) (place_in kept) v (left_from (length made + 1) kept rest) made
-next_several list kept overload args rest v x made none several below is taken =
+-- an argument that was taken, where several entries are left
+pub next_several : (list : DefsTerm) (kept : Kept) (overload : Option ℕ) (v : Value) (left : List Value) (made : List IdlTerm) → overload ≡ None → AreSeveral kept
+    → arguments built_today list kept.callee (entries_left list kept overload) (place_in kept) (v ∷ left) made ≡ several_by built_today list kept.callee (entries_left list kept overload) (place_in kept) v left made
+next_several list kept overload v left made none several =
     let long : length (entries_for list kept.callee kept.argcount kept.overloads) ≡ length kept.overloads = length-map kept.overloads (λ (e : ℕ). entry_for e (declared_args list kept.callee e) kept.argcount) in
     let many : 2 ≤ length (entries_left list kept overload) = subst (λ (o : Option ℕ). 2 ≤ length (entries_left list kept o)) (sym none) (omega (arith, long, several.several)) in
-    ap (λ (left : List Value). arguments built_today list kept.callee (entries_left list kept overload) (place_in kept) left made) (left_is kept args rest (length made) v x below is taken)
-    ∙ several_next list kept.callee (entries_left list kept overload) (place_in kept) v (left_from (length made + 1) kept rest) made many
+    several_next list kept.callee (entries_left list kept overload) (place_in kept) v left made many

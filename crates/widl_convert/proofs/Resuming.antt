@@ -1,11 +1,11 @@
 -- What a suspended conversation answers is what comes next.
 use Rattle.std.proofs.Common.{◌≡◌, ◌+◌, ◌<◌, ◌≤◌, List, [], Option, Some, None, sym, ap, subst, ◌∙◌, arith}
 use Rattle.widl_dialog.specs.Conversation.{Next, Asks, Ends}
-use Rattle.widl_dialog.specs.Dialog.{Say, bind}
+use Rattle.widl_dialog.specs.Dialog.{End, Say, bind}
 use Rattle.widl_dialog.specs.Position.{At}
 use Rattle.widl_dialog.specs.Stack.{stack_load, under, longer}
 use Rattle.widl_dialog.proofs.Bind.{bind_end}
-use Rattle.widl_dialog.proofs.Positions.{here, at_then, next_ask, next_end}
+use Rattle.widl_dialog.proofs.Positions.{here, at_bind, at_then, next_ask, next_end}
 use Rattle.widl_dialog.proofs.Stacking as stacking
 use Rattle.widl_idl.specs.DefinitionTerms.{DefsTerm}
 use Rattle.widl_convert.specs.declared.asker.Asker.{Asker}
@@ -30,21 +30,27 @@ use Rattle.widl_convert.specs.Waits.{kind_for}
 -- 1. By what was left
 
 -- what was left leads on by the first move
-goes_on : (list : DefsTerm) (old : Asker) (a : AnswerTerm) (m : Move) {state : State} {e : Talk} → state ≡ old.state → move_dialog list m ≡ left list state a → Leads list (moves_on list m old.frames) e → Leads list (rest list old a) e
-goes_on list old a m same is leads =
-    let path : rest list old a ≡ moves_on list m old.frames = ap (λ (d : Talk). bind d (under (returned_to list) old.frames)) (ap (λ (s : State). left list s a) (sym same) ∙ sym is) in
-    at_then (rule built_today list) Fits (here (rule built_today list) Fits path) leads
+goes_on : (list : DefsTerm) (old : Asker) (a : AnswerTerm) (m : Move) {state : State} {e : Talk} → state ≡ old.state → Leads list (left list state a) (move_dialog list m) → Leads list (moves_on list m old.frames) e → Leads list (rest list old a) e
+goes_on list old a m {state = state} {e = e} same first leads =
+    let back = under (returned_to list) old.frames in
+    let began : Leads list (rest list old a) (moves_on list m old.frames) =
+    subst (λ (s : State). Leads list (bind (left list s a) back) (moves_on list m old.frames)) same (at_bind (rule built_today list) Fits back first) in
+    at_then (rule built_today list) Fits began leads
 
 -- it waits for the answer to an ask
-pub resumed : (list : DefsTerm) (old new : Asker) (a : AnswerTerm) (m : Move) (p : Asking) (fs : List Frame) (n : NextAnswer) {state : State} → state ≡ old.state → move_dialog list m ≡ left list state a → Leads list (moves_on list m old.frames) (bind (Say (ask_term p.ask) (after list p.wait)) (under (returned_to list) fs)) → kind_of (ask_term p.ask) ≡ kind_for p.wait → new.state ≡ Waits p.wait → new.frames ≡ fs → n ≡ next.Ask p.ask → Resumes list (rest list old a) new n
-resumed list old new a m p fs n same is leads fits is_state is_frames is_next =
+pub resumed : (list : DefsTerm) (old new : Asker) (a : AnswerTerm) (m : Move) (p : Asking) (fs : List Frame) (n : NextAnswer) {state : State} → state ≡ old.state → Leads list (left list state a) (move_dialog list m) → Leads list (moves_on list m old.frames) (bind (Say (ask_term p.ask) (after list p.wait)) (under (returned_to list) fs)) → kind_of (ask_term p.ask) ≡ kind_for p.wait → new.state ≡ Waits p.wait → new.frames ≡ fs → n ≡ next.Ask p.ask → Resumes list (rest list old a) new n
+resumed list old new a m p fs n same first leads fits is_state is_frames is_next =
     let path : Say (ask_term p.ask) (λ b. bind (after list p.wait b) (under (returned_to list) fs)) ≡ Say (ask_term p.ask) (rest list new) =
     ap (λ (s : State). Say (ask_term p.ask) (λ b. bind (left list s b) (under (returned_to list) fs))) (sym is_state)
     ∙ ap (λ (l : List Frame). Say (ask_term p.ask) (λ b. bind (left list new.state b) (under (returned_to list) l))) (sym is_frames) in
     subst (Resumes list (rest list old a) new) (sym is_next) (
       ap waiting is_state ∙ ap (λ (k : AskKind). let o : Option AskKind = Some k in o) (sym fits),
-      at_then (rule built_today list) Fits (goes_on list old a m same is leads) (here (rule built_today list) Fits path),
+      at_then (rule built_today list) Fits (goes_on list old a m same first leads) (here (rule built_today list) Fits path),
     )
+
+-- it has ended
+pub ended : (list : DefsTerm) (old new : Asker) (a : AnswerTerm) (m : Move) (r : Ending) (n : NextAnswer) {state : State} → state ≡ old.state → Leads list (left list state a) (move_dialog list m) → Leads list (moves_on list m old.frames) (End (end_of r)) → next_said n ≡ Some (Ends (end_of r)) → Resumes list (rest list old a) new n
+ended list old new a m r n same first leads is = subst (IsReached list (rest list old a) new) (sym is) (goes_on list old a m same first leads)
 
 -- it asks, and less is left than before
 pub calm_at_ask : (list : DefsTerm) (old new : Asker) (m : Move) (p : Asking) (fs : List Frame) (n : NextAnswer) {state : State} → state ≡ old.state → (IsQuietState state → weight list m < pause list state) → stack_load (frame_load list) fs + patience p.wait ≤ stack_load (frame_load list) old.frames + weight list m → new.state ≡ Waits p.wait → new.frames ≡ fs → n ≡ next.Ask p.ask → IsCalmer list old new n

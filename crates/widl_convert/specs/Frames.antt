@@ -119,14 +119,14 @@ job_of list (jobs.Scalar want v) = Scalar want v
 job_of list (jobs.Convert t v) = Convert (type_term t) v
 job_of list (jobs.Argument at count v) = Convert (type_at (entry_for at.overload (declared_args list at.callee at.overload) count) at.place) v
 job_of list (jobs.SequenceFrom s) = SequenceFrom (type_term s.element) s.obj s.method
-job_of list (jobs.Turns i) = iteration_task i (idl_terms i.made)
+job_of list (jobs.Turns i) = iteration_task i.value (idl_terms i.value.made)
 job_of list (jobs.Entries p) = properties_task p.value (entries_in p.value.made)
 job_of list (jobs.Resolve call) = Resolve call.callee call.args
-job_of list (jobs.Arguments r) = resolution_task list r (length (idl_terms r.made)) (idl_terms r.made)
+job_of list (jobs.Arguments r) = resolution_task list r.value (length (idl_terms r.value.made)) (idl_terms r.value.made)
 job_of list (jobs.Default at) = Default (declared_type list at.callee at.overload at.place) (default_at list at.callee at.overload at.place)
 job_of list (jobs.Defaults b) = Defaults b.callee b.overload (idl_terms b.made)
 job_of list (jobs.Dictionary n o) = Members n o (members_in_order list n) []
-job_of list (jobs.Members f) = Members f.dictionary f.object (members_left list f.left) (member_terms f.made)
+job_of list (jobs.Members f) = Members f.value.dictionary f.value.object (members_left list f.value.left) (member_terms f.value.made)
 job_of list (jobs.Member at v) = Convert (member_at list at).ty v
 job_of list (jobs.MemberDefault at) = Default (member_at list at).ty (member_at list at).value
 job_of list (jobs.Out t w) = Out (type_term t) (idl_term w)
@@ -166,16 +166,16 @@ abbrev pub sequence_to : SequenceWait → Value → Talk
 sequence_to (sequences.Method t o) = found_iterator_method (type_term t) o
 sequence_to (sequences.Iterator t) = with_iterator (type_term t)
 sequence_to (sequences.Next t iterator) = with_next (type_term t) iterator
-sequence_to (sequences.Turn i) = turn_given (type_term i.element) i.iterator i.next (idl_terms i.made)
-sequence_to (sequences.Done i turn) = told_done (type_term i.element) i.iterator i.next (idl_terms i.made) turn
-sequence_to (sequences.Element i) = element (type_term i.element) i.iterator i.next (idl_terms i.made)
+sequence_to (sequences.Turn i) = turn_given (type_term i.value.element) i.value.iterator i.value.next (idl_terms i.value.made)
+sequence_to (sequences.Done i turn) = told_done (type_term i.value.element) i.value.iterator i.value.next (idl_terms i.value.made) turn
+sequence_to (sequences.Element i) = element (type_term i.value.element) i.value.iterator i.value.next (idl_terms i.value.made)
 
 abbrev pub property_to : NamedProperty → Value → Talk
 property_to p = entry_value p.left.value.of.kind (type_term p.left.value.of.ty) p.left.value.of.obj (keys_left p.left.value) (entries_in p.left.value.made) p.name
 
 -- the member is taken
 abbrev pub member_to : DefsTerm → MemberWait → Value → Talk
-member_to list w = member_value w.filling.dictionary w.filling.object (declared_at list w.at) (members_left list w.filling.left) (member_terms w.filling.made)
+member_to list w = member_value w.filling.value.dictionary w.filling.value.object (declared_at list w.at) (members_left list w.filling.value.left) (member_terms w.filling.value.made)
 
 -- the sequence of a union, by the method; or the member that takes an object without one
 abbrev pub union_to : DefsTerm → UnionProbe → Value → Talk
@@ -185,11 +185,11 @@ union_to list p =
 
 abbrev pub value_to : DefsTerm → ValueWait → Value → Talk
 value_to list (value_waits.Primitive w) = primitive_to w
-value_to list (value_waits.Probe p) = probe_to list p.resolution p.obj
+value_to list (value_waits.Probe p) = probe_to list p.resolution.value p.obj
 value_to list (value_waits.Sequence w) = sequence_to w
 value_to list (value_waits.Property p) = property_to p
 value_to list (value_waits.Member w) = member_to list w
-value_to list (value_waits.UnionProbe p) = union_to list p
+value_to list (value_waits.UnionProbe p) = union_to list p.value
 value_to list value_waits.NewArray = returns
 value_to list value_waits.NewObject = returns
 
@@ -223,11 +223,11 @@ text_to list (texts.String kind) units = string_result kind units
 text_to list (texts.Enumeration n) units = enumeration_result n (value_place list.choices n units)
 
 abbrev pub idl_to : DefsTerm → IdlFrame → IdlTerm → Talk
-idl_to list (idls.Argument r) w = Steps (resolution_task list r (length (idl_terms r.made) + 1) (idl_terms r.made ++ w ∷ [])) End
+idl_to list (idls.Argument r) w = Steps (resolution_task list r.value (length (idl_terms r.value.made) + 1) (idl_terms r.value.made ++ w ∷ [])) End
 idl_to list (idls.Defaulted b) w = Steps (Defaults b.callee b.overload (idl_terms b.made ++ w ∷ [])) End
-idl_to list (idls.Element i) w = Steps (iteration_task i (idl_terms i.made ++ w ∷ [])) End
+idl_to list (idls.Element i) w = Steps (iteration_task i.value (idl_terms i.value.made ++ w ∷ [])) End
 idl_to list (idls.Property p) w = Steps (properties_task p.left.value (with_entry p.name w (entries_in p.left.value.made))) End
-idl_to list (idls.Member m) w = Steps (Members m.filling.dictionary m.filling.object (members_left list m.filling.left) (with_value (declared_at list m.at) w (member_terms m.filling.made))) End
+idl_to list (idls.Member m) w = Steps (Members m.filling.value.dictionary m.filling.value.object (members_left list m.filling.value.left) (with_value (declared_at list m.at) w (member_terms m.filling.value.made))) End
 
 abbrev pub named_to : Property → TaskEnd → Talk
 named_to p = named_entry p.left.value.of.kind (type_term p.left.value.of.ty) p.left.value.of.obj p.key (keys_left p.left.value) (entries_in p.left.value.made)

@@ -159,11 +159,11 @@ abbrev pub taken_load : DefsTerm → Resolution → ℕ
 taken_load list r = argument_load + arguments_load list r.kept.callee (length (left_from (length (idl_terms r.made) + 1) r.kept r.args))
 
 abbrev pub idl_frame_load : DefsTerm → IdlFrame → ℕ
-idl_frame_load list (idls.Argument r) = 2 + arguments_load list r.kept.callee (length (left_from (length (idl_terms r.made) + 1) r.kept r.args))
+idl_frame_load list (idls.Argument r) = 2 + arguments_load list r.value.kept.callee (length (left_from (length (idl_terms r.value.made) + 1) r.value.kept r.value.args))
 idl_frame_load list (idls.Defaulted b) = 2 + defaults_load list b.callee b.overload (length (idl_terms b.made) + 1)
 idl_frame_load list (idls.Element i) = 2
 idl_frame_load list (idls.Property p) = 2 + item_load + entry_load * length (keys_left p.left.value) + made_entries_load (entries_in p.left.value.made)
-idl_frame_load list (idls.Member w) = 2 + item_load + made_members_load (member_terms w.filling.made)
+idl_frame_load list (idls.Member w) = 2 + item_load + made_members_load (member_terms w.filling.value.made)
 
 abbrev pub value_frame_load : ValueFrame → ℕ
 value_frame_load (plains.Scalar want) = 4

@@ -12,7 +12,7 @@ ghost use Rattle.widl_convert.specs.Frames.{end_of, job_of, move_dialog};
 ghost use Rattle.widl_convert.specs.Laws.{Said};
 ghost use Rattle.widl_convert.specs.Loads.{load, weight};
 ghost use Rattle.widl_convert.specs.Rules.{rule};
-ghost use Rattle.widl_convert.specs.Stack.{Awaits, EndsUnlessAsks, Expects, IsCalmer, IsQuiet, IsQuietState, Resumes, Stands, Tells, left, next_said, pause, quiet, rest};
+ghost use Rattle.widl_convert.specs.Stack.{Awaits, EndsUnlessAsks, Expects, IsCalmer, IsQuiet, IsQuietState, Leads, Resumes, Stands, Tells, left, next_said, pause, quiet, rest};
 ghost use Rattle.widl_convert.specs.Tasks.{Convert, Out, Resolve, Scalar, Task};
 
 use crate::answer::Answer;
@@ -190,6 +190,7 @@ fn start(alloc: Global, job: Job) -> Asker
 /// # Errors
 ///
 /// `AllocError` where there is no memory.
+#[tactic(auto, using(crate::proofs::Suspending::led_all))]
 fn first_move(
     alloc: Global,
     tables: &Tables,
@@ -197,7 +198,7 @@ fn first_move(
     answer: Answer,
 ) -> Result<Move, AllocError>
     requires { Awaits state (answer_term answer) }
-    ensures dialog { IfOk result (λ m. move_dialog (defs_term tables.now.defs) m ≡ left (defs_term tables.now.defs) state (answer_term answer)) }
+    ensures leads { IfOk result (λ m. Leads (defs_term tables.now.defs) (left (defs_term tables.now.defs) state (answer_term answer)) (move_dialog (defs_term tables.now.defs) m)) }
     ensures weight { IfOk result (λ m. IsQuietState state → weight (defs_term tables.now.defs) m < pause (defs_term tables.now.defs) state) }
 {
     match state {

@@ -12,6 +12,7 @@ ghost use Rattle.widl_convert.specs.Built.{built_today};
 ghost use Rattle.widl_convert.specs.Frames.{move_dialog, number_to, text_to};
 ghost use Rattle.widl_convert.specs.Loads.{conversion_load, scalar_conversion_load, type_load, value_load, weight};
 ghost use Rattle.widl_convert.specs.Scalars.{convert, convert_plain, enumeration_result, integer_result, null_or_string, string_result};
+ghost use Rattle.widl_convert.specs.Stack.{Leads};
 ghost use Rattle.widl_convert.specs.Tasks.{Scalar};
 ghost use Rattle.widl_convert.specs.Words.{fails, gives, not_built, number, object, text};
 
@@ -136,12 +137,78 @@ pub(crate) fn convert_plain(alloc: Global, ty: &IdlType, value: Value) -> Result
     }
 }
 
+/// The first move of a value's conversion to an IDL value of a type. A Number becomes a value of an integer type at once,
+/// and a String one of a string type.
+///
+/// # Errors
+///
+/// `AllocError` where there is no memory.
+pub(crate) fn convert_at_once(
+    alloc: Global,
+    tables: &Tables,
+    ty: &IdlType,
+    value: Value,
+) -> Result<Move, AllocError>
+    ensures leads { IfOk result (λ m. Leads (defs_term tables.now.defs) (convert built_today (defs_term tables.now.defs) (type_term ty.now) value) (move_dialog (defs_term tables.now.defs) m)) }
+    ensures weight { IfOk result (λ m. weight (defs_term tables.now.defs) m ≤ type_load (type_term ty.now)) }
+{
+    match value {
+        Value::Num(number) => convert_number(alloc, tables, ty, number),
+        Value::Str(text) => convert_text(alloc, tables, ty, text),
+        value => convert(alloc, tables, ty, value),
+    }
+}
+
+/// The first move of a Number's conversion.
+///
+/// # Errors
+///
+/// `AllocError` where there is no memory.
+fn convert_number(
+    alloc: Global,
+    tables: &Tables,
+    ty: &IdlType,
+    number: Number,
+) -> Result<Move, AllocError>
+    ensures leads { IfOk result (λ m. Leads (defs_term tables.now.defs) (convert built_today (defs_term tables.now.defs) (type_term ty.now) (Value.Num number)) (move_dialog (defs_term tables.now.defs) m)) }
+    ensures weight { IfOk result (λ m. weight (defs_term tables.now.defs) m ≤ type_load (type_term ty.now)) }
+{
+    match ty {
+        IdlType::Int(kind, mode) => Ok(to_integer(*kind, *mode, number)),
+        _ => convert(alloc, tables, ty, Value::Num(number)),
+    }
+}
+
+/// The first move of a String's conversion.
+///
+/// # Errors
+///
+/// `AllocError` where there is no memory.
+fn convert_text(
+    alloc: Global,
+    tables: &Tables,
+    ty: &IdlType,
+    text: Units,
+) -> Result<Move, AllocError>
+    ensures leads { IfOk result (λ m. Leads (defs_term tables.now.defs) (convert built_today (defs_term tables.now.defs) (type_term ty.now) (Value.Str text)) (move_dialog (defs_term tables.now.defs) m)) }
+    ensures weight { IfOk result (λ m. weight (defs_term tables.now.defs) m ≤ type_load (type_term ty.now)) }
+{
+    match ty {
+        IdlType::Text {
+            kind,
+            null_empty: _,
+        } => to_string(alloc, *kind, text),
+        _ => convert(alloc, tables, ty, Value::Str(text)),
+    }
+}
+
 /// The first move of an argument's conversion to the type at its place of an overload's entry of a
 /// length.
 ///
 /// # Errors
 ///
 /// `AllocError` where there is no memory.
+#[tactic(auto, using(crate::proofs::Suspending::led))]
 pub(crate) fn convert_argument(
     alloc: Global,
     tables: &Tables,
@@ -149,12 +216,12 @@ pub(crate) fn convert_argument(
     length: u32,
     value: Value,
 ) -> Result<Move, AllocError>
-    ensures dialog { IfOk result (λ m. move_dialog (defs_term tables.now.defs) m ≡ convert built_today (defs_term tables.now.defs) (type_at (entry_for at.overload (declared_args (defs_term tables.now.defs) at.callee at.overload) length) at.place) value) }
+    ensures leads { IfOk result (λ m. Leads (defs_term tables.now.defs) (convert built_today (defs_term tables.now.defs) (type_at (entry_for at.overload (declared_args (defs_term tables.now.defs) at.callee at.overload) length) at.place) value) (move_dialog (defs_term tables.now.defs) m)) }
     ensures weight { IfOk result (λ m. weight (defs_term tables.now.defs) m ≤ type_load (type_at (entry_for at.overload (declared_args (defs_term tables.now.defs) at.callee at.overload) length) at.place)) }
 {
     match standing(tables.list().defs(), at, length) {
         None => Ok(gives(IdlValue::Any(value))),
-        Some(standing) => convert(alloc, tables, standing.ty, value),
+        Some(standing) => convert_at_once(alloc, tables, standing.ty, value),
     }
 }
 

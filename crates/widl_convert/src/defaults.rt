@@ -29,7 +29,15 @@ use widl_trace::Code;
 use widl_value::{IdlValue, IdlValues, Value};
 
 /// The move after the last argument: where one entry is left, to the declared arguments beyond it.
-pub(crate) fn after_last(resolution: Resolution) -> Move
+pub(crate) fn after_last(resolution: Box<Resolution>) -> Move
+    ensures dialog { (list : DefsTerm) → move_dialog list result ≡ after_arguments resolution.value.kept.callee resolution.value.overload (idl_terms resolution.value.made) }
+    ensures weight { (list : DefsTerm) → weight list result ≤ room list resolution.value.kept.callee }
+{
+    after_taken(Box::into_inner(resolution))
+}
+
+/// The same, of a choice all of whose arguments were taken.
+fn after_taken(resolution: Resolution) -> Move
     ensures dialog { (list : DefsTerm) → move_dialog list result ≡ after_arguments resolution.kept.callee resolution.overload (idl_terms resolution.made) }
     ensures weight { (list : DefsTerm) → weight list result ≤ room list resolution.kept.callee }
 {

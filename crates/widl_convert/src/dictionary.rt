@@ -1,6 +1,6 @@
 //! Values of the script to dictionaries.
 
-ghost use Rattle.std.specs.Prelude.{◌≡◌, ◌≤◌, ◌<◌, ◌+◌, [], option_map, slice_get, IfOk};
+ghost use Rattle.std.specs.Prelude.{◌≡◌, ◌≤◌, ◌<◌, ◌+◌, [], ◌∷◌, option_map, slice_get, IfNone, IfOk, IfSome};
 ghost use Rattle.std.specs.Option.{option_and_then};
 ghost use Rattle.widl_dialog.specs.Dialog.{End, Steps};
 ghost use Rattle.widl_idl.specs.DefinitionTerms.{DefsTerm, defs_term, member_term};
@@ -13,10 +13,11 @@ ghost use Rattle.widl_convert.specs.Frames.{idl_to, move_dialog};
 ghost use Rattle.widl_convert.specs.Loads.{conversion_load, default_load, idl_frame_load, made_members_load, type_load, value_load, weight};
 ghost use Rattle.widl_convert.specs.Members.{declared_at, member_at, members_left};
 ghost use Rattle.widl_convert.specs.Scalars.{convert};
+ghost use Rattle.widl_convert.specs.Stack.{Leads};
 ghost use Rattle.widl_convert.specs.Tasks.{Default, Members};
 
 use crate::ask::Ask;
-use crate::convert::{convert, gives, throws};
+use crate::convert::{convert_at_once, gives, throws};
 use crate::defaults::default_of;
 use crate::frames::{Frame, IdlFrame};
 use crate::jobs::{Filling, Job};
@@ -66,16 +67,13 @@ pub(crate) fn first_member(
     ensures weight { IfOk result (λ m. weight (defs_term tables.now.defs) m ≤ 0) }
 {
     let left = MembersLeft::of(alloc, tables, dictionary)?;
-    next_member(
-        alloc,
-        tables,
-        Filling {
-            dictionary,
-            object,
-            left,
-            made: IdlMembers::new(alloc),
-        },
-    )
+    let filling = Filling {
+        dictionary,
+        object,
+        left,
+        made: IdlMembers::new(alloc),
+    };
+    next_member(alloc, tables, Box::new(alloc, filling)?)
 }
 
 /// The move to the next of a dictionary's members.
@@ -86,37 +84,38 @@ pub(crate) fn first_member(
 pub(crate) fn next_member(
     alloc: Global,
     tables: &Tables,
-    filling: Filling,
+    filling: Box<Filling>,
 ) -> Result<Move, AllocError>
-    ensures dialog { IfOk result (λ m. move_dialog (defs_term tables.now.defs) m ≡ members filling.dictionary filling.object (members_left (defs_term tables.now.defs) filling.left) (member_terms filling.made)) }
-    ensures weight { IfOk result (λ m. weight (defs_term tables.now.defs) m ≤ made_members_load (member_terms filling.made)) }
+    ensures dialog { IfOk result (λ m. move_dialog (defs_term tables.now.defs) m ≡ members filling.value.dictionary filling.value.object (members_left (defs_term tables.now.defs) filling.value.left) (member_terms filling.value.made)) }
+    ensures weight { IfOk result (λ m. weight (defs_term tables.now.defs) m ≤ made_members_load (member_terms filling.value.made)) }
 {
-    let Filling {
-        dictionary,
-        object,
-        left,
-        made,
-    } = filling;
-    let mut left = left;
-    match left.next(tables) {
-        None => Ok(gives(IdlValue::Dict {
-            of: dictionary,
-            members: made,
-        })),
-        Some(at) => read_member(
-            alloc,
-            tables,
-            MemberWait {
-                at,
-                filling: Filling {
-                    dictionary,
-                    object,
-                    left,
-                    made,
-                },
-            },
-        ),
+    let mut filling = filling;
+    match take_member(&mut filling, tables) {
+        None => Ok(finished(Box::into_inner(filling))),
+        Some(at) => read_member(alloc, tables, MemberWait { at, filling }),
     }
+}
+
+/// Takes the next member.
+fn take_member(filling: &mut Filling, tables: &Tables) -> Option<MemberPlace>
+    ensures none { IfNone result (members_left (defs_term tables.now.defs) filling.old.left ≡ []) }
+    ensures some { IfSome result (λ at. members_left (defs_term tables.now.defs) filling.old.left ≡ declared_at (defs_term tables.now.defs) at ∷ members_left (defs_term tables.now.defs) filling.new.left) }
+    ensures dictionary { filling.new.dictionary ≡ filling.old.dictionary }
+    ensures object { filling.new.object ≡ filling.old.object }
+    ensures made { filling.new.made ≡ filling.old.made }
+{
+    filling.left.next(tables)
+}
+
+/// The end with a dictionary.
+fn finished(filling: Filling) -> Move
+    ensures dialog { (list : DefsTerm) → move_dialog list result ≡ members filling.dictionary filling.object [] (member_terms filling.made) }
+    ensures weight { (list : DefsTerm) → weight list result ≡ made_members_load (member_terms filling.made) }
+{
+    gives(IdlValue::Dict {
+        of: filling.dictionary,
+        members: filling.made,
+    })
 }
 
 /// The ask for a member: for its value of the object, or for the unit that it takes where there is none.
@@ -125,7 +124,7 @@ pub(crate) fn next_member(
 ///
 /// `AllocError` where there is no memory.
 fn read_member(alloc: Global, tables: &Tables, wait: MemberWait) -> Result<Move, AllocError>
-    ensures dialog { IfOk result (λ m. move_dialog (defs_term tables.now.defs) m ≡ member wait.filling.dictionary wait.filling.object (declared_at (defs_term tables.now.defs) wait.at) (members_left (defs_term tables.now.defs) wait.filling.left) (member_terms wait.filling.made)) }
+    ensures dialog { IfOk result (λ m. move_dialog (defs_term tables.now.defs) m ≡ member wait.filling.value.dictionary wait.filling.value.object (declared_at (defs_term tables.now.defs) wait.at) (members_left (defs_term tables.now.defs) wait.filling.value.left) (member_terms wait.filling.value.made)) }
     ensures weight { IfOk result (λ m. weight (defs_term tables.now.defs) m ≡ 0) }
 {
     match wait.filling.object {
@@ -172,7 +171,7 @@ pub(crate) fn declared_member(defs: &Defs, at: MemberPlace) -> Option<&Member>
 
 /// The move after the value of a member. Undefined gives way to the default value.
 pub(crate) fn with_member_value(tables: &Tables, wait: MemberWait, value: Value) -> Move
-    ensures { move_dialog (defs_term tables.now.defs) result ≡ member_value wait.filling.dictionary wait.filling.object (declared_at (defs_term tables.now.defs) wait.at) (members_left (defs_term tables.now.defs) wait.filling.left) (member_terms wait.filling.made) value }
+    ensures { move_dialog (defs_term tables.now.defs) result ≡ member_value wait.filling.value.dictionary wait.filling.value.object (declared_at (defs_term tables.now.defs) wait.at) (members_left (defs_term tables.now.defs) wait.filling.value.left) (member_terms wait.filling.value.made) value }
 {
     match value {
         Value::Undefined => undefined_member(tables, wait),
@@ -189,7 +188,7 @@ pub(crate) fn with_member_value(tables: &Tables, wait: MemberWait, value: Value)
 /// The move where a member is undefined: to its default value. Without one a required member throws, and
 /// any other is left out.
 pub(crate) fn undefined_member(tables: &Tables, wait: MemberWait) -> Move
-    ensures { move_dialog (defs_term tables.now.defs) result ≡ undefined_member wait.filling.dictionary wait.filling.object (declared_at (defs_term tables.now.defs) wait.at) (members_left (defs_term tables.now.defs) wait.filling.left) (member_terms wait.filling.made) (member_at (defs_term tables.now.defs) wait.at).value }
+    ensures { move_dialog (defs_term tables.now.defs) result ≡ undefined_member wait.filling.value.dictionary wait.filling.value.object (declared_at (defs_term tables.now.defs) wait.at) (members_left (defs_term tables.now.defs) wait.filling.value.left) (member_terms wait.filling.value.made) (member_at (defs_term tables.now.defs) wait.at).value }
 {
     match declared_member(tables.list().defs(), wait.at) {
         None => leave_out(wait),
@@ -206,7 +205,7 @@ pub(crate) fn undefined_member(tables: &Tables, wait: MemberWait) -> Move
 
 /// The move to the default value of a member.
 fn by_default(wait: MemberWait) -> Move
-    ensures { (list : DefsTerm) → move_dialog list result ≡ Steps (Default (member_at list wait.at).ty (member_at list wait.at).value) (member_given wait.filling.dictionary wait.filling.object (declared_at list wait.at) (members_left list wait.filling.left) (member_terms wait.filling.made)) }
+    ensures { (list : DefsTerm) → move_dialog list result ≡ Steps (Default (member_at list wait.at).ty (member_at list wait.at).value) (member_given wait.filling.value.dictionary wait.filling.value.object (declared_at list wait.at) (members_left list wait.filling.value.left) (member_terms wait.filling.value.made)) }
 {
     let at = wait.at;
     Move::Steps(Frame::Idl(IdlFrame::Member(wait)), Job::MemberDefault(at))
@@ -214,7 +213,7 @@ fn by_default(wait: MemberWait) -> Move
 
 /// The move to the next member, without this one.
 fn leave_out(wait: MemberWait) -> Move
-    ensures { (list : DefsTerm) → move_dialog list result ≡ Steps (Members wait.filling.dictionary wait.filling.object (members_left list wait.filling.left) (member_terms wait.filling.made)) End }
+    ensures { (list : DefsTerm) → move_dialog list result ≡ Steps (Members wait.filling.value.dictionary wait.filling.value.object (members_left list wait.filling.value.left) (member_terms wait.filling.value.made)) End }
 {
     Move::Goes(Job::Members(wait.filling))
 }
@@ -224,18 +223,19 @@ fn leave_out(wait: MemberWait) -> Move
 /// # Errors
 ///
 /// `AllocError` where there is no memory.
+#[tactic(auto, using(crate::proofs::Suspending::led))]
 pub(crate) fn convert_member(
     alloc: Global,
     tables: &Tables,
     at: MemberPlace,
     value: Value,
 ) -> Result<Move, AllocError>
-    ensures dialog { IfOk result (λ m. move_dialog (defs_term tables.now.defs) m ≡ convert built_today (defs_term tables.now.defs) (member_at (defs_term tables.now.defs) at).ty value) }
+    ensures leads { IfOk result (λ m. Leads (defs_term tables.now.defs) (convert built_today (defs_term tables.now.defs) (member_at (defs_term tables.now.defs) at).ty value) (move_dialog (defs_term tables.now.defs) m)) }
     ensures weight { IfOk result (λ m. weight (defs_term tables.now.defs) m ≤ type_load (member_at (defs_term tables.now.defs) at).ty) }
 {
     match declared_member(tables.list().defs(), at) {
         None => Ok(gives(IdlValue::Any(value))),
-        Some(member) => convert(alloc, tables, &member.ty, value),
+        Some(member) => convert_at_once(alloc, tables, &member.ty, value),
     }
 }
 

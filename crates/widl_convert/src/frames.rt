@@ -42,11 +42,11 @@ pub enum TextFrame {
 #[derive(Drop)]
 pub enum IdlFrame {
     /// It is that of the argument that was taken last.
-    Argument(Resolution),
+    Argument(Box<Resolution>),
     /// It is that of a declared argument which the call doesn't have.
     Defaulted(Beginning),
     /// It is the next element of a sequence.
-    Element(Iteration),
+    Element(Box<Iteration>),
     /// It is that of a record's property.
     Property(NamedProperty),
     /// It is that of a member of a dictionary.

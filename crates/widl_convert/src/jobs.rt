@@ -82,13 +82,13 @@ pub enum Job {
     /// An object with its method `@iterator` to a sequence.
     SequenceFrom(Iterable),
     /// The turns of an iterator that are left.
-    Turns(Iteration),
+    Turns(Box<Iteration>),
     /// The properties of an object that are left, for a record.
     Entries(Box<Properties>),
     /// The choice of an overload.
     Resolve(Call),
     /// The choice of an overload, from its next argument on.
-    Arguments(Resolution),
+    Arguments(Box<Resolution>),
     /// The default value of an argument, if it has one.
     Default(ArgumentPlace),
     /// The values of the declared arguments that a call doesn't have.
@@ -101,7 +101,7 @@ pub enum Job {
         object: Option<ObjRef>,
     },
     /// The members of a dictionary that are left.
-    Members(Filling),
+    Members(Box<Filling>),
     /// The value of a member to an IDL value of its type.
     Member {
         /// The place of the member.

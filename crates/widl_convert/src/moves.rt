@@ -13,6 +13,7 @@ use widl_trace::Code;
 use widl_value::Value;
 
 /// An ask that goes out, with what waits for its answer.
+#[derive(Drop)]
 pub struct Asking {
     /// The ask.
     pub ask: Ask,
@@ -35,6 +36,7 @@ pub enum Ending {
 }
 
 /// What a conversation does next.
+#[derive(Drop)]
 pub enum Move {
     /// It asks.
     Asks(Asking),

@@ -37,8 +37,8 @@ pub struct Resolution {
 #[derive(Drop)]
 pub struct Probe {
     /// The resolution, of which the argument is taken.
-    pub resolution: Resolution,
+    pub resolution: Box<Resolution>,
     /// The argument.
     pub obj: ObjRef,
-    ghost at_place: { IsAtPlace resolution.kept resolution.overload (length (idl_terms resolution.made)) },
+    ghost at_place: { IsAtPlace resolution.value.kept resolution.value.overload (length (idl_terms resolution.value.made)) },
 }

@@ -1,13 +1,14 @@
 //! The choice of an overload, with the conversion of the arguments.
 
-ghost use Rattle.std.specs.Prelude.{◌≡◌, ◌≤◌, ◌<◌, ◌+◌, ◌∷◌, [], length, false, true, option_map, IfOk, None, Some};
+ghost use Rattle.std.specs.Prelude.{◌≡◌, ◌≤◌, ◌<◌, ◌+◌, ◌∷◌, [], length, false, true, option_map, slice_get, IfNone, IfOk, IfSome, None, Some};
 ghost use Rattle.widl_dialog.specs.Dialog.{Say, Steps};
 ghost use Rattle.widl_idl.specs.DefinitionTerms.{DefsTerm, defs_term};
 ghost use Rattle.widl_idl.specs.Terms.{type_term};
 ghost use Rattle.widl_value.specs.Classes.{class_of};
 ghost use Rattle.widl_value.specs.IdlTerms.{idl_term, idl_terms};
 ghost use Rattle.widl_overload.specs.Entries.{declared_args, entry_for, optionality_at, type_at};
-ghost use Rattle.widl_tables.specs.Picks.{pick_of};
+ghost use Rattle.widl_tables.specs.Kept.{entries_for};
+ghost use Rattle.widl_tables.specs.Picks.{pick_kept, pick_of};
 ghost use Rattle.widl_tables.specs.Tests.{is_optional};
 ghost use Rattle.widl_convert.specs.AskTerms.{GetAsk};
 ghost use Rattle.widl_convert.specs.Built.{built_today};
@@ -15,7 +16,7 @@ ghost use Rattle.widl_convert.specs.Entries.{IsAtPlace, entries_left, entry_in, 
 ghost use Rattle.widl_convert.specs.Frames.{idl_to, job_of, move_dialog, probe_to, taken};
 ghost use Rattle.widl_convert.specs.Loads.{default_load, idl_frame_load, load, taken_load, weight};
 ghost use Rattle.widl_convert.specs.Sequences.{element_within, iterator_symbol};
-ghost use Rattle.widl_convert.specs.Resolution.{argument, argument_given, argument_task, from_method, looked_for, of_several, picked, resolve, without_method};
+ghost use Rattle.widl_convert.specs.Resolution.{argument, arguments, argument_given, argument_task, from_method, looked_for, of_several, picked, resolve, without_method};
 ghost use Rattle.widl_convert.specs.Rules.{rule};
 ghost use Rattle.widl_convert.specs.Tasks.{Resolve};
 ghost use Rattle.widl_convert.specs.Words.{normal, object};
@@ -35,7 +36,7 @@ use widl_idl::{IdlType, Optionality};
 use widl_tables::{Pick, Tables, kept, pick_overload};
 use widl_text::Key;
 use widl_trace::Code;
-use widl_value::{IdlValue, IdlValues, ObjRef, Shape, Value};
+use widl_value::{Class, IdlValue, IdlValues, ObjRef, Shape, Value};
 
 /// The first move of the choice of an overload.
 ///
@@ -52,12 +53,13 @@ pub(crate) fn resolve(alloc: Global, tables: &Tables, call: Call) -> Result<Move
         return Ok(throws(Code::NoOverload));
     }
     let overload = sole(kept.overloads.as_slice());
-    Ok(Move::Goes(Job::Arguments(Resolution {
+    let resolution = Resolution {
         kept,
         overload,
         args,
         made: IdlValues::new(alloc),
-    })))
+    };
+    Ok(Move::Goes(Job::Arguments(Box::new(alloc, resolution)?)))
 }
 
 /// The one of the overloads, where there is one alone.
@@ -71,17 +73,38 @@ fn sole(overloads: &[u32]) -> Option<u32>
 }
 
 /// The move from one argument to the next.
-pub(crate) fn arguments(tables: &Tables, resolution: Resolution) -> Move
+pub(crate) fn arguments(tables: &Tables, resolution: Box<Resolution>) -> Move
     ensures dialog { move_dialog (defs_term tables.now.defs) result ≡ rule built_today (defs_term tables.now.defs) (job_of (defs_term tables.now.defs) (Job.Arguments resolution)) }
     ensures weight { weight (defs_term tables.now.defs) result ≤ load (defs_term tables.now.defs) (job_of (defs_term tables.now.defs) (Job.Arguments resolution)) }
 {
     let mut resolution = resolution;
+    match take_argument(&mut resolution) {
+        None => after_last(resolution),
+        Some(value) => with_taken(tables, resolution, value),
+    }
+}
+
+/// Takes the next argument, if there is one that counts.
+fn take_argument(resolution: &mut Resolution) -> Option<Value>
+    ensures kept { resolution.new.kept ≡ resolution.old.kept }
+    ensures overload { resolution.new.overload ≡ resolution.old.overload }
+    ensures made { resolution.new.made ≡ resolution.old.made }
+    ensures none { IfNone result (left_from (length (idl_terms resolution.old.made)) resolution.old.kept resolution.old.args ≡ []) }
+    ensures some { IfSome result (λ value. left_from (length (idl_terms resolution.old.made)) resolution.old.kept resolution.old.args ≡ value ∷ left_from (length (idl_terms resolution.old.made) + 1) resolution.old.kept resolution.new.args) }
+{
     let place = resolution.made.len();
     let count = resolution.args.len().min(resolution.kept.argcount as usize);
     if place >= count {
-        return after_last(resolution);
+        return None;
     }
-    let value = resolution.args.replace(place, Value::Undefined);
+    Some(resolution.args.replace(place, Value::Undefined))
+}
+
+/// The move to an argument that was taken.
+fn with_taken(tables: &Tables, resolution: Box<Resolution>, value: Value) -> Move
+    ensures dialog { move_dialog (defs_term tables.now.defs) result ≡ arguments built_today (defs_term tables.now.defs) resolution.value.kept.callee (entries_left (defs_term tables.now.defs) resolution.value.kept resolution.value.overload) (place_in resolution.value.kept) (value ∷ left_from (length (idl_terms resolution.value.made) + 1) resolution.value.kept resolution.value.args) (idl_terms resolution.value.made) }
+    ensures weight { weight (defs_term tables.now.defs) result ≤ taken_load (defs_term tables.now.defs) resolution.value }
+{
     match resolution.overload {
         Some(overload) => argument(tables, resolution, overload, value),
         None => of_several(tables, resolution, value),
@@ -89,9 +112,9 @@ pub(crate) fn arguments(tables: &Tables, resolution: Resolution) -> Move
 }
 
 /// The move to an argument that was taken, by the entry of an overload.
-fn argument(tables: &Tables, resolution: Resolution, overload: u32, value: Value) -> Move
-    ensures dialog { move_dialog (defs_term tables.now.defs) result ≡ Steps (argument_task (defs_term tables.now.defs) resolution.kept.callee (entry_in (defs_term tables.now.defs) resolution.kept overload) (length (idl_terms resolution.made)) value) (argument_given resolution.kept.callee (entries_left (defs_term tables.now.defs) resolution.kept resolution.overload) (place_in resolution.kept) (left_from (length (idl_terms resolution.made) + 1) resolution.kept resolution.args) (idl_terms resolution.made)) }
-    ensures weight { weight (defs_term tables.now.defs) result ≤ taken_load (defs_term tables.now.defs) resolution }
+fn argument(tables: &Tables, resolution: Box<Resolution>, overload: u32, value: Value) -> Move
+    ensures dialog { move_dialog (defs_term tables.now.defs) result ≡ Steps (argument_task (defs_term tables.now.defs) resolution.value.kept.callee (entry_in (defs_term tables.now.defs) resolution.value.kept overload) (length (idl_terms resolution.value.made)) value) (argument_given resolution.value.kept.callee (entries_left (defs_term tables.now.defs) resolution.value.kept resolution.value.overload) (place_in resolution.value.kept) (left_from (length (idl_terms resolution.value.made) + 1) resolution.value.kept resolution.value.args) (idl_terms resolution.value.made)) }
+    ensures weight { weight (defs_term tables.now.defs) result ≤ taken_load (defs_term tables.now.defs) resolution.value }
 {
     let job = argument_job(tables, &resolution, overload, value);
     Move::Steps(Frame::Idl(IdlFrame::Argument(resolution)), job)
@@ -137,10 +160,10 @@ fn is_optional(tables: &Tables, at: ArgumentPlace, length: u32) -> bool
 }
 
 /// The move to an argument that was taken where several entries are left.
-fn of_several(tables: &Tables, resolution: Resolution, value: Value) -> Move
-    requires { resolution.overload ≡ None }
-    ensures dialog { move_dialog (defs_term tables.now.defs) result ≡ taken (of_several built_today) (defs_term tables.now.defs) resolution value }
-    ensures weight { weight (defs_term tables.now.defs) result ≤ taken_load (defs_term tables.now.defs) resolution }
+fn of_several(tables: &Tables, resolution: Box<Resolution>, value: Value) -> Move
+    requires { resolution.value.overload ≡ None }
+    ensures dialog { move_dialog (defs_term tables.now.defs) result ≡ taken (of_several built_today) (defs_term tables.now.defs) resolution.value value }
+    ensures weight { weight (defs_term tables.now.defs) result ≤ taken_load (defs_term tables.now.defs) resolution.value }
 {
     if resolution.made.len() == resolution.kept.place.unwrap_or(0) as usize {
         picked(tables, resolution, value)
@@ -151,61 +174,77 @@ fn of_several(tables: &Tables, resolution: Resolution, value: Value) -> Move
 
 /// The move to an argument below the place that tells the entries apart: they agree there, and the first
 /// of them takes it.
-fn by_first(tables: &Tables, resolution: Resolution, value: Value) -> Move
-    requires { resolution.overload ≡ None }
-    ensures dialog { move_dialog (defs_term tables.now.defs) result ≡ taken argument (defs_term tables.now.defs) resolution value }
-    ensures weight { weight (defs_term tables.now.defs) result ≤ taken_load (defs_term tables.now.defs) resolution }
+fn by_first(tables: &Tables, resolution: Box<Resolution>, value: Value) -> Move
+    requires { resolution.value.overload ≡ None }
+    ensures dialog { move_dialog (defs_term tables.now.defs) result ≡ taken argument (defs_term tables.now.defs) resolution.value value }
+    ensures weight { weight (defs_term tables.now.defs) result ≤ taken_load (defs_term tables.now.defs) resolution.value }
 {
-    let first = *resolution.kept.overloads.at(0);
+    let first = first_overload(&resolution);
     argument(tables, resolution, first, value)
 }
 
-/// The move to the argument at the place that tells the entries apart.
-fn picked(tables: &Tables, resolution: Resolution, value: Value) -> Move
-    requires { IsAtPlace resolution.kept resolution.overload (length (idl_terms resolution.made)) }
-    ensures dialog { move_dialog (defs_term tables.now.defs) result ≡ picked built_today (defs_term tables.now.defs) resolution.kept.callee (entries_left (defs_term tables.now.defs) resolution.kept resolution.overload) (place_in resolution.kept) value (left_from (length (idl_terms resolution.made) + 1) resolution.kept resolution.args) (idl_terms resolution.made) (pick_of (defs_term tables.now.defs) (entries_left (defs_term tables.now.defs) resolution.kept resolution.overload) (place_in resolution.kept) (class_of value) false) }
-    ensures weight { weight (defs_term tables.now.defs) result ≤ taken_load (defs_term tables.now.defs) resolution }
+/// The first of several overloads that are kept.
+fn first_overload(resolution: &Resolution) -> u32
+    requires { resolution.now.overload ≡ None }
+    ensures { slice_get resolution.now.kept.overloads 0 ≡ Some result }
 {
-    match pick_overload(tables.list().defs(), &resolution.kept, value.class(), false) {
+    *resolution.kept.overloads.at(0)
+}
+
+/// The move to the argument at the place that tells the entries apart.
+fn picked(tables: &Tables, resolution: Box<Resolution>, value: Value) -> Move
+    requires { IsAtPlace resolution.value.kept resolution.value.overload (length (idl_terms resolution.value.made)) }
+    ensures dialog { move_dialog (defs_term tables.now.defs) result ≡ picked built_today (defs_term tables.now.defs) resolution.value.kept.callee (entries_left (defs_term tables.now.defs) resolution.value.kept resolution.value.overload) (place_in resolution.value.kept) value (left_from (length (idl_terms resolution.value.made) + 1) resolution.value.kept resolution.value.args) (idl_terms resolution.value.made) (pick_of (defs_term tables.now.defs) (entries_left (defs_term tables.now.defs) resolution.value.kept resolution.value.overload) (place_in resolution.value.kept) (class_of value) false) }
+    ensures weight { weight (defs_term tables.now.defs) result ≤ taken_load (defs_term tables.now.defs) resolution.value }
+{
+    match pick(tables, &resolution, value.class(), false) {
         Pick::Entry(overload) => by_alone(tables, resolution, overload, value),
         Pick::Probe(_) => probe(resolution, value),
         Pick::Refuse => throws(Code::NoMatch),
     }
 }
 
+/// The pick of a value of this class among the overloads that are kept.
+fn pick(tables: &Tables, resolution: &Resolution, class: Class, probed: bool) -> Pick
+    ensures { result ≡ pick_kept (defs_term tables.now.defs) (entries_for (defs_term tables.now.defs) resolution.now.kept.callee resolution.now.kept.argcount resolution.now.kept.overloads) resolution.now.kept.place class probed }
+{
+    pick_overload(tables.list().defs(), &resolution.kept, class, probed)
+}
+
 /// The move to an argument that was taken, by the entry of an overload that is left alone.
-fn by_alone(tables: &Tables, resolution: Resolution, overload: u32, value: Value) -> Move
-    ensures dialog { move_dialog (defs_term tables.now.defs) result ≡ argument (defs_term tables.now.defs) resolution.kept.callee (entry_in (defs_term tables.now.defs) resolution.kept overload ∷ []) (place_in resolution.kept) value (left_from (length (idl_terms resolution.made) + 1) resolution.kept resolution.args) (idl_terms resolution.made) }
-    ensures weight { weight (defs_term tables.now.defs) result ≤ taken_load (defs_term tables.now.defs) resolution }
+fn by_alone(tables: &Tables, resolution: Box<Resolution>, overload: u32, value: Value) -> Move
+    ensures dialog { move_dialog (defs_term tables.now.defs) result ≡ argument (defs_term tables.now.defs) resolution.value.kept.callee (entry_in (defs_term tables.now.defs) resolution.value.kept overload ∷ []) (place_in resolution.value.kept) value (left_from (length (idl_terms resolution.value.made) + 1) resolution.value.kept resolution.value.args) (idl_terms resolution.value.made) }
+    ensures weight { weight (defs_term tables.now.defs) result ≤ taken_load (defs_term tables.now.defs) resolution.value }
 {
     argument(tables, alone(resolution, overload), overload, value)
 }
 
 /// The same choice, with an overload alone.
-fn alone(resolution: Resolution, overload: u32) -> Resolution
-    ensures kept { result.kept ≡ resolution.kept }
-    ensures overload { result.overload ≡ Some overload }
-    ensures args { result.args ≡ resolution.args }
-    ensures made { result.made ≡ resolution.made }
+fn alone(resolution: Box<Resolution>, overload: u32) -> Box<Resolution>
+    ensures kept { result.value.kept ≡ resolution.value.kept }
+    ensures overload { result.value.overload ≡ Some overload }
+    ensures args { result.value.args ≡ resolution.value.args }
+    ensures made { result.value.made ≡ resolution.value.made }
 {
-    let Resolution {
-        kept,
-        overload: _,
-        args,
-        made,
-    } = resolution;
-    Resolution {
-        kept,
-        overload: Some(overload),
-        args,
-        made,
-    }
+    let mut resolution = resolution;
+    leave_alone(&mut resolution, overload);
+    resolution
+}
+
+/// An overload is left alone.
+fn leave_alone(resolution: &mut Resolution, overload: u32)
+    ensures kept { resolution.new.kept ≡ resolution.old.kept }
+    ensures overload { resolution.new.overload ≡ Some overload }
+    ensures args { resolution.new.args ≡ resolution.old.args }
+    ensures made { resolution.new.made ≡ resolution.old.made }
+{
+    resolution.overload = Some(overload);
 }
 
 /// The ask for the method `@iterator` of the argument.
-fn probe(resolution: Resolution, value: Value) -> Move
-    requires { IsAtPlace resolution.kept resolution.overload (length (idl_terms resolution.made)) }
-    ensures dialog { (list : DefsTerm) → move_dialog list result ≡ object Code.NoMatch (λ o. Say (GetAsk o (Key.Sym iterator_symbol)) (normal (probe_to list resolution o))) value }
+fn probe(resolution: Box<Resolution>, value: Value) -> Move
+    requires { IsAtPlace resolution.value.kept resolution.value.overload (length (idl_terms resolution.value.made)) }
+    ensures dialog { (list : DefsTerm) → move_dialog list result ≡ object Code.NoMatch (λ o. Say (GetAsk o (Key.Sym iterator_symbol)) (normal (probe_to list resolution.value o))) value }
     ensures weight { (list : DefsTerm) → weight list result ≡ 0 }
 {
     match value {
@@ -231,7 +270,7 @@ pub(crate) fn probed(
     probe: Probe,
     found: Value,
 ) -> Result<Move, AllocError>
-    ensures { IfOk result (λ m. move_dialog (defs_term tables.now.defs) m ≡ probe_to (defs_term tables.now.defs) probe.resolution probe.obj found) }
+    ensures { IfOk result (λ m. move_dialog (defs_term tables.now.defs) m ≡ probe_to (defs_term tables.now.defs) probe.resolution.value probe.obj found) }
 {
     match found {
         Value::Undefined => Ok(without_method(tables, probe)),
@@ -252,11 +291,11 @@ fn with_method(
     probe: Probe,
     method: ObjRef,
 ) -> Result<Move, AllocError>
-    ensures { IfOk result (λ m. move_dialog (defs_term tables.now.defs) m ≡ from_method probe.resolution.kept.callee (looked_for (entries_left (defs_term tables.now.defs) probe.resolution.kept probe.resolution.overload) (pick_of (defs_term tables.now.defs) (entries_left (defs_term tables.now.defs) probe.resolution.kept probe.resolution.overload) (length (idl_terms probe.resolution.made)) (class_of (Value.Obj probe.obj)) false)) (place_in probe.resolution.kept) (left_from (length (idl_terms probe.resolution.made) + 1) probe.resolution.kept probe.resolution.args) (idl_terms probe.resolution.made) probe.obj method) }
+    ensures { IfOk result (λ m. move_dialog (defs_term tables.now.defs) m ≡ from_method probe.resolution.value.kept.callee (looked_for (entries_left (defs_term tables.now.defs) probe.resolution.value.kept probe.resolution.value.overload) (pick_of (defs_term tables.now.defs) (entries_left (defs_term tables.now.defs) probe.resolution.value.kept probe.resolution.value.overload) (length (idl_terms probe.resolution.value.made)) (class_of (Value.Obj probe.obj)) false)) (place_in probe.resolution.value.kept) (left_from (length (idl_terms probe.resolution.value.made) + 1) probe.resolution.value.kept probe.resolution.value.args) (idl_terms probe.resolution.value.made) probe.obj method) }
 {
     let Probe { resolution, obj } = probe;
     let class = Value::Obj(obj).class();
-    match pick_overload(tables.list().defs(), &resolution.kept, class, false) {
+    match pick(tables, &resolution, class, false) {
         Pick::Probe(overload) => from_method(alloc, tables, resolution, overload, obj, method),
         _ => Ok(throws(Code::NoMatch)),
     }
@@ -267,12 +306,12 @@ fn with_method(
 fn from_method(
     alloc: Global,
     tables: &Tables,
-    resolution: Resolution,
+    resolution: Box<Resolution>,
     overload: u32,
     obj: ObjRef,
     method: ObjRef,
 ) -> Result<Move, AllocError>
-    ensures { IfOk result (λ m. move_dialog (defs_term tables.now.defs) m ≡ from_method resolution.kept.callee (entry_in (defs_term tables.now.defs) resolution.kept overload ∷ []) (place_in resolution.kept) (left_from (length (idl_terms resolution.made) + 1) resolution.kept resolution.args) (idl_terms resolution.made) obj method) }
+    ensures { IfOk result (λ m. move_dialog (defs_term tables.now.defs) m ≡ from_method resolution.value.kept.callee (entry_in (defs_term tables.now.defs) resolution.value.kept overload ∷ []) (place_in resolution.value.kept) (left_from (length (idl_terms resolution.value.made) + 1) resolution.value.kept resolution.value.args) (idl_terms resolution.value.made) obj method) }
 {
     let kept = &resolution.kept;
     let at = ArgumentPlace {
@@ -313,11 +352,11 @@ fn sequence_element(
 
 /// The move where the argument has no such method: the later tests decide.
 fn without_method(tables: &Tables, probe: Probe) -> Move
-    ensures { move_dialog (defs_term tables.now.defs) result ≡ without_method (defs_term tables.now.defs) probe.resolution.kept.callee (entries_left (defs_term tables.now.defs) probe.resolution.kept probe.resolution.overload) (place_in probe.resolution.kept) (Value.Obj probe.obj) (left_from (length (idl_terms probe.resolution.made) + 1) probe.resolution.kept probe.resolution.args) (idl_terms probe.resolution.made) (pick_of (defs_term tables.now.defs) (entries_left (defs_term tables.now.defs) probe.resolution.kept probe.resolution.overload) (length (idl_terms probe.resolution.made)) (class_of (Value.Obj probe.obj)) true) }
+    ensures { move_dialog (defs_term tables.now.defs) result ≡ without_method (defs_term tables.now.defs) probe.resolution.value.kept.callee (entries_left (defs_term tables.now.defs) probe.resolution.value.kept probe.resolution.value.overload) (place_in probe.resolution.value.kept) (Value.Obj probe.obj) (left_from (length (idl_terms probe.resolution.value.made) + 1) probe.resolution.value.kept probe.resolution.value.args) (idl_terms probe.resolution.value.made) (pick_of (defs_term tables.now.defs) (entries_left (defs_term tables.now.defs) probe.resolution.value.kept probe.resolution.value.overload) (length (idl_terms probe.resolution.value.made)) (class_of (Value.Obj probe.obj)) true) }
 {
     let Probe { resolution, obj } = probe;
     let value = Value::Obj(obj);
-    match pick_overload(tables.list().defs(), &resolution.kept, value.class(), true) {
+    match pick(tables, &resolution, value.class(), true) {
         Pick::Entry(overload) => by_alone(tables, resolution, overload, value),
         _ => throws(Code::NoMatch),
     }
@@ -328,7 +367,10 @@ fn without_method(tables: &Tables, probe: Probe) -> Move
 /// # Errors
 ///
 /// `AllocError` where there is no memory.
-pub(crate) fn with_argument(resolution: Resolution, value: IdlValue) -> Result<Move, AllocError>
+pub(crate) fn with_argument(
+    resolution: Box<Resolution>,
+    value: IdlValue,
+) -> Result<Move, AllocError>
     ensures dialog { IfOk result (λ m. (list : DefsTerm) → move_dialog list m ≡ idl_to list (IdlFrame.Argument resolution) (idl_term value)) }
     ensures weight { IfOk result (λ m. (list : DefsTerm) → weight list m < idl_frame_load list (IdlFrame.Argument resolution)) }
 {

@@ -1,14 +1,16 @@
 //! Values of the script to sequences.
 
-ghost use Rattle.std.specs.Prelude.{◌≡◌, ◌<◌, IfOk, None, option_map};
-ghost use Rattle.widl_dialog.specs.Dialog.{Say};
+ghost use Rattle.std.specs.Prelude.{◌≡◌, ◌<◌, [], IfOk, None, option_map};
+ghost use Rattle.widl_dialog.specs.Dialog.{End, Say, Steps};
 ghost use Rattle.widl_idl.specs.DefinitionTerms.{DefsTerm};
 ghost use Rattle.widl_idl.specs.Flattened.{flattened_member, flattened_members};
 ghost use Rattle.widl_idl.specs.Terms.{packed, type_term, type_terms};
-ghost use Rattle.widl_value.specs.IdlTerms.{idl_term, idl_terms};
+ghost use Rattle.widl_value.specs.IdlTerms.{SequenceValue, idl_term, idl_terms, packed_values};
 ghost use Rattle.widl_convert.specs.Frames.{idl_to, move_dialog, sequence_to};
 ghost use Rattle.widl_convert.specs.Loads.{idl_frame_load, weight};
 ghost use Rattle.widl_convert.specs.Sequences.{element, element_among, found_iterator_method, sequence_from, to_sequence, told_done, turn_given, turns, with_iterator, with_next};
+ghost use Rattle.widl_convert.specs.Tasks.{Turns};
+ghost use Rattle.widl_convert.specs.Words.{gives};
 
 use crate::ask::Ask;
 use crate::convert::{gives, throws};
@@ -73,16 +75,16 @@ pub enum SequenceWait {
         iterator: ObjRef,
     },
     /// It is what `next` gave.
-    Turn(Iteration),
+    Turn(Box<Iteration>),
     /// It is what `done` of that is.
     Done {
         /// The turns.
-        iteration: Iteration,
+        iteration: Box<Iteration>,
         /// What `next` gave.
         turn: ObjRef,
     },
     /// It is what `value` of that is.
-    Element(Iteration),
+    Element(Box<Iteration>),
 }
 
 /// The first move of a value's conversion to a sequence of elements of a type.
@@ -128,7 +130,7 @@ pub(crate) fn with_value(
     match wait {
         SequenceWait::Method { element, obj } => Ok(found_method(element, obj, value)),
         SequenceWait::Iterator { element } => with_iterator(alloc, element, value),
-        SequenceWait::Next { element, iterator } => Ok(with_next(alloc, element, iterator, value)),
+        SequenceWait::Next { element, iterator } => with_next(alloc, element, iterator, value),
         SequenceWait::Turn(iteration) => turn_given(alloc, iteration, value),
         SequenceWait::Done { iteration, turn } => told_done(alloc, iteration, turn, value),
         SequenceWait::Element(iteration) => with_element(alloc, iteration, value),
@@ -190,26 +192,44 @@ fn with_iterator(alloc: Global, element: IdlType, value: Value) -> Result<Move, 
 }
 
 /// The move with what `next` of an iterator is.
-fn with_next(alloc: Global, element: IdlType, iterator: ObjRef, value: Value) -> Move
-    ensures { (list : DefsTerm) → move_dialog list result ≡ with_next (type_term element) iterator value }
+fn with_next(
+    alloc: Global,
+    element: IdlType,
+    iterator: ObjRef,
+    value: Value,
+) -> Result<Move, AllocError>
+    ensures { IfOk result (λ m. (list : DefsTerm) → move_dialog list m ≡ with_next (type_term element) iterator value) }
 {
     match value {
         Value::Obj(next) => match next.shape {
-            Shape::Callable => Move::Goes(Job::Turns(Iteration {
-                element,
-                iterator,
-                next,
-                made: IdlValues::new(alloc),
-            })),
-            Shape::Plain | Shape::Platform(_) => throws(Code::NotCallable),
+            Shape::Callable => first_turn(alloc, element, iterator, next),
+            Shape::Plain | Shape::Platform(_) => Ok(throws(Code::NotCallable)),
         },
-        _ => throws(Code::NotCallable),
+        _ => Ok(throws(Code::NotCallable)),
     }
 }
 
+/// The move to the first turn of an iterator.
+fn first_turn(
+    alloc: Global,
+    element: IdlType,
+    iterator: ObjRef,
+    next: ObjRef,
+) -> Result<Move, AllocError>
+    ensures { IfOk result (λ m. (list : DefsTerm) → move_dialog list m ≡ Steps (Turns (type_term element) iterator next []) End) }
+{
+    let iteration = Iteration {
+        element,
+        iterator,
+        next,
+        made: IdlValues::new(alloc),
+    };
+    Ok(Move::Goes(Job::Turns(Box::new(alloc, iteration)?)))
+}
+
 /// The first move of a turn: it calls `next`.
-pub(crate) fn turns(alloc: Global, iteration: Iteration) -> Move
-    ensures dialog { (list : DefsTerm) → move_dialog list result ≡ turns (type_term iteration.element) iteration.iterator iteration.next (idl_terms iteration.made) }
+pub(crate) fn turns(alloc: Global, iteration: Box<Iteration>) -> Move
+    ensures dialog { (list : DefsTerm) → move_dialog list result ≡ turns (type_term iteration.value.element) iteration.value.iterator iteration.value.next (idl_terms iteration.value.made) }
     ensures weight { (list : DefsTerm) → weight list result ≡ 0 }
 {
     Move::Asks(Asking {
@@ -223,8 +243,8 @@ pub(crate) fn turns(alloc: Global, iteration: Iteration) -> Move
 }
 
 /// The move with what `next` gave.
-fn turn_given(alloc: Global, iteration: Iteration, value: Value) -> Result<Move, AllocError>
-    ensures { IfOk result (λ m. (list : DefsTerm) → move_dialog list m ≡ turn_given (type_term iteration.element) iteration.iterator iteration.next (idl_terms iteration.made) value) }
+fn turn_given(alloc: Global, iteration: Box<Iteration>, value: Value) -> Result<Move, AllocError>
+    ensures { IfOk result (λ m. (list : DefsTerm) → move_dialog list m ≡ turn_given (type_term iteration.value.element) iteration.value.iterator iteration.value.next (idl_terms iteration.value.made) value) }
 {
     match value {
         Value::Obj(turn) => {
@@ -241,14 +261,14 @@ fn turn_given(alloc: Global, iteration: Iteration, value: Value) -> Result<Move,
 /// The move with what `done` of a turn is: the sequence, or the turn's value is read.
 fn told_done(
     alloc: Global,
-    iteration: Iteration,
+    iteration: Box<Iteration>,
     turn: ObjRef,
     is_done: Value,
 ) -> Result<Move, AllocError>
-    ensures { IfOk result (λ m. (list : DefsTerm) → move_dialog list m ≡ told_done (type_term iteration.element) iteration.iterator iteration.next (idl_terms iteration.made) turn is_done) }
+    ensures { IfOk result (λ m. (list : DefsTerm) → move_dialog list m ≡ told_done (type_term iteration.value.element) iteration.value.iterator iteration.value.next (idl_terms iteration.value.made) turn is_done) }
 {
     if truth(&is_done) {
-        Ok(gives(IdlValue::List(iteration.made)))
+        Ok(finished(Box::into_inner(iteration)))
     } else {
         let key = Key::Name(Units::of_ascii(alloc, "value")?);
         Ok(Move::Asks(Asking {
@@ -258,9 +278,16 @@ fn told_done(
     }
 }
 
+/// The end with a sequence.
+fn finished(iteration: Iteration) -> Move
+    ensures { (list : DefsTerm) → move_dialog list result ≡ gives (SequenceValue (packed_values (idl_terms iteration.made))) }
+{
+    gives(IdlValue::List(iteration.made))
+}
+
 /// The move with a turn's value, which becomes the next element.
-fn with_element(alloc: Global, iteration: Iteration, value: Value) -> Result<Move, AllocError>
-    ensures { IfOk result (λ m. (list : DefsTerm) → move_dialog list m ≡ element (type_term iteration.element) iteration.iterator iteration.next (idl_terms iteration.made) value) }
+fn with_element(alloc: Global, iteration: Box<Iteration>, value: Value) -> Result<Move, AllocError>
+    ensures { IfOk result (λ m. (list : DefsTerm) → move_dialog list m ≡ element (type_term iteration.value.element) iteration.value.iterator iteration.value.next (idl_terms iteration.value.made) value) }
 {
     let ty = iteration.element.copy(alloc)?;
     Ok(Move::Steps(
@@ -274,7 +301,7 @@ fn with_element(alloc: Global, iteration: Iteration, value: Value) -> Result<Mov
 /// # Errors
 ///
 /// `AllocError` where there is no memory.
-pub(crate) fn after_element(iteration: Iteration, value: IdlValue) -> Result<Move, AllocError>
+pub(crate) fn after_element(iteration: Box<Iteration>, value: IdlValue) -> Result<Move, AllocError>
     ensures dialog { IfOk result (λ m. (list : DefsTerm) → move_dialog list m ≡ idl_to list (IdlFrame.Element iteration) (idl_term value)) }
     ensures weight { IfOk result (λ m. (list : DefsTerm) → weight list m < idl_frame_load list (IdlFrame.Element iteration)) }
 {

@@ -8,12 +8,15 @@ ghost use Rattle.widl_convert.specs.Frames.{after, end_of, job_of, move_dialog, 
 ghost use Rattle.widl_convert.specs.Loads.{end_load, frame_load, load, patience, value_load, weight};
 ghost use Rattle.widl_convert.specs.Rules.{rule};
 ghost use Rattle.widl_value.specs.IdlTerms.{idl_term};
+ghost use Rattle.widl_convert.specs.Stack.{Leads};
 ghost use Rattle.widl_convert.specs.Tasks.{Gives, Plain};
 ghost use Rattle.widl_convert.specs.Waits.{kind_for};
 
 use crate::answer::Answer;
 use crate::containers::{out_items, out_units, with_item};
-use crate::convert::{convert, convert_argument, gives, to_enumeration, to_integer, to_string};
+use crate::convert::{
+    convert_argument, convert_at_once, gives, to_enumeration, to_integer, to_string,
+};
 use crate::defaults::{default, defaults, with_default};
 use crate::dictionary::{
     convert_member, first_member, member_default, next_member, undefined_member, with_member,
@@ -41,14 +44,15 @@ use widl_value::{IdlValue, Number, Value};
 /// # Errors
 ///
 /// `AllocError` where there is no memory.
+#[tactic(auto, using(crate::proofs::Suspending::led, crate::proofs::Suspending::led_all))]
 pub(crate) fn begin(alloc: Global, tables: &Tables, job: Job) -> Result<Move, AllocError>
-    ensures dialog { IfOk result (λ m. move_dialog (defs_term tables.now.defs) m ≡ rule built_today (defs_term tables.now.defs) (job_of (defs_term tables.now.defs) job)) }
+    ensures leads { IfOk result (λ m. Leads (defs_term tables.now.defs) (rule built_today (defs_term tables.now.defs) (job_of (defs_term tables.now.defs) job)) (move_dialog (defs_term tables.now.defs) m)) }
     ensures weight { IfOk result (λ m. weight (defs_term tables.now.defs) m ≤ load (defs_term tables.now.defs) (job_of (defs_term tables.now.defs) job)) }
 {
     match job {
         Job::Primitive { hint, value } => Ok(to_primitive(hint, value)),
         Job::Scalar { want, value } => to_scalar(alloc, want, value),
-        Job::Convert { ty, value } => convert(alloc, tables, &ty, value),
+        Job::Convert { ty, value } => convert_at_once(alloc, tables, &ty, value),
         Job::Argument { at, length, value } => {
             convert_argument(alloc, tables, at, length, value)
         }

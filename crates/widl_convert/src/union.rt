@@ -170,16 +170,17 @@ fn probe_object(
         alloc,
         later_member(tables, members, Value::Obj(obj).class()),
     )?;
-    Ok(asks(UnionProbe {
+    let probe = UnionProbe {
         obj,
         element,
         otherwise,
-    }))
+    };
+    Ok(asks(Box::new(alloc, probe)?))
 }
 
 /// The ask for the method.
-fn asks(probe: UnionProbe) -> Move
-    ensures dialog { (list : DefsTerm) → move_dialog list result ≡ Say (GetAsk probe.obj (Key.Sym iterator_symbol)) (normal (union_to list probe)) }
+fn asks(probe: Box<UnionProbe>) -> Move
+    ensures dialog { (list : DefsTerm) → move_dialog list result ≡ Say (GetAsk probe.value.obj (Key.Sym iterator_symbol)) (normal (union_to list probe.value)) }
     ensures weight { (list : DefsTerm) → weight list result ≡ 0 }
 {
     Move::Asks(Asking {
@@ -222,14 +223,18 @@ fn copy_of(alloc: Global, ty: Option<&IdlType>) -> Result<Option<IdlType>, Alloc
 /// # Errors
 ///
 /// `AllocError` where there is no memory.
-pub(crate) fn probed(alloc: Global, probe: UnionProbe, found: Value) -> Result<Move, AllocError>
-    ensures { IfOk result (λ m. (list : DefsTerm) → move_dialog list m ≡ union_to list probe found) }
+pub(crate) fn probed(
+    alloc: Global,
+    probe: Box<UnionProbe>,
+    found: Value,
+) -> Result<Move, AllocError>
+    ensures { IfOk result (λ m. (list : DefsTerm) → move_dialog list m ≡ union_to list probe.value found) }
 {
     match found {
-        Value::Undefined => without_method(alloc, probe),
-        Value::Null => without_method(alloc, probe),
+        Value::Undefined => without_method(alloc, Box::into_inner(probe)),
+        Value::Null => without_method(alloc, Box::into_inner(probe)),
         Value::Obj(method) => match method.shape {
-            Shape::Callable => Ok(from_method(probe, method)),
+            Shape::Callable => Ok(from_method(Box::into_inner(probe), method)),
             Shape::Plain | Shape::Platform(_) => Ok(throws(Code::NotCallable)),
         },
         _ => Ok(throws(Code::NotCallable)),

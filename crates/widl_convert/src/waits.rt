@@ -17,7 +17,7 @@ pub struct MemberWait {
     /// Where the member stands.
     pub at: MemberPlace,
     /// The dictionary, with the members that are left after this one.
-    pub filling: Filling,
+    pub filling: Box<Filling>,
 }
 
 /// What waits for a value, and ends with a value that was thrown.
@@ -34,7 +34,7 @@ pub enum ValueWait {
     /// Of an object for a member of a dictionary.
     Member(MemberWait),
     /// Of an object that is converted to a union, for its method `@iterator`.
-    UnionProbe(UnionProbe),
+    UnionProbe(Box<UnionProbe>),
     /// For an array that is made.
     NewArray,
     /// For an object that is made.

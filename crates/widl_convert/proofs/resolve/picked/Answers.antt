@@ -1,23 +1,27 @@
-use Rattle.std.proofs.Common.{◌≡◌, false, ap, sym, subst, ◌∙◌}
-use Rattle.widl_idl.specs.DefinitionTerms.{DefsTerm, defs_term}
-use Rattle.widl_idl.specs.MergedSets.{MergedSet}
+use Rattle.std.proofs.Common.{◌≡◌, false, sym, subst, ◌∙◌}
+use Rattle.widl_idl.specs.DefinitionTerms.{defs_term}
 use Rattle.widl_value.specs.IdlTerms.{idl_terms}
-use Rattle.widl_tables.specs.declared.pick.Pick.TheVariants.{Probe}
+use Rattle.widl_tables.specs.declared.pick.Pick.TheVariants.{Probe, Refuse}
 use Rattle.widl_tables.specs.Kept.{entries_for}
 use Rattle.widl_tables.specs.Picks.{pick_kept}
+use Rattle.widl_convert.specs.declared.resolution.Resolution.{Resolution}
 use Rattle.widl_convert.proofs.Resolving.{picked_entry, picked_other}
 use Rattle.widl_convert.proofs.resolve.picked.Goals as goal
 
 pub returns-in-Entry-clause-dialog : goal.returns-in-Entry-clause-dialog
 returns-in-Entry-clause-dialog c =
-    let same : defs_term c.defs.result.now ≡ defs_term c.args.tables.now.defs = ap defs_term (c.defs.ensures.defs ∙ ap (λ (s : MergedSet). s.defs) c.list.ensures) in
     c.by_alone.ensures.dialog
-    ∙ sym (picked_entry (defs_term c.args.tables.now.defs) c.args.resolution.kept c.args.resolution.overload c.in-Entry.overload c.class.result c.args.value _ (idl_terms c.args.resolution.made) c.pick_overload.result (c.args.resolution.several c.requires.none) c.requires.none c.class.ensures c.in-Entry.is
-    (subst (λ (l : DefsTerm). c.pick_overload.result ≡ pick_kept l (entries_for l c.args.resolution.kept.callee c.args.resolution.kept.argcount c.args.resolution.kept.overloads) c.args.resolution.kept.place c.class.result false) same c.pick_overload.ensures))
+    ∙ sym (picked_entry (defs_term c.args.tables.now.defs) c.args.resolution.value.kept c.args.resolution.value.overload c.in-Entry.overload c.class.result c.args.value _ (idl_terms c.args.resolution.value.made) c.pick.result (c.args.resolution.value.several c.requires.none) c.requires.none c.class.ensures c.in-Entry.is
+    (subst (λ (r : Resolution). c.pick.result ≡ pick_kept (defs_term c.args.tables.now.defs) (entries_for (defs_term c.args.tables.now.defs) r.kept.callee r.kept.argcount r.kept.overloads) r.kept.place c.class.result false) c.deref.ensures c.pick.ensures))
 
 pub returns-in-Probe-clause-dialog : goal.returns-in-Probe-clause-dialog
 returns-in-Probe-clause-dialog c =
-    let same : defs_term c.defs.result.now ≡ defs_term c.args.tables.now.defs = ap defs_term (c.defs.ensures.defs ∙ ap (λ (s : MergedSet). s.defs) c.list.ensures) in
     c.probe.ensures.dialog (defs_term c.args.tables.now.defs)
-    ∙ sym (picked_other (defs_term c.args.tables.now.defs) c.args.resolution.kept c.args.resolution.overload c.class.result c.args.value _ (idl_terms c.args.resolution.made) c.pick_overload.result (Probe c.in-Probe.field-0) (c.args.resolution.several c.requires.none) c.requires.none c.class.ensures c.in-Probe.is
-    (subst (λ (l : DefsTerm). c.pick_overload.result ≡ pick_kept l (entries_for l c.args.resolution.kept.callee c.args.resolution.kept.argcount c.args.resolution.kept.overloads) c.args.resolution.kept.place c.class.result false) same c.pick_overload.ensures))
+    ∙ sym (picked_other (defs_term c.args.tables.now.defs) c.args.resolution.value.kept c.args.resolution.value.overload c.class.result c.args.value _ (idl_terms c.args.resolution.value.made) c.pick.result (Probe c.in-Probe.field-0) (c.args.resolution.value.several c.requires.none) c.requires.none c.class.ensures c.in-Probe.is
+    (subst (λ (r : Resolution). c.pick.result ≡ pick_kept (defs_term c.args.tables.now.defs) (entries_for (defs_term c.args.tables.now.defs) r.kept.callee r.kept.argcount r.kept.overloads) r.kept.place c.class.result false) c.deref.ensures c.pick.ensures))
+
+pub returns-in-Refuse-clause-dialog : goal.returns-in-Refuse-clause-dialog
+returns-in-Refuse-clause-dialog c =
+    c.throws.ensures.dialog (defs_term c.args.tables.now.defs)
+    ∙ sym (picked_other (defs_term c.args.tables.now.defs) c.args.resolution.value.kept c.args.resolution.value.overload c.class.result c.args.value _ (idl_terms c.args.resolution.value.made) c.pick.result Refuse (c.args.resolution.value.several c.requires.none) c.requires.none c.class.ensures c.in-Refuse.is
+    (subst (λ (r : Resolution). c.pick.result ≡ pick_kept (defs_term c.args.tables.now.defs) (entries_for (defs_term c.args.tables.now.defs) r.kept.callee r.kept.argcount r.kept.overloads) r.kept.place c.class.result false) c.deref.ensures c.pick.ensures))

@@ -12,7 +12,9 @@ use Rattle.widl_value.specs.declared.object.ObjRef.{ObjRef}
 use Rattle.widl_value.specs.declared.value.Value.TheVariants.{Obj}
 use Rattle.widl_tables.specs.Picks.{pick_member_of}
 use Rattle.widl_convert.specs.AskTerms.{GetAsk}
+use Rattle.widl_convert.specs.declared.union.UnionProbe.{UnionProbe}
 use Rattle.widl_convert.specs.Built.{built_today}
+use Rattle.widl_convert.specs.Frames.{union_to}
 use Rattle.widl_convert.specs.Scalars.{convert_plain}
 use Rattle.widl_convert.specs.Sequences.{element_of, if_sequences, iterator_symbol}
 use Rattle.widl_convert.specs.Unions.{member_from, to_member, without_iterator}
@@ -30,4 +32,5 @@ returns-clause-dialog c =
     ∙ sym (c.later_member.ensures (convert_plain built_today list) (Obj c.args.obj))
     ∙ ap (λ (k : Class). without_iterator (convert_plain built_today list) ts (Obj c.args.obj) (pick_member_of list ts k true)) c.class.ensures in
     c.asks.ensures.dialog list
+    ∙ ap (λ (p : UnionProbe). Say (GetAsk p.obj (Sym iterator_symbol)) (normal (union_to list p))) c.in_ok-new.ensures.ok
     ∙ (λ i. Say (GetAsk c.args.obj (Sym iterator_symbol)) (normal (method_or (otherwise i) (λ (method : ObjRef). if_sequences built_today (member_from c.args.obj method (element i))))))

@@ -1,0 +1,15 @@
+use Rattle.std.proofs.Common.{refl}
+use Rattle.widl_idl.specs.DefinitionTerms.{defs_term}
+use Rattle.widl_convert.specs.declared.moves.Move.TheVariants.{Steps}
+use Rattle.widl_convert.proofs.Suspending.{ended_for, step_less, stepped}
+use Rattle.widl_convert.proofs.settle.enter.Goals as goal
+
+pub returns-in-Gives-clause-follows : goal.returns-in-Gives-clause-follows
+returns-in-Gives-clause-follows c =
+    ended_for (defs_term c.args.tables.now.defs) c.args.frame c.args.job c.in-Gives.ending _ c.args.frames.now c.returned.result c.in_ok-next.ensures.leads c.in_ok-next.ensures.weight c.in-Gives.is c.returned.ensures.dialog c.returned.ensures.weight
+
+pub returns-in_ok-push-in_default : goal.returns-in_ok-push-in_default
+returns-in_ok-push-in_default c = record {
+  follows = λ d bound follows. stepped follows refl c.in_ok-push-in_default.ensures c.in_ok-next.ensures.leads c.in_ok-next.ensures.weight;
+  less = step_less (defs_term c.args.tables.now.defs) c.args.frame c.args.job (Steps c.args.frame c.args.job) _ c.args.frames.now c.push.new.self refl c.in_ok-push-in_default.ensures c.in_ok-next.ensures.weight;
+}
