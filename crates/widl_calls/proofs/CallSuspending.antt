@@ -1,5 +1,7 @@
 -- Each move of a suspended call leads on, and leaves less without a charge.
-use Rattle.std.proofs.Common.{◌≡◌, ℕ, ◌+◌, ◌≤◌, ◌<◌, List, [], ◌∷◌, ◌++◌, sym, ap, subst, ◌∙◌, arith}
+use Rattle.std.proofs.Common.{◌≡◌, ℕ, ◌+◌, ◌≤◌, ◌<◌, List, [], ◌∷◌, ◌++◌, refl, sym, ap, subst, ◌∙◌, arith}
+use Rattle.std.specs.Prelude.{Result, Ok, Err, IfOk}
+use Rattle.std.specs.declared.alloc.AllocError.{AllocError}
 use Rattle.widl_dialog.specs.Stack.{stack_load}
 use Rattle.widl_dialog.proofs.Positions.{here}
 use Rattle.widl_dialog.proofs.Stacking as stacking
@@ -59,3 +61,22 @@ module _ {list : DefsTerm} {steps : StepsOf} where
   gave {m = m} {m' = m'} {r = r} {old = old} {fs = fs} f follows is is_old is_move less =
       let down = give_less list f r m m' old fs is is_old less in
       record { place = stacking.gave (call_rule calls_built_today list steps) Fits (call_returned_to list steps) f old fs (end_of r) (at_move follows is).place is_old (here (call_rule calls_built_today list steps) Fits (sym is_move)); less = omega (arith, down, follows.less) }
+
+  -- a task that has ended with its first move: its frame is never put on the others
+  pub ended : {d : CallTalk} {bound : ℕ} {m m' : CallMove} {f : CallFrame} {j : CallJob} {r : Ending} {fs : List CallFrame} → CallFollows list steps d bound (moves.Steps f j) fs → CallLeads list steps (call_rule calls_built_today list steps (call_job_of list steps j)) (call_dialog list steps m) → call_weight list m ≤ job_load list j → m ≡ moves.Gives r → call_dialog list steps m' ≡ call_returned_to list steps f (end_of r) → call_weight list m' < call_frame_load f + given_load (end_of r) → CallFollows list steps d bound m' fs
+  ended {f = f} follows leads less is is_next less_next = gave f (stepped follows refl refl leads less) is refl is_next less_next
+
+pub end_less : (list : DefsTerm) (f : CallFrame) (j : CallJob) (r : Ending) (m m' : CallMove) (fs : List CallFrame) → call_weight list m ≤ job_load list j → m ≡ moves.Gives r → call_weight list m' < call_frame_load f + given_load (end_of r) → stack_load call_frame_load fs + call_weight list m' < stack_load call_frame_load fs + call_weight list (moves.Steps f j)
+end_less list f j r m m' fs less is less_next =
+    let b : call_weight list m ≡ given_load (end_of r) = ap (call_weight list) is in
+    omega (arith, b, less, less_next)
+
+pub ended_for : (list : DefsTerm) (steps : StepsOf) (f : CallFrame) (j : CallJob) (r : Ending) (m : CallMove) (fs : List CallFrame) (result : Result CallMove AllocError) → CallLeads list steps (call_rule calls_built_today list steps (call_job_of list steps j)) (call_dialog list steps m) → call_weight list m ≤ job_load list j → m ≡ moves.Gives r → IfOk result (λ m'. call_dialog list steps m' ≡ call_returned_to list steps f (end_of r)) → IfOk result (λ m'. call_weight list m' < call_frame_load f + given_load (end_of r))
+    → IfOk result (λ m'. (d : CallTalk) (bound : ℕ) → CallFollows list steps d bound (moves.Steps f j) fs → CallFollows list steps d bound m' fs)
+ended_for list steps f j r m fs (Ok m') leads less is is_next less_next = λ d bound follows. ended follows leads less is is_next less_next
+ended_for list steps f j r m fs (Err none) leads less is is_next less_next = tt
+
+pub end_less_for : (list : DefsTerm) (f : CallFrame) (j : CallJob) (r : Ending) (m : CallMove) (fs : List CallFrame) (result : Result CallMove AllocError) → call_weight list m ≤ job_load list j → m ≡ moves.Gives r → IfOk result (λ m'. call_weight list m' < call_frame_load f + given_load (end_of r))
+    → IfOk result (λ m'. stack_load call_frame_load fs + call_weight list m' < stack_load call_frame_load fs + call_weight list (moves.Steps f j))
+end_less_for list f j r m fs (Ok m') less is less_next = end_less list f j r m m' fs less is less_next
+end_less_for list f j r m fs (Err none) less is less_next = tt

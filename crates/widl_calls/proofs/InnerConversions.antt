@@ -52,7 +52,3 @@ quiet_kind Ended x = absurd x
 pub under_free : (list : DefsTerm) (asker : Asker) (r : Result CallMove AllocError) (n : ℕ) → IfOk r (λ m. IsQuiet asker → call_weight list m ≤ n) → IfOk r (λ m. IsFree (kind_in asker) → call_weight list m ≤ n)
 under_free list asker (Ok m) n x = λ free. x (quiet_kind asker.state free)
 under_free list asker (Err e) n x = tt
-
-pub at_start : (list : DefsTerm) (asker : Asker) (r : Result CallMove AllocError) (n : ℕ) → IsQuiet asker → IfOk r (λ m. IsQuiet asker → call_weight list m ≤ n) → IfOk r (λ m. call_weight list m ≤ n)
-at_start list asker (Ok m) n ready x = x ready
-at_start list asker (Err e) n ready x = tt

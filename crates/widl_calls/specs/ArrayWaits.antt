@@ -34,9 +34,9 @@ array_after (waits.Cursor iterator) = λ a. by_cursor iterator (cursor_in a)
 array_after (waits.Begun t) = done (with_turn t)
 array_after (waits.Length t) = read_in_turn t.iterator t.next (length_read t.iterator t.of t.next)
 array_after (waits.Element t) = read_in_turn t.iterator t.next (element_read t.iterator t.next)
-array_after (waits.Given v) = done (iterator_result v false)
+array_after (waits.Given v) = done (iterator_result v.value false)
 array_after waits.AtEnd = done (iterator_result values.Undefined true)
-array_after (waits.Threw r) = done (End (end_of r))
+array_after (waits.Threw r) = done (End (end_of r.value))
 array_after waits.NewResult = normal returns
 
 -- what a wait does after the answer to an ask that takes no charge: cursors take none
@@ -54,5 +54,5 @@ array_patience (waits.Length t) = 0
 array_patience (waits.Element t) = 0
 array_patience (waits.Given v) = moved_load
 array_patience waits.AtEnd = moved_load
-array_patience (waits.Threw r) = moved_load + given_load (end_of r)
+array_patience (waits.Threw r) = moved_load + given_load (end_of r.value)
 array_patience waits.NewResult = 0

@@ -1,9 +1,10 @@
 -- For proofs and contracts alone; no step names these words. The values of arguments that a suspended call keeps.
+use Rattle.std.specs.Global.{Box}
 use Rattle.std.specs.Prelude.{List, [], ◌∷◌, Option, Some, None}
 use Rattle.widl_value.specs.IdlTerms.{idl_term}
 use Rattle.widl_calls.specs.declared.step_lines.NamedValue.{NamedValue}
 use Rattle.widl_calls.specs.CallTasks.{NamedValues}
 
-abbrev pub named_terms : Option NamedValue → NamedValues
+abbrev pub named_terms : Option (Box NamedValue) → NamedValues
 named_terms None = []
-named_terms (Some named) = (named.number, idl_term named.value) ∷ []
+named_terms (Some named) = (named.value.number, idl_term named.value.value) ∷ []

@@ -85,11 +85,11 @@ pub(crate) fn array_answered(
         ArrayWait::NewIterator => Ok(made(answer)),
         ArrayWait::Cursor(iterator) => by_cursor(alloc, iterator, answer),
         ArrayWait::Begun(turn) => begun(alloc, turn),
-        ArrayWait::Length(turn) => Ok(length_read(turn, answer)),
-        ArrayWait::Element(turn) => Ok(element_read(turn, answer)),
-        ArrayWait::Given(value) => iterator_result(alloc, value, false),
+        ArrayWait::Length(turn) => length_read(alloc, turn, answer),
+        ArrayWait::Element(turn) => element_read(alloc, turn, answer),
+        ArrayWait::Given(value) => iterator_result(alloc, Box::into_inner(value), false),
         ArrayWait::AtEnd => iterator_result(alloc, Value::Undefined, true),
-        ArrayWait::Threw(ending) => Ok(CallMove::Gives(ending)),
+        ArrayWait::Threw(ending) => Ok(CallMove::Gives(Box::into_inner(ending))),
         ArrayWait::NewResult => Ok(made(answer)),
     }
 }
@@ -176,11 +176,21 @@ fn sets(iterator: ObjRef, next: u64, turn: Turn, wait: ArrayWait) -> CallMove
 }
 
 /// A turn that throws ends the iterator first.
-fn throws(iterator: ObjRef, next: u64, ending: Ending) -> CallMove
-    ensures dialog { (list : DefsTerm) (steps : StepsOf) → call_dialog list steps result ≡ ends_iterator iterator next (End (end_of ending)) }
-    ensures weight { (list : DefsTerm) → call_weight list result ≡ moved_load + given_load (end_of ending) }
+///
+/// # Errors
+///
+/// `AllocError` where there is no memory.
+fn throws(
+    alloc: Global,
+    iterator: ObjRef,
+    next: u64,
+    ending: Ending,
+) -> Result<CallMove, AllocError>
+    ensures dialog { IfOk result (λ m. (list : DefsTerm) (steps : StepsOf) → call_dialog list steps m ≡ ends_iterator iterator next (End (end_of ending))) }
+    ensures weight { IfOk result (λ m. (list : DefsTerm) → call_weight list m ≡ moved_load + given_load (end_of ending)) }
 {
-    sets(iterator, next, Turn::Ended, ArrayWait::Threw(ending))
+    let wait = ArrayWait::Threw(Box::new(alloc, ending)?);
+    Ok(sets(iterator, next, Turn::Ended, wait))
 }
 
 /// A turn reads the length of its array first.
@@ -197,13 +207,17 @@ fn begun(alloc: Global, turn: ArrayTurn) -> Result<CallMove, AllocError>
 }
 
 /// The move after the read of a length.
-fn length_read(turn: ArrayTurn, answer: Answer) -> CallMove
-    ensures { (list : DefsTerm) (steps : StepsOf) → call_dialog list steps result ≡ read_in_turn turn.iterator turn.next (length_read turn.iterator turn.of turn.next) (answer_term answer) }
+///
+/// # Errors
+///
+/// `AllocError` where there is no memory.
+fn length_read(alloc: Global, turn: ArrayTurn, answer: Answer) -> Result<CallMove, AllocError>
+    ensures { IfOk result (λ m. (list : DefsTerm) (steps : StepsOf) → call_dialog list steps m ≡ read_in_turn turn.iterator turn.next (length_read turn.iterator turn.of turn.next) (answer_term answer)) }
 {
     match answer {
-        Answer::Thrown(value) => throws(turn.iterator, turn.next, Ending::Rethrow(value)),
-        Answer::Normal(value) => to_length(turn, value),
-        _ => to_length(turn, Value::Undefined),
+        Answer::Thrown(value) => throws(alloc, turn.iterator, turn.next, Ending::Rethrow(value)),
+        Answer::Normal(value) => Ok(to_length(turn, value)),
+        _ => Ok(to_length(turn, Value::Undefined)),
     }
 }
 
@@ -228,8 +242,8 @@ pub(crate) fn length_given(
     ensures weight { IfOk result (λ m. (list : DefsTerm) → call_weight list m < length_load + given_load (end_of ending)) }
 {
     match ending {
-        Ending::Throw(reason) => Ok(throws(turn.iterator, turn.next, Ending::Throw(reason))),
-        Ending::Rethrow(value) => Ok(throws(turn.iterator, turn.next, Ending::Rethrow(value))),
+        Ending::Throw(reason) => throws(alloc, turn.iterator, turn.next, Ending::Throw(reason)),
+        Ending::Rethrow(value) => throws(alloc, turn.iterator, turn.next, Ending::Rethrow(value)),
         Ending::Done(Outcome::Script(Value::Num(number))) => {
             with_length(alloc, turn, length_of_number(number))
         }
@@ -271,21 +285,32 @@ fn index_key(alloc: Global, index: u64) -> Result<Key, AllocError>
     Ok(Key::Name(text))
 }
 
-/// The move after the read of an element: the iterator waits for its next turn.
-fn element_read(turn: ElementTurn, answer: Answer) -> CallMove
-    ensures { (list : DefsTerm) (steps : StepsOf) → call_dialog list steps result ≡ read_in_turn turn.iterator turn.next (element_read turn.iterator turn.next) (answer_term answer) }
+/// The move after the read of an element.
+///
+/// # Errors
+///
+/// `AllocError` where there is no memory.
+fn element_read(alloc: Global, turn: ElementTurn, answer: Answer) -> Result<CallMove, AllocError>
+    ensures { IfOk result (λ m. (list : DefsTerm) (steps : StepsOf) → call_dialog list steps m ≡ read_in_turn turn.iterator turn.next (element_read turn.iterator turn.next) (answer_term answer)) }
+{
+    match answer {
+        Answer::Thrown(value) => throws(alloc, turn.iterator, turn.next, Ending::Rethrow(value)),
+        Answer::Normal(value) => gives_element(alloc, turn, value),
+        _ => gives_element(alloc, turn, Value::Undefined),
+    }
+}
+
+/// The move of a turn that gives an element: the iterator waits for its next turn.
+///
+/// # Errors
+///
+/// `AllocError` where there is no memory.
+fn gives_element(alloc: Global, turn: ElementTurn, value: Value) -> Result<CallMove, AllocError>
+    ensures { IfOk result (λ m. (list : DefsTerm) (steps : StepsOf) → call_dialog list steps m ≡ element_read turn.iterator turn.next value) }
 {
     let ElementTurn { iterator, next } = turn;
-    match answer {
-        Answer::Thrown(value) => throws(iterator, next, Ending::Rethrow(value)),
-        Answer::Normal(value) => sets(iterator, next + 1, Turn::Idle, ArrayWait::Given(value)),
-        _ => sets(
-            iterator,
-            next + 1,
-            Turn::Idle,
-            ArrayWait::Given(Value::Undefined),
-        ),
-    }
+    let wait = ArrayWait::Given(Box::new(alloc, value)?);
+    Ok(sets(iterator, next + 1, Turn::Idle, wait))
 }
 
 /// The result of a turn is made (ECMA-262, "CreateIterResultObject").

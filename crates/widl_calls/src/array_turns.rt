@@ -40,11 +40,11 @@ pub enum ArrayWait {
     /// A turn, for its element.
     Element(ElementTurn),
     /// A turn that is over, for the index that comes next, with its element.
-    Given(Value),
+    Given(Box<Value>),
     /// A turn that found no element, for the iterator that ends.
     AtEnd,
     /// A turn that threw, for the iterator that ends, with what it threw.
-    Threw(Ending),
+    Threw(Box<Ending>),
     /// `next`, for the object of its result.
     NewResult,
 }

@@ -35,7 +35,7 @@ pub enum CallJob {
         /// The overload.
         overload: Overload,
         /// The value of the argument that they read.
-        read: Option<NamedValue>,
+        read: Option<Box<NamedValue>>,
     },
     /// `undefined` to an IDL value of the type of an overload's result.
     OfUndefined(Overload),

@@ -10,6 +10,7 @@ use crate::waits::CallWait;
 use widl_convert::{Ask, Ending};
 
 /// An ask that goes out, with what waits for its answer.
+#[derive(Drop)]
 pub struct CallAsking {
     /// The ask.
     pub ask: Ask,
@@ -19,6 +20,7 @@ pub struct CallAsking {
 }
 
 /// What a call does next.
+#[derive(Drop)]
 pub enum CallMove {
     /// It asks.
     Asks(CallAsking),

@@ -19,7 +19,7 @@ use crate::moves::{CallAsking, CallMove};
 use crate::overload::{Overload, gives_promise};
 use crate::step_lines::read_value;
 use crate::waits::CallWait;
-use std::alloc::AllocError;
+use std::alloc::{AllocError, Global};
 use widl_convert::{Ask, Ending, Outcome};
 use widl_idl::{Callee, Owner};
 use widl_script_tree::Script;
@@ -57,6 +57,7 @@ fn of_namespace(tables: &Tables, callee: Callee, args: Arguments) -> CallMove
 ///
 /// `AllocError` where there is no memory.
 pub(crate) fn chosen(
+    alloc: Global,
     tables: &Tables,
     script: &Script,
     callee: Callee,
@@ -67,6 +68,7 @@ pub(crate) fn chosen(
 {
     match ending {
         Ending::Done(Outcome::Chosen { overload, values }) => noted(
+            alloc,
             tables,
             script,
             Overload {
@@ -86,6 +88,7 @@ pub(crate) fn chosen(
 ///
 /// `AllocError` where there is no memory.
 fn noted(
+    alloc: Global,
     tables: &Tables,
     script: &Script,
     overload: Overload,
@@ -94,7 +97,7 @@ fn noted(
     ensures dialog { IfOk result (λ m. call_dialog (defs_term tables.now.defs) (steps_over tables.now script.now) m ≡ chosen (defs_term tables.now.defs) (steps_over tables.now script.now) overload.callee (Picks overload.number (idl_terms values))) }
     ensures weight { IfOk result (λ m. call_weight (defs_term tables.now.defs) m ≡ 0) }
 {
-    let read = read_value(overload.lines(tables, script), &values)?;
+    let read = read_value(alloc, overload.lines(tables, script), &values)?;
     Ok(CallMove::Asks(CallAsking {
         ask: Ask::Note(Event::Op {
             callee: overload.callee,

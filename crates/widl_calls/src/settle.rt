@@ -1,17 +1,18 @@
 //! From a move to the next ask or the end.
 
-ghost use Rattle.std.specs.Prelude.{◌≡◌, ◌+◌, ◌++◌, [], ◌∷◌, IfNone, IfSome, true};
+ghost use Rattle.std.specs.Prelude.{ℕ, ◌≡◌, ◌+◌, ◌<◌, ◌++◌, [], ◌∷◌, IfNone, IfOk, IfSome};
 ghost use Rattle.widl_dialog.specs.Stack.{stack_load};
 ghost use Rattle.widl_idl.specs.DefinitionTerms.{defs_term};
+ghost use Rattle.widl_calls.specs.CallTasks.{CallTalk};
 ghost use Rattle.widl_calls.specs.FoundSteps.{steps_over};
 ghost use Rattle.widl_calls.specs.Frames.{call_frame_load, call_weight};
-ghost use Rattle.widl_calls.specs.Stack.{CallSettles, call_moves_on};
+ghost use Rattle.widl_calls.specs.Stack.{CallFollows, CallSettles, call_moves_on};
 
 use crate::frames::CallFrame;
 use crate::jobs::CallJob;
 use crate::moves::{CallAsking, CallMove};
 use crate::steps::{begin, returned};
-use std::alloc::Global;
+use std::alloc::{AllocError, Global};
 use widl_convert::Ending;
 use widl_script_tree::Script;
 use widl_tables::Tables;
@@ -50,11 +51,7 @@ pub(crate) fn settle(
                 }
             }
             CallMove::Steps(frame, job) => {
-                if !push(frames, frame) {
-                    let_go(job);
-                    return CallSettled::Memory;
-                }
-                match begin(alloc, tables, script, job) {
+                match enter(alloc, tables, script, frames, frame, job) {
                     Ok(next) => current = next,
                     Err(_) => return CallSettled::Memory,
                 }
@@ -67,17 +64,29 @@ pub(crate) fn settle(
     }
 }
 
-/// A job isn't begun. It is dropped here alone, since a function pays for the room of all that it may drop.
-#[inline(never)]
-fn let_go(_job: CallJob) {}
-
-/// Puts a frame on the others; not where there is no memory.
-fn push(frames: &mut Vec<CallFrame>, frame: CallFrame) -> bool
-    ensures { result ≡ true → frames.new.items ≡ frames.old.items ++ frame ∷ [] }
+/// The move after the first one of a task, whose end is for a frame. The frame is put on the others only where the task
+/// hasn't ended yet.
+///
+/// # Errors
+///
+/// `AllocError` where there is no memory.
+fn enter(
+    alloc: Global,
+    tables: &Tables,
+    script: &Script,
+    frames: &mut Vec<CallFrame>,
+    frame: CallFrame,
+    job: CallJob,
+) -> Result<CallMove, AllocError>
+    ensures follows { IfOk result (λ m. (d : CallTalk) (bound : ℕ) → CallFollows (defs_term tables.now.defs) (steps_over tables.now script.now) d bound (CallMove.Steps frame job) frames.old.items → CallFollows (defs_term tables.now.defs) (steps_over tables.now script.now) d bound m frames.new.items) }
+    ensures less { IfOk result (λ m. stack_load call_frame_load frames.new.items + call_weight (defs_term tables.now.defs) m < stack_load call_frame_load frames.old.items + call_weight (defs_term tables.now.defs) (CallMove.Steps frame job)) }
 {
-    match frames.push(frame) {
-        Ok(()) => true,
-        Err(_) => false,
+    match begin(alloc, tables, script, job)? {
+        CallMove::Gives(ending) => returned(alloc, tables, script, frame, ending),
+        next => {
+            frames.push(frame)?;
+            Ok(next)
+        }
     }
 }
 

@@ -82,12 +82,16 @@ fn arg_of_lines(lines: &[StepLine]) -> Option<u32>
 /// # Errors
 ///
 /// `AllocError` where there is no memory.
-fn value_of(number: u32, values: &IdlValues) -> Result<Option<NamedValue>, AllocError>
+fn value_of(
+    alloc: Global,
+    number: u32,
+    values: &IdlValues,
+) -> Result<Option<Box<NamedValue>>, AllocError>
     ensures { IfOk result (λ named. named_terms named ≡ option_map_or (λ w. (number, w) ∷ []) (slice_get (idl_terms values.now) number) []) }
 {
     if (number as usize) < values.len() {
         let value = values.at(number as usize).copy()?;
-        Ok(Some(NamedValue { number, value }))
+        Ok(Some(Box::new(alloc, NamedValue { number, value })?))
     } else {
         Ok(None)
     }
@@ -99,14 +103,15 @@ fn value_of(number: u32, values: &IdlValues) -> Result<Option<NamedValue>, Alloc
 ///
 /// `AllocError` where there is no memory.
 pub(crate) fn read_value(
+    alloc: Global,
     lines: &[StepLine],
     values: &IdlValues,
-) -> Result<Option<NamedValue>, AllocError>
+) -> Result<Option<Box<NamedValue>>, AllocError>
     ensures { IfOk result (λ named. named_terms named ≡ read_values lines.now (idl_terms values.now)) }
 {
     match arg_of_lines(lines) {
         None => Ok(None),
-        Some(number) => value_of(number, values),
+        Some(number) => value_of(alloc, number, values),
     }
 }
 
@@ -120,7 +125,7 @@ pub(crate) fn lines(
     tables: &Tables,
     script: &Script,
     overload: Overload,
-    read: Option<NamedValue>,
+    read: Option<Box<NamedValue>>,
 ) -> Result<CallMove, AllocError>
     ensures dialog { IfOk result (λ m. call_dialog (defs_term tables.now.defs) (steps_over tables.now script.now) m ≡ lines built_today (defs_term tables.now.defs) (result_type (defs_term tables.now.defs) overload.callee overload.number) (named_terms read) (steps_over tables.now script.now overload.callee overload.number)) }
     ensures weight { IfOk result (λ m. call_weight (defs_term tables.now.defs) m ≤ default_load (defs_term tables.now.defs) overload) }
@@ -144,7 +149,7 @@ pub(crate) fn first_line(
     tables: &Tables,
     script: &Script,
     overload: Overload,
-    read: Option<NamedValue>,
+    read: Option<Box<NamedValue>>,
 ) -> Result<CallMove, AllocError>
     ensures { IfOk result (λ m. CallLeads (defs_term tables.now.defs) (steps_over tables.now script.now) (first_line (defs_term tables.now.defs) (result_type (defs_term tables.now.defs) overload.callee overload.number) (named_terms read) (steps_over tables.now script.now overload.callee overload.number)) (call_dialog (defs_term tables.now.defs) (steps_over tables.now script.now) m)) }
 {
@@ -163,7 +168,7 @@ fn do_line(
     alloc: Global,
     tables: &Tables,
     overload: Overload,
-    read: Option<NamedValue>,
+    read: Option<Box<NamedValue>>,
     line: &StepLine,
 ) -> Result<CallMove, AllocError>
     ensures { IfOk result (λ m. (steps : StepsOf) → CallLeads (defs_term tables.now.defs) steps (line_talk (result_type (defs_term tables.now.defs) overload.callee overload.number) (named_terms read) line.now) (call_dialog (defs_term tables.now.defs) steps m)) }
@@ -188,7 +193,7 @@ fn return_line(
     alloc: Global,
     tables: &Tables,
     overload: Overload,
-    read: Option<NamedValue>,
+    read: Option<Box<NamedValue>>,
     source: &Source,
 ) -> Result<CallMove, AllocError>
     ensures { IfOk result (λ m. (steps : StepsOf) → CallLeads (defs_term tables.now.defs) steps (return_line (result_type (defs_term tables.now.defs) overload.callee overload.number) (named_terms read) source.now) (call_dialog (defs_term tables.now.defs) steps m)) }
@@ -201,12 +206,12 @@ fn return_line(
 }
 
 /// The end with the value of the argument of a number.
-fn return_arg(read: Option<NamedValue>, number: u32) -> CallMove
+fn return_arg(read: Option<Box<NamedValue>>, number: u32) -> CallMove
     ensures { (list : DefsTerm) (steps : StepsOf) → call_dialog list steps result ≡ argument_value (lookup (nat_eq number) (named_terms read)) }
 {
     match read {
         None => fails(Code::NoValue),
-        Some(named) => return_named(named, number),
+        Some(named) => return_named(Box::into_inner(named), number),
     }
 }
 

@@ -205,7 +205,7 @@ pub(crate) fn returned(
     ensures weight { IfOk result (λ m. call_weight (defs_term tables.now.defs) m < call_frame_load frame + given_load (end_of ending)) }
 {
     match frame {
-        CallFrame::Chosen(callee) => chosen(tables, script, callee, ending),
+        CallFrame::Chosen(callee) => chosen(alloc, tables, script, callee, ending),
         CallFrame::Result(overload) => Ok(result(overload, ending)),
         CallFrame::Length(turn) => length_given(alloc, turn, ending),
     }

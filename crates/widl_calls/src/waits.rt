@@ -16,14 +16,14 @@ pub enum CallWait {
         /// The overload.
         overload: Overload,
         /// The value of the argument that they read.
-        read: Option<NamedValue>,
+        read: Option<Box<NamedValue>>,
     },
     /// The next line of these steps, for which a unit is taken.
     Line {
         /// The overload.
         overload: Overload,
         /// The value of the argument that they read.
-        read: Option<NamedValue>,
+        read: Option<Box<NamedValue>>,
     },
     /// `toString`, for the tag of this object.
     Tag(ObjRef),
