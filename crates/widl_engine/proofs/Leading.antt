@@ -1,6 +1,6 @@
 -- For proofs alone. One place of a machine after another.
 use Rattle.std.proofs.Common.{◌≡◌, ℕ, ◌+◌, ◌-◌, List, [], ◌∷◌, ◌++◌, length, sym, ap, subst, ◌∙◌, refl, arith, length-append}
-use Rattle.widl_dialog.specs.Dialog.{Say, bind}
+use Rattle.widl_dialog.specs.Dialog.{Say, Steps, bind}
 use Rattle.widl_dialog.specs.Follows.{Follows}
 use Rattle.widl_dialog.specs.Position.{At}
 use Rattle.widl_dialog.proofs.Positions.{at_bind}
@@ -144,6 +144,19 @@ module _ (p : Program) (s : Tables) where
           comes = λ b ls. begun (job_of s j) k (world s t m b ls) (comes_then (comes_same tree refl) (comes_under r next m n t taken place x b ls));
         };
         less = let e = ap (λ (l : List Frame). length l) frames in let h = length-append m.frames.items (f ∷ []) in omega (arith, e, h);
+      }
+
+  -- a frame that is put on the others
+  pub pushed : (t : StoreState) (m n : Machine) (f : Frame) (j : jobs.Job) → n.place ≡ m.place → n.taken ≡ m.taken → n.budget ≡ m.budget → n.frames.items ≡ m.frames.items ++ f ∷ [] → Leads p s t (moves_on p s (move.Steps f j) m) m t (moves_on p s (move.Goes j) n) n
+  pushed t m n f j place taken budget frames =
+      let back : (c : JobEnd) → bind (back_to p s f c) (under p s m.frames.items) ≡ under p s (m.frames.items ++ f ∷ []) c = λ c. sym (under_push p s m.frames.items f c) in
+      let tree : moves_on p s (move.Steps f j) m ≡ moves_on p s (move.Goes j) n = (λ i. Steps (job_of s j) (λ c. back c i)) ∙ ap (λ (l : List Frame). Steps (job_of s j) (under p s l)) (sym frames) in
+      record {
+        taken = taken;
+        budget = budget;
+        between = 0;
+        follows = λ b ls. follows_same _ _ tree (same_world s t m n b ls place taken);
+        comes = λ b ls. comes_same tree (same_world s t m n b ls place taken);
       }
 
   pub went : (t : StoreState) (m : Machine) (next : Move) (j : jobs.Job) → LeadsTo p s (rule p (job_of s j)) next → Moves p s t (moves_on p s (move.Goes j) m) m t (moves_on p s next m) m

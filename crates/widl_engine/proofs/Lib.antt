@@ -21,3 +21,4 @@ pub mod PaidSteps
 pub mod RunnableTables
 pub mod WholeRuns
 pub mod TraceEnds
+pub mod ValuesAtOnce

@@ -16,7 +16,7 @@ use Rattle.widl_runs.specs.Fitting.{begun}
 use Rattle.widl_runs.specs.Jobs.{Program, Doing, Evaluate}
 use Rattle.widl_runs.specs.Rules.{rule}
 use Rattle.widl_runs.specs.Statements.{binds, run_statements}
-use Rattle.widl_engine.specs.AtOnce.{GoesOnWith, binding}
+use Rattle.widl_engine.specs.AtOnce.{BeginWithUnit, GoesOnWith, binding}
 use Rattle.widl_engine.specs.declared.at_once.Binding.{Binding}
 use Rattle.widl_engine.specs.declared.charges.Charge.TheVariants as charge
 use Rattle.widl_engine.specs.declared.charges.Unit.TheVariants as unit
@@ -68,17 +68,21 @@ module _ (p : Program) (s : Tables) where
       then_leads (evaluated t m b is)
       (acted p s t t m n (due.Bind b.name b.value then_what.Ends) (move.Gives (completed (completions.Normal values.Undefined))) (performed IsDone x.went refl) frames taken budget).place
 
-  -- the next statement of the frame that was taken takes its unit
-  pub next_taken : (t : StoreState) (m n o q : Machine) (f : Frame) (row : Row) (v : Value) → GoesOnWith s f row → m.frames.items ≡ n.frames.items ++ f ∷ [] → n.place ≡ m.place → n.taken ≡ m.taken → n.budget ≡ m.budget → o.frames.items ≡ n.frames.items ++ frame.Value (goes_on.NextStatements (rest_of row)) ∷ [] → o.place ≡ n.place → o.taken ≡ n.taken → o.budget ≡ n.budget → q.due ≡ charge.Unit (unit.Statement row.first) → q.place ≡ o.place → q.frames.items ≡ o.frames.items → q.taken ≡ o.taken → q.budget ≡ o.budget → Leads p s t (moves_on p s (move.Gives (completed (completions.Normal v))) m) m t (still p s q) q
-  next_taken t m n o q f row v x popped place taken budget pushed place_o taken_o budget_o due_q place_q frames_q taken_q budget_q =
+  -- the first of these statements takes its unit
+  pub first_taken : (t : StoreState) (m n q : Machine) (row : Row) → BeginWithUnit s row → n.frames.items ≡ m.frames.items ++ frame.Value (goes_on.NextStatements (rest_of row)) ∷ [] → n.place ≡ m.place → n.taken ≡ m.taken → n.budget ≡ m.budget → q.due ≡ charge.Unit (unit.Statement row.first) → q.place ≡ n.place → q.frames.items ≡ n.frames.items → q.taken ≡ n.taken → q.budget ≡ n.budget → Leads p s t (moves_on p s (move.Goes (job.Statements row)) m) m t (still p s q) q
+  first_taken t m n q row x pushed place_n taken_n budget_n due_q place_q frames_q taken_q budget_q =
       let rest : Frame = frame.Value (goes_on.NextStatements (rest_of row)) in
-      let goes : Move = move.Goes (job.Statements row) in
       let first : Move = move.Steps rest (job.Statement row.first) in
       let pays : Move = move.Pays (charge.Unit (unit.Statement row.first)) in
-      then_leads (gave p s t m n goes f (completed (completions.Normal v)) place taken budget popped (leads_is p s (back_to p s f (Normal v)) goes (ap (λ (g : Frame). back_to p s g (Normal v)) (sym x.next)))).place
-      (then_leads (went p s t n first (job.Statements row) (leads_is p s (rule p (job_of s (job.Statements row))) first (ap (λ (ts : StatementTrees). run_statements ts) (sym x.opens)))).place
-      (then_leads (stepped p s t n o pays rest (job.Statement row.first) place_o taken_o budget_o pushed (leads_is p s (rule p (job_of s (job.Statement row.first))) pays (sym x.pays))).place
-      (rested p s t o q (charge.Unit (unit.Statement row.first)) due_q place_q frames_q taken_q budget_q)))
+      then_leads (went p s t m first (job.Statements row) (leads_is p s (rule p (job_of s (job.Statements row))) first (ap (λ (ts : StatementTrees). run_statements ts) (sym x.opens)))).place
+      (then_leads (stepped p s t m n pays rest (job.Statement row.first) place_n taken_n budget_n pushed (leads_is p s (rule p (job_of s (job.Statement row.first))) pays (sym x.pays))).place
+      (rested p s t n q (charge.Unit (unit.Statement row.first)) due_q place_q frames_q taken_q budget_q))
+
+  -- the next statement of the frame that was taken takes its unit
+  pub next_taken : (t : StoreState) (m n q : Machine) (f : Frame) (row : Row) (v : Value) → GoesOnWith s f row → m.frames.items ≡ n.frames.items ++ f ∷ [] → n.place ≡ m.place → n.taken ≡ m.taken → n.budget ≡ m.budget → Leads p s t (moves_on p s (move.Goes (job.Statements row)) n) n t (still p s q) q → Leads p s t (moves_on p s (move.Gives (completed (completions.Normal v))) m) m t (still p s q) q
+  next_taken t m n q f row v x popped place taken budget first =
+      let goes : Move = move.Goes (job.Statements row) in
+      then_leads (gave p s t m n goes f (completed (completions.Normal v)) place taken budget popped (leads_is p s (back_to p s f (Normal v)) goes (ap (λ (g : Frame). back_to p s g (Normal v)) (sym x.next)))).place first
 
   -- frames that lie there again
   pub put_back : (t : StoreState) (m n : Machine) (c : job_ends.JobEnd) → n.place ≡ m.place → n.frames.items ≡ m.frames.items → n.taken ≡ m.taken → n.budget ≡ m.budget → Leads p s t (moves_on p s (move.Gives c) m) m t (moves_on p s (move.Gives c) n) n

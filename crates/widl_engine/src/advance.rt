@@ -45,9 +45,21 @@ pub(crate) fn push(frames: &mut Vec<Frame>, frame: Frame) -> Result<(), AllocErr
     Ok(())
 }
 
-/// Lets a charge go.
-#[inline(always)]
+/// Lets a charge go. It is dropped here alone, since a function pays for the room of all that it may drop.
+#[inline(never)]
 fn discard(_charge: Charge) {}
+
+/// A charge is due, in the place of the one that was.
+#[inline(always)]
+pub(crate) fn falls_due(due: &mut Charge, charge: Charge)
+    ensures { due.new ≡ charge }
+{
+    match mem::replace(due, charge) {
+        // mostly this is what was there, and needs no drop
+        Charge::Unit(Unit::Symbol | Unit::Statement(_)) => {}
+        former => discard(former),
+    }
+}
 
 /// A job isn't begun.
 fn let_go(_job: Job) {}
@@ -70,7 +82,7 @@ impl Machine {
     fn rests(&mut self, charge: Charge) -> Turn
         ensures { (p : Program) (s : ScriptTables) (t : StoreState) → Turns p s t (Move.Pays charge) self.old t self.new result }
     {
-        discard(mem::replace(&mut self.due, charge));
+        falls_due(&mut self.due, charge);
         Turn::Rests
     }
 
@@ -109,7 +121,7 @@ impl Machine {
     }
 
     /// The turn of a job whose end is for a frame.
-    fn steps(
+    pub(crate) fn steps(
         &mut self,
         alloc: Global,
         tables: &Tables,
@@ -151,7 +163,12 @@ impl Machine {
             Move::Pays(charge) => self.rests(charge),
             Move::Acts(due) => self.acts(alloc, tables, script, store, due),
             Move::Gives(end) => self.gives(alloc, tables, script, end),
-            Move::Steps(frame, job) => self.steps(alloc, tables, script, frame, job),
+            Move::Steps(frame, job) => match job {
+                Job::Evaluate(place) => self.evaluates(alloc, tables, script, store, frame, place),
+                Job::Statements(row) => self.statements_under(alloc, tables, script, frame, row),
+                job => self.steps(alloc, tables, script, frame, job),
+            },
+            Move::Goes(Job::Statements(row)) => self.statements(script, row),
             Move::Goes(job) => goes(alloc, tables, script, job),
         }
     }

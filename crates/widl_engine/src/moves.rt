@@ -219,7 +219,7 @@ fn shows(value: Value) -> Move
 
 /// A frame goes on with a value.
 #[inline(always)]
-fn valued(
+pub(crate) fn valued(
     alloc: Global,
     script: &Script,
     frame: ValueFrame,
@@ -314,7 +314,7 @@ fn constructs_with(alloc: Global, f: Value, args: Row) -> Result<Move, AllocErro
 }
 
 /// A frame isn't needed any more. It is dropped here alone, since a function pays for the room of all that it may drop.
-fn let_go(_frame: ValueFrame) {}
+pub(crate) fn let_go(_frame: ValueFrame) {}
 
 /// A frame goes on with a value, and passes any other end on.
 #[inline(always)]

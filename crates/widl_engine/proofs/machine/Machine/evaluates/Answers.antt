@@ -1,0 +1,22 @@
+use Rattle.std.proofs.Common.{ap}
+use Rattle.widl_engine.specs.declared.frames.Frame.{Frame}
+use Rattle.widl_engine.specs.declared.jobs.Job.TheVariants as job
+use Rattle.widl_engine.specs.declared.machine.Turn.TheVariants as turn
+use Rattle.widl_engine.specs.declared.moves.Move.TheVariants as move
+use Rattle.widl_engine.specs.Frames.{program_of}
+use Rattle.widl_engine.proofs.Leading.{at_move}
+use Rattle.widl_engine.proofs.ValuesAtOnce.{gone_on, value_there}
+use Rattle.widl_engine.proofs.machine.Machine.evaluates.Goals as goal
+
+pub returns-in-Ok : goal.returns-in-Ok
+returns-in-Ok c =
+    at_move (program_of c.args.tables.now c.args.script.now) c.args.script.now c.args.store.now c.args.store.now _ _ c.args.self.now c.args.self.now (turn.More c.in-Ok.next) (ap (λ (f : Frame). move.Steps f (job.Evaluate c.args.place)) c.in-Value.is)
+    (gone_on (program_of c.args.tables.now c.args.script.now) c.args.script.now c.args.store.now c.args.self.now c.in-Value.frame c.args.place c.in-Ok-Some.value c.in-Ok.next
+    (value_there c.args.script.now c.args.store.now c.args.self.now.place c.args.place c.in-Ok-Some.field-0 c.in-Ok-Some.value c.in-Ok-Some.field-0-is c.in-Ok-Some.ensures (program_of c.args.tables.now c.args.script.now) c.requires.read)
+    (c.in-Ok.ensures (program_of c.args.tables.now c.args.script.now)))
+
+pub returns-in-Ok-None : goal.returns-in-Ok-None
+returns-in-Ok-None c = at_move (program_of c.args.tables.now c.args.script.now) c.args.script.now c.args.store.now c.args.store.now _ _ c.args.self.now c.steps.new.self c.steps.result (ap (λ (f : Frame). move.Steps f (job.Evaluate c.args.place)) c.in-Value.is) (c.steps.ensures c.args.store.now)
+
+pub returns-in_default : goal.returns-in_default
+returns-in_default c = c.steps-in_default.ensures c.args.store.now
