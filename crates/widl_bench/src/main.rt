@@ -2,13 +2,19 @@
 //! part: `tokens`, `syntax` and `tree` read files of Web IDL so far, `script` and `statements` read scripts so
 //! far, `whole` reads scripts whole over a set of one file, `nodes` puts a million nodes into the tables of a
 //! script, `lines`, `texts` and `text` write lines of a trace or make a text for one, `store` changes and reads
-//! the properties of objects, and `realm` makes the first store of a set of files. It stands on the crates of
-//! these parts and serves to measure them: the programs in `bench/` run it.
+//! the properties of objects, `realm` makes the first store of a set of files and `compile` its tables, and `choice`
+//! chooses overloads, members of unions and values of enumerations. It stands on the crates of these parts and
+//! serves to measure them: the programs in `bench/` run it.
 #![tactic(auto)]
 
+mod choices;
+mod compiled;
 mod files;
+mod first;
+mod let_go;
 mod lines;
 mod nodes;
+mod numbers;
 mod realm;
 mod script;
 mod sets;
@@ -37,10 +43,12 @@ enum Word {
     Text,
     Store,
     Realm,
+    Compile,
+    Choice,
 }
 
 /// How each part is asked for.
-const WORDS: [(&str, Word); 12] = [
+const WORDS: [(&str, Word); 14] = [
     ("tokens", Word::Tokens),
     ("syntax", Word::Syntax),
     ("tree", Word::Tree),
@@ -53,6 +61,8 @@ const WORDS: [(&str, Word); 12] = [
     ("text", Word::Text),
     ("store", Word::Store),
     ("realm", Word::Realm),
+    ("compile", Word::Compile),
+    ("choice", Word::Choice),
 ];
 
 /// The part that a text asks for.
@@ -65,6 +75,26 @@ fn word_of(text: &str) -> Result<Word> {
     bail!("{text} is no word of this program")
 }
 
+/// Does a part of the work.
+fn run(rt: &HostRuntime, word: Word, args: &[String]) -> Result<()> {
+    match word {
+        Word::Tokens => tokens::run(rt, args),
+        Word::Syntax => syntax::run(rt, args),
+        Word::Tree => tree::run(rt, args),
+        Word::Script => script::run(rt, args),
+        Word::Statements => statements::run(rt, args),
+        Word::Whole => whole::run(rt, args),
+        Word::Nodes => nodes::run(rt),
+        Word::Lines => lines::run(rt),
+        Word::Texts => lines::run_text(rt, true),
+        Word::Text => lines::run_text(rt, false),
+        Word::Store => store::run(rt, args),
+        Word::Realm => realm::run(rt, args),
+        Word::Compile => compiled::run(rt, args),
+        Word::Choice => choices::run(rt, args),
+    }
+}
+
 fn main(rt: HostRuntime) -> Result<()> {
     let mut args = env::args(&rt)?.skip(1);
     let Some(first) = args.next() else {
@@ -75,19 +105,5 @@ fn main(rt: HostRuntime) -> Result<()> {
     for arg in args {
         rest.push(arg)?;
     }
-    let rest = rest.as_slice();
-    match word {
-        Word::Tokens => tokens::run(&rt, rest),
-        Word::Syntax => syntax::run(&rt, rest),
-        Word::Tree => tree::run(&rt, rest),
-        Word::Script => script::run(&rt, rest),
-        Word::Statements => statements::run(&rt, rest),
-        Word::Whole => whole::run(&rt, rest),
-        Word::Nodes => nodes::run(&rt),
-        Word::Lines => lines::run(&rt),
-        Word::Texts => lines::run_text(&rt, true),
-        Word::Text => lines::run_text(&rt, false),
-        Word::Store => store::run(&rt, rest),
-        Word::Realm => realm::run(&rt, rest),
-    }
+    run(&rt, word, rest.as_slice())
 }

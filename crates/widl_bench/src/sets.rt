@@ -1,4 +1,4 @@
-//! Accepted sets of files.
+//! Accepted sets of files, and their tables.
 
 ghost use Rattle.std.specs.Prelude.{◌≡◌, ◌≤◌, [], OnOk, length};
 ghost use Rattle.widl_front.specs.Texts.{AreShort};
@@ -9,6 +9,7 @@ use anyhow::{Result, bail};
 use std::alloc::Global;
 use widl_front::{Texts, Verdict, judge};
 use widl_overload::Accepted;
+use widl_tables::{Tables, compile};
 use widl_text::limits::MOST_FILES;
 
 /// The set of no files.
@@ -31,6 +32,11 @@ pub fn set_of(rt: &HostRuntime, names: &[String]) -> Result<Accepted> {
         add_file(rt, &mut texts, name.as_str())?;
     }
     accepted(rt.alloc(), &texts)
+}
+
+/// The tables of the set of the files of these names.
+pub fn tables_of(rt: &HostRuntime, names: &[String]) -> Result<Tables> {
+    Ok(compile(rt.alloc(), set_of(rt, names)?)?)
 }
 
 /// Adds the text of the file of this name.

@@ -4,6 +4,7 @@ ghost use Rattle.std.specs.Prelude.{◌≡◌, ◌+◌, ◌-◌, ◌^◌, ◌≤
 ghost use Rattle.widl_store.specs.Objects.{IsLive};
 ghost use Rattle.widl_value.specs.declared.object.ObjRef as references;
 
+use crate::numbers::number_of;
 use crate::sets::no_files;
 use anyhow::{Result, bail};
 use std::alloc::Global;
@@ -160,14 +161,6 @@ fn prototypes(alloc: Global, count: usize, rounds: usize) -> Result<usize> {
     put_key(alloc, &mut store, first, 0)?;
     let keys = [key(alloc, 0)?, key(alloc, 1)?];
     Ok(find_keys(&store, last, &keys, rounds))
-}
-
-/// The number that an argument is.
-fn number_of(text: &str) -> Result<usize> {
-    match text.parse::<usize>() {
-        Ok(number) => Ok(number),
-        Err(_) => bail!("{text} is no number"),
-    }
 }
 
 /// Does what the first argument says as often as the others say, and prints how many properties were found:
