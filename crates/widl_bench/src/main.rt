@@ -2,13 +2,15 @@
 //! part: `tokens`, `syntax` and `tree` read files of Web IDL so far, `script` and `statements` read scripts so
 //! far, `whole` reads scripts whole over a set of one file, `nodes` puts a million nodes into the tables of a
 //! script, `lines`, `texts` and `text` write lines of a trace or make a text for one, `store` changes and reads
-//! the properties of objects, `realm` makes the first store of a set of files and `compile` its tables, and `choice`
-//! chooses overloads, members of unions and values of enumerations. It stands on the crates of these parts and
-//! serves to measure them: the programs in `bench/` run it.
+//! the properties of objects, `realm` makes the first store of a set of files and `compile` its tables, `choice`
+//! chooses overloads, members of unions and values of enumerations, `convert` converts values, and `resolve` converts
+//! the arguments of the overload that is chosen. It stands on the crates of these parts and serves to measure them:
+//! the programs in `bench/` run it.
 #![tactic(auto)]
 
 mod choices;
 mod compiled;
+mod conversions;
 mod files;
 mod first;
 mod let_go;
@@ -16,6 +18,8 @@ mod lines;
 mod nodes;
 mod numbers;
 mod realm;
+mod replies;
+mod resolutions;
 mod script;
 mod sets;
 mod statements;
@@ -45,10 +49,12 @@ enum Word {
     Realm,
     Compile,
     Choice,
+    Convert,
+    Resolve,
 }
 
 /// How each part is asked for.
-const WORDS: [(&str, Word); 14] = [
+const WORDS: [(&str, Word); 16] = [
     ("tokens", Word::Tokens),
     ("syntax", Word::Syntax),
     ("tree", Word::Tree),
@@ -63,6 +69,8 @@ const WORDS: [(&str, Word); 14] = [
     ("realm", Word::Realm),
     ("compile", Word::Compile),
     ("choice", Word::Choice),
+    ("convert", Word::Convert),
+    ("resolve", Word::Resolve),
 ];
 
 /// The part that a text asks for.
@@ -92,6 +100,8 @@ fn run(rt: &HostRuntime, word: Word, args: &[String]) -> Result<()> {
         Word::Realm => realm::run(rt, args),
         Word::Compile => compiled::run(rt, args),
         Word::Choice => choices::run(rt, args),
+        Word::Convert => conversions::run(rt, args),
+        Word::Resolve => resolutions::run(rt, args),
     }
 }
 
