@@ -1,5 +1,5 @@
 #!/usr/bin/env python3
-"""Measures the conversion of values to IDL values, and the choice of an overload with its arguments.
+"""Measures the conversion of values to IDL values, the choice of an overload with its arguments, and calls.
 
 Run at the top of the repository, after `rt run` in crates/widl_bench has built the program:
 
@@ -7,7 +7,7 @@ Run at the top of the repository, after `rt run` in crates/widl_bench has built 
 
 It prints the nanoseconds that a conversion takes from its start to its end, without the time of a script, and the bytes of
 memory that more conversions take than none; then the nanoseconds of a choice with the conversion of its arguments and the
-making of the arguments, as a whole and for each argument.
+making of the arguments, as a whole and for each argument; then those of a call of an operation, with the making of its argument.
 Times are the least of some runs, less those of runs that do nothing.
 """
 import os
@@ -75,6 +75,16 @@ CHOICES = [
     ("the same, 300,000", 300_000, 3, of_type("long...")),
 ]
 
+# what a row says, the set and the script
+OCTET = namespace("octet f(octet a);")
+CALLS = [
+    ("an operation with one octet, without steps", OCTET, ""),
+    ("the same, which returns its argument", OCTET, "steps N.f#0\n  return arg 0\nend\n"),
+    ("the same with a block of 10,000 lines", OCTET, "steps N.f#0\n" + "  return arg 0\n" * 10_000 + "end\n"),
+    ("an operation with one octet that throws", OCTET, "steps N.f#0\n  throw 7\nend\n"),
+]
+
+
 def each(words_of, rounds):
     """The nanoseconds of one of so many rounds, and how many bytes more they touch than none."""
     less = least(words_of(0), RUNS)
@@ -113,10 +123,19 @@ def choices(folder):
         print(f"| {name} | {time:.0f} | {time / arguments:.1f} |", flush=True)
 
 
+def calls(folder):
+    print("\n| call | ns |\n|---|---|")
+    for name, text, steps in CALLS:
+        path, script = written(folder, "a.idl", text), written(folder, "a.txt", steps)
+        time, _ = each(lambda n: ["call", n, script, path], 100_000)
+        print(f"| {name} | {time:.0f} |", flush=True)
+
+
 def main():
     with tempfile.TemporaryDirectory() as folder:
         conversions(folder)
         choices(folder)
+        calls(folder)
 
 
 if __name__ == "__main__":

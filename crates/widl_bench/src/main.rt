@@ -3,11 +3,12 @@
 //! far, `whole` reads scripts whole over a set of one file, `nodes` puts a million nodes into the tables of a
 //! script, `lines`, `texts` and `text` write lines of a trace or make a text for one, `store` changes and reads
 //! the properties of objects, `realm` makes the first store of a set of files and `compile` its tables, `choice`
-//! chooses overloads, members of unions and values of enumerations, `convert` converts values, and `resolve` converts
-//! the arguments of the overload that is chosen. It stands on the crates of these parts and serves to measure them:
-//! the programs in `bench/` run it.
+//! chooses overloads, members of unions and values of enumerations, `convert` converts values, `resolve` converts the
+//! arguments of the overload that is chosen, and `call` calls an operation. It stands on the crates of these parts and
+//! serves to measure them: the programs in `bench/` run it.
 #![tactic(auto)]
 
+mod calls;
 mod choices;
 mod compiled;
 mod conversions;
@@ -51,10 +52,11 @@ enum Word {
     Choice,
     Convert,
     Resolve,
+    Call,
 }
 
 /// How each part is asked for.
-const WORDS: [(&str, Word); 16] = [
+const WORDS: [(&str, Word); 17] = [
     ("tokens", Word::Tokens),
     ("syntax", Word::Syntax),
     ("tree", Word::Tree),
@@ -71,6 +73,7 @@ const WORDS: [(&str, Word); 16] = [
     ("choice", Word::Choice),
     ("convert", Word::Convert),
     ("resolve", Word::Resolve),
+    ("call", Word::Call),
 ];
 
 /// The part that a text asks for.
@@ -102,6 +105,7 @@ fn run(rt: &HostRuntime, word: Word, args: &[String]) -> Result<()> {
         Word::Choice => choices::run(rt, args),
         Word::Convert => conversions::run(rt, args),
         Word::Resolve => resolutions::run(rt, args),
+        Word::Call => calls::run(rt, args),
     }
 }
 
