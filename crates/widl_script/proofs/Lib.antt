@@ -1,4 +1,5 @@
 mod Undoing
+pub mod ExactNumbers
 pub mod OwnerTexts
 pub mod RepeatedWords
 pub mod RepeatedNames

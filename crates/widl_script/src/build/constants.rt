@@ -1,6 +1,6 @@
 //! Constants: what single words stand for, and the literals and the thrown values of step lines.
 
-ghost use Rattle.std.specs.Prelude.{◌≡◌, ◌-◌, ◌^◌, ◌<◌, ◌≤◌, [], false, length, min, unwrap_or, IfOk, OnOk, MatchOption};
+ghost use Rattle.std.specs.Prelude.{◌≡◌, ◌-◌, ◌^◌, ◌<◌, ◌≤◌, ◌≤ℤ◌, [], false, length, min, neg_ℤ, pos, unwrap_or, IfOk, OnOk, MatchOption};
 ghost use Rattle.widl_text.specs.IntegerTokens.{integer_of, magnitude};
 ghost use Rattle.widl_value.specs.Rounding.{nearest_of};
 ghost use Rattle.widl_lines.specs.declared.grammar.Rule.TheVariants as rule;
@@ -18,11 +18,24 @@ use widl_lines::{Terminal, WordForm, integer_of, units_of};
 use widl_text::{Units, magnitude};
 use widl_value::{Number, Value, nearest};
 
+/// The Number that is nearest to an integer: of at most 53 bits, as most are, it is one itself.
+#[tactic(auto, using(crate::proofs::ExactNumbers::exact_number))]
+fn nearest_number(integer: i128) -> Number
+    requires low { neg_ℤ (pos (2 ^ 64)) ≤ℤ integer }
+    requires high { integer ≤ℤ pos (2 ^ 64) }
+    ensures { result ≡ nearest_of integer }
+{
+    if integer.unsigned_abs() < 1 << 53 {
+        return Number::Whole(integer);
+    }
+    nearest(integer)
+}
+
 /// The Number that is nearest to an integer of at most 2^64 in magnitude.
 pub(crate) fn number_of(text: &[u8]) -> Number
     ensures { result ≡ nearest_of (within_bound (integer_of text.now)) }
 {
-    nearest(integer_of(text).clamp(-(1 << 64), 1 << 64))
+    nearest_number(integer_of(text).clamp(-(1 << 64), 1 << 64))
 }
 
 /// The units of a text; none of a word that is no text.

@@ -38,6 +38,7 @@ impl Nodes {
     }
 
     /// Puts an expression, and answers its place.
+    #[inline(always)]
     pub(crate) fn put(&mut self, node: Expression) -> Result<u32, AllocError>
         requires { IsLower self.old (length self.old.expressions) node }
         ensures { IfOk result (λ place. IsPut node place self.old self.new) }
