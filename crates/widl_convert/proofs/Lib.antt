@@ -21,6 +21,7 @@ pub mod OutgoingItems
 pub mod GivenLoads
 pub mod UnionWalks
 pub mod UnionMembers
+pub mod ScalarTypes
 pub mod ServedTypes
 pub mod TypeLoads
 pub mod ValueCounts

@@ -20,6 +20,7 @@ use crate::jobs::Job;
 use crate::moves::{Asking, Ending, Move};
 use crate::outcome::{Next, Want};
 use crate::resolution::Call;
+use crate::scalar_types::type_for;
 use crate::settle::{Settled, settle};
 use crate::stack::Stack;
 use crate::steps::{answered, begin};
@@ -67,7 +68,7 @@ impl Asker {
         ensures ready { IfOk result IsQuiet }
         ensures quiet { IfOk result (λ asker. (list : DefsTerm) → quiet list asker ≡ 1 + load list (Convert (type_term ty.now) value)) }
     {
-        let ty = ty.copy(alloc)?;
+        let ty = type_for(alloc, ty, &value)?;
         Ok(start(alloc, Job::Convert { ty, value }))
     }
 

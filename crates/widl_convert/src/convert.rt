@@ -24,6 +24,7 @@ use crate::moves::{Ending, Move};
 use crate::nullable::null_of;
 use crate::outcome::{Outcome, Want};
 use crate::record::to_record;
+use crate::scalar_types::{integer_within, string_within};
 use crate::sequence::to_sequence;
 use crate::union::{by_member, is_null_of};
 use std::alloc::{AllocError, Global};
@@ -138,7 +139,7 @@ pub(crate) fn convert_plain(alloc: Global, ty: &IdlType, value: Value) -> Result
 }
 
 /// The first move of a value's conversion to an IDL value of a type. A Number becomes a value of an integer type at once,
-/// and a String one of a string type.
+/// and a String one of a string type, also where the type is nullable or a union.
 ///
 /// # Errors
 ///
@@ -175,7 +176,27 @@ fn convert_number(
 {
     match ty {
         IdlType::Int(kind, mode) => Ok(to_integer(*kind, *mode, number)),
-        _ => convert(alloc, tables, ty, Value::Num(number)),
+        _ => convert_number_within(alloc, tables, ty, number),
+    }
+}
+
+/// The same, where the integer type may be inside the type.
+///
+/// # Errors
+///
+/// `AllocError` where there is no memory.
+fn convert_number_within(
+    alloc: Global,
+    tables: &Tables,
+    ty: &IdlType,
+    number: Number,
+) -> Result<Move, AllocError>
+    ensures leads { IfOk result (λ m. Leads (defs_term tables.now.defs) (convert built_today (defs_term tables.now.defs) (type_term ty.now) (Value.Num number)) (move_dialog (defs_term tables.now.defs) m)) }
+    ensures weight { IfOk result (λ m. weight (defs_term tables.now.defs) m ≤ type_load (type_term ty.now)) }
+{
+    match integer_within(tables.list().defs(), ty) {
+        Some((kind, mode)) => Ok(to_integer(kind, mode, number)),
+        None => convert(alloc, tables, ty, Value::Num(number)),
     }
 }
 
@@ -198,7 +219,27 @@ fn convert_text(
             kind,
             null_empty: _,
         } => to_string(alloc, *kind, text),
-        _ => convert(alloc, tables, ty, Value::Str(text)),
+        _ => convert_text_within(alloc, tables, ty, text),
+    }
+}
+
+/// The same, where the string type may be inside the type.
+///
+/// # Errors
+///
+/// `AllocError` where there is no memory.
+fn convert_text_within(
+    alloc: Global,
+    tables: &Tables,
+    ty: &IdlType,
+    text: Units,
+) -> Result<Move, AllocError>
+    ensures leads { IfOk result (λ m. Leads (defs_term tables.now.defs) (convert built_today (defs_term tables.now.defs) (type_term ty.now) (Value.Str text)) (move_dialog (defs_term tables.now.defs) m)) }
+    ensures weight { IfOk result (λ m. weight (defs_term tables.now.defs) m ≤ type_load (type_term ty.now)) }
+{
+    match string_within(tables.list().defs(), ty) {
+        Some(kind) => to_string(alloc, kind, text),
+        None => convert(alloc, tables, ty, Value::Str(text)),
     }
 }
 

@@ -35,6 +35,7 @@ mod resolution;
 mod resolve;
 mod results;
 mod scalar;
+mod scalar_types;
 mod sequence;
 mod served;
 mod settle;

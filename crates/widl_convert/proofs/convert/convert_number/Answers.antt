@@ -7,7 +7,7 @@ use Rattle.widl_convert.specs.Built.{built_today}
 use Rattle.widl_convert.specs.Frames.{move_dialog}
 use Rattle.widl_convert.specs.Scalars.{convert}
 use Rattle.widl_convert.specs.Stack.{Leads}
-use Rattle.widl_convert.proofs.Suspending.{led_all, number_leads}
+use Rattle.widl_convert.proofs.Suspending.{number_leads}
 use Rattle.widl_convert.proofs.convert.convert_number.Goals as goal
 
 pub returns-in-Int-clause-leads : goal.returns-in-Int-clause-leads
@@ -17,6 +17,3 @@ returns-in-Int-clause-leads c =
     subst (Leads list (convert built_today list (IntegerType c.in-Int.kind c.in-Int.mode) (Num c.args.number))) (sym (c.to_integer.ensures.dialog list)) (number_leads list c.in-Int.kind c.in-Int.mode c.args.number) in
     let is : type_term c.args.ty.now ≡ IntegerType c.in-Int.kind c.in-Int.mode = search (rules, the_lemmas) in
     subst (λ (t : TypeTerm). Leads list (convert built_today list t (Num c.args.number)) (move_dialog list c.to_integer.result)) (sym is) converted
-
-pub returns-in_default-clause-leads : goal.returns-in_default-clause-leads
-returns-in_default-clause-leads c = led_all (defs_term c.args.tables.now.defs) _ c.convert.result c.convert.ensures.dialog

@@ -9,7 +9,7 @@ use Rattle.widl_convert.specs.Built.{built_today}
 use Rattle.widl_convert.specs.Frames.{move_dialog}
 use Rattle.widl_convert.specs.Scalars.{convert, string_result}
 use Rattle.widl_convert.specs.Stack.{Leads}
-use Rattle.widl_convert.proofs.Suspending.{led_all, text_leads}
+use Rattle.widl_convert.proofs.Suspending.{text_leads}
 use Rattle.widl_convert.proofs.convert.convert_text.Goals as goal
 
 pub returns-in-Text-clause-leads : goal.returns-in-Text-clause-leads
@@ -19,6 +19,3 @@ returns-in-Text-clause-leads c =
     (λ m is. subst (Leads list (convert built_today list (StringType c.in-Text.kind c.in-Text.null_empty) (Str c.args.text))) (sym (is list)) (text_leads list c.in-Text.kind c.in-Text.null_empty c.args.text)) c.to_string.ensures.dialog in
     let is : type_term c.args.ty.now ≡ StringType c.in-Text.kind c.in-Text.null_empty = search (rules, the_lemmas) in
     subst (λ (t : TypeTerm). IfOk c.to_string.result (λ m. Leads list (convert built_today list t (Str c.args.text)) (move_dialog list m))) (sym is) converted
-
-pub returns-in_default-clause-leads : goal.returns-in_default-clause-leads
-returns-in_default-clause-leads c = led_all (defs_term c.args.tables.now.defs) _ c.convert.result c.convert.ensures.dialog
