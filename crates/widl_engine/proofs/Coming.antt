@@ -105,6 +105,10 @@ module _ (p : Program) (s : Tables) where
     keeps = subst (λ (b : ℕ). KeepsFitting p e (world s u n b fits.lines)) (sym x.budget) (keeps_on (x.comes m.budget fits.lines) fits.keeps);
   }
 
+  -- a move that is known
+  pub fits_known : (t : StoreState) (m : Machine) (current known : Move) → current ≡ known → MachineFits p s t (moves_on p s current m) m → MachineFits p s t (moves_on p s known m) m
+  fits_known t m current known is x = subst (λ (c : Move). MachineFits p s t (moves_on p s c m) m) is x
+
   -- what the call of a function asks for, where a job begins
   pub fits_stepped : (t : StoreState) (m : Machine) (current : Move) (f : Frame) (j : jobs.Job) → current ≡ move.Steps f j → MachineFits p s t (moves_on p s current m) m → FitsJob (job_of s j)
   fits_stepped t m current f j is x = (subst (λ (c : Move). MachineFits p s t (moves_on p s c m) m) is x).keeps.each _ _ here

@@ -28,7 +28,8 @@ use Rattle.widl_engine.specs.declared.moves.Move.TheVariants as move
 use Rattle.widl_engine.specs.declared.ends.JobEnd as job_ends
 use Rattle.widl_engine.specs.Frames.{charge_of, after_paying, act_of, after, job_of, job_end_of, back_to, move_of, Wants, LeadsTo}
 use Rattle.widl_engine.specs.Place.{world_of, Performed}
-use Rattle.widl_engine.specs.Machine.{under, world, still, moves_on, Leads, Moves, RunsTo, Turns}
+use Rattle.widl_engine.specs.declared.machine.Turn.TheVariants as turn
+use Rattle.widl_engine.specs.Machine.{under, world, still, moves_on, Leads, Moves, Stays, RunsTo, Turns, Continues}
 use Rattle.widl_engine.proofs.Acting.{Done}
 use Rattle.widl_runs.specs.Fitting.{Comes, here, said, begun}
 use Rattle.widl_runs.specs.Worlds.{World}
@@ -58,7 +59,55 @@ then_runs x ends = record { taken = ends.taken ∙ x.taken; runs = λ b ls. (x.f
 pub leads_here : (p : Program) (s : Tables) (t : StoreState) (d : Doing) (m : Machine) → Leads p s t d m t d m
 leads_here p s t d m = record { taken = refl; budget = refl; between = 0; follows = λ b ls. follows_same _ _ refl refl; comes = λ b ls. here }
 
+then_between : {p : Program} {s : Tables} {t u o : StoreState} {d e g : Doing} {m n q : Machine} (x : Leads p s t d m u e n) (y : Leads p s u e n o g q) → (then_leads x y).between ≡ x.between + y.between
+unfolding then_leads
+then_between x y = refl
+
+pub then_moves : {p : Program} {s : Tables} {t u o : StoreState} {d e g : Doing} {m n q : Machine} → Moves p s t d m u e n → Moves p s u e n o g q → Moves p s t d m o g q
+then_moves x y = record { place = then_leads x.place y.place; less = let f = x.less in let g = y.less in let h = then_between x.place y.place in omega (arith, f, g, h) }
+
+pub stays_here : (p : Program) (s : Tables) (t : StoreState) (d : Doing) (m : Machine) → Stays p s t d m t d m
+stays_here p s t d m = record { place = leads_here p s t d m; most = omega arith }
+
+pub stays_then : {p : Program} {s : Tables} {t u o : StoreState} {d e g : Doing} {m n q : Machine} → Stays p s t d m u e n → Moves p s u e n o g q → Moves p s t d m o g q
+stays_then x y = record { place = then_leads x.place y.place; less = let f = x.most in let g = y.less in let h = then_between x.place y.place in omega (arith, f, g, h) }
+
+pub stays_moved : {p : Program} {s : Tables} {t u : StoreState} {d e : Doing} {m n : Machine} → Moves p s t d m u e n → Stays p s t d m u e n
+stays_moved x = record { place = x.place; most = let f = x.less in omega (arith, f) }
+
 module _ (p : Program) (s : Tables) where
+  -- a turn continues its move
+  pub continues : (t u : StoreState) (current : Move) (m n : Machine) (r : Turn) → Turns p s t current m u n r → Continues p s t current m u n r
+  continues t u current m n (turn.More next) x = stays_moved x
+  continues t u current m n turn.Rests x = x
+  continues t u current m n (turn.Ended c) x = x
+  continues t u current m n (turn.Stopped stop) x = x
+  continues t u current m n turn.Memory x = tt
+
+  -- what continues a move that is known
+  pub at_continued : (t u : StoreState) (c known : Move) (m n : Machine) (r : Turn) → c ≡ known → Continues p s t known m u n r → Continues p s t c m u n r
+  at_continued t u c known m n r same x = subst (λ (c : Move). Continues p s t c m u n r) (sym same) x
+
+  -- a next move that is known
+  pub to_known : (t u : StoreState) (current next known : Move) (m n : Machine) → next ≡ known → Moves p s t (moves_on p s current m) m u (moves_on p s next n) n → Moves p s t (moves_on p s current m) m u (moves_on p s known n) n
+  to_known t u current next known m n is x = subst (λ (c : Move). Moves p s t (moves_on p s current m) m u (moves_on p s c n) n) is x
+
+  -- a move, and what continues the next one
+  pub then_continues : (t u o : StoreState) (current next : Move) (m n q : Machine) (r : Turn) → Moves p s t (moves_on p s current m) m u (moves_on p s next n) n → Continues p s u next n o q r → Turns p s t current m o q r
+  then_continues t u o current next m n q (turn.More last) x y = record { place = then_leads x.place y.place; less = let f = x.less in let g = y.most in let h = then_between x.place y.place in omega (arith, f, g, h) }
+  then_continues t u o current next m n q turn.Rests x y = then_leads x.place y
+  then_continues t u o current next m n q (turn.Ended c) x y = then_runs x.place y
+  then_continues t u o current next m n q (turn.Stopped stop) x y = then_runs x.place y
+  then_continues t u o current next m n q turn.Memory x y = tt
+
+  -- a turn after a place that stays
+  pub stays_turns : (t u o : StoreState) (current next : Move) (m n q : Machine) (r : Turn) → Stays p s t (moves_on p s current m) m u (moves_on p s next n) n → Turns p s u next n o q r → Turns p s t current m o q r
+  stays_turns t u o current next m n q (turn.More last) x y = stays_then x y
+  stays_turns t u o current next m n q turn.Rests x y = then_leads x.place y
+  stays_turns t u o current next m n q (turn.Ended c) x y = then_runs x.place y
+  stays_turns t u o current next m n q (turn.Stopped stop) x y = then_runs x.place y
+  stays_turns t u o current next m n q turn.Memory x y = tt
+
   -- a move that is known
   pub at_move : (t u : StoreState) (c known : Move) (m n : Machine) (r : Turn) → c ≡ known → Turns p s t known m u n r → Turns p s t c m u n r
   at_move t u c known m n r same x = subst (λ (c : Move). Turns p s t c m u n r) (sym same) x

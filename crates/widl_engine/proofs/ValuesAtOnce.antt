@@ -1,37 +1,42 @@
 -- For proofs alone. Expressions that have a value at once, and the frames that go on with it.
 use Rattle.std.specs.Prelude.{IfSome, Option, Some, None}
-use Rattle.std.proofs.Common.{◌≡◌, ℕ, ◌+◌, ◌-◌, List, refl, sym, ap, subst, ◌∙◌, arith}
+use Rattle.std.proofs.Common.{◌≡◌, ℕ, ◌+◌, ◌-◌, List, [], ◌∷◌, ◌++◌, refl, sym, ap, subst, ◌∙◌, arith}
 use Rattle.widl_dialog.specs.Dialog.{End, Say, bind}
 use Rattle.widl_dialog.specs.Runs.{Went}
 use Rattle.widl_dialog.proofs.Following.{follows_same, follows_said, follows_steps, follows_then}
 use Rattle.widl_value.specs.declared.value.Value.{Value}
 use Rattle.widl_script_tree.specs.declared.expression.Expression.{Expression}
 use Rattle.widl_script_tree.specs.declared.expression.Expression.TheVariants as node
-use Rattle.widl_script_tree.specs.Trees.{ExpressionTree}
-use Rattle.widl_script_tree.specs.Tables.{Tables, expression_tree, name_at, opened}
+use Rattle.widl_script_tree.specs.Trees.{ExpressionTree, ExpressionTrees, more}
+use Rattle.widl_script_tree.specs.declared.row.Row.{Row}
+use Rattle.widl_script_tree.specs.Rows.{rest_of}
+use Rattle.widl_script_tree.specs.Tables.{Tables, expression_tree, expressions_tree, name_at, opened}
 use Rattle.widl_store.specs.Objects.{StoreState}
 use Rattle.widl_trace.specs.EventTerms.{EventTerm}
 use Rattle.widl_runs.specs.Worlds.{named_value}
 use Rattle.widl_runs.specs.Actions.{ReadName, IsValue, Reply, act}
 use Rattle.widl_runs.specs.Ends.{JobEnd, Normal}
-use Rattle.widl_runs.specs.Expressions.{evaluate}
+use Rattle.widl_runs.specs.Expressions.{evaluate, evaluate_row}
 use Rattle.widl_runs.specs.Fitting.{begun, said}
 use Rattle.widl_runs.specs.Jobs.{Evaluate, Program, Doing, gives}
 use Rattle.widl_runs.specs.Rules.{rule}
 use Rattle.widl_engine.specs.declared.contexts.Place.{Place}
 use Rattle.widl_engine.specs.declared.frames.Frame.TheVariants as frame
 use Rattle.widl_engine.specs.declared.frames.ValueFrame.{ValueFrame}
+use Rattle.widl_engine.specs.declared.frames.ValueFrame.TheVariants as goes_on
+use Rattle.widl_engine.specs.declared.jobs.RowUse.{RowUse}
 use Rattle.widl_engine.specs.declared.jobs.Job.TheVariants as job
 use Rattle.widl_engine.specs.declared.machine.Machine.{Machine}
 use Rattle.widl_engine.specs.declared.moves.Move.{Move}
 use Rattle.widl_engine.specs.declared.moves.Move.TheVariants as move
 use Rattle.widl_engine.specs.AtOnce.{HasValue}
-use Rattle.widl_engine.specs.Frames.{back_to, move_of, value_to}
+use Rattle.widl_engine.specs.Frames.{back_to, job_of, move_of, row_use_of, value_to}
 use Rattle.widl_engine.specs.Machine.{under, world, moves_on, Moves}
 use Rattle.widl_engine.specs.Place.{world_of}
 use Rattle.widl_engine.specs.ReadOver.{IsReadOver}
 use Rattle.widl_engine.proofs.Acting.{Done}
 use Rattle.widl_engine.proofs.Coming.{comes_same, comes_then}
+use Rattle.widl_engine.proofs.Leading.{leads_is, then_moves, went}
 
 module _ (p : Program) (s : Tables) (t : StoreState) where
   -- a literal
@@ -74,6 +79,15 @@ module _ (p : Program) (s : Tables) (t : StoreState) where
         };
         less = omega arith;
       }
+
+  -- a row goes on behind its first value
+  pub row_gone_on : (m : Machine) (what : RowUse) (vs more_vs : List Value) (row rest : Row) (v : Value) → expressions_tree s row ≡ more (expression_tree s row.first) (expressions_tree s (rest_of row)) → HasValue p s t m.place row.first v → more_vs ≡ vs ++ v ∷ [] → rest ≡ rest_of row → Moves p s t (moves_on p s (move.Goes (job.Row what vs row)) m) m t (moves_on p s (move.Goes (job.Row what more_vs rest)) m) m
+  row_gone_on m what vs more_vs row rest v opens x pushed left =
+      let f : ValueFrame = goes_on.InRow what vs (rest_of row) in
+      let first : Move = move.Steps (frame.Value f) (job.Evaluate row.first) in
+      then_moves (went p s t m first (job.Row what vs row) (leads_is p s (rule p (job_of s (job.Row what vs row))) first (ap (λ (es : ExpressionTrees). evaluate_row (row_use_of what) vs es) (sym opens))))
+      (gone_on m f row.first v (move.Goes (job.Row what more_vs rest)) x
+      (ap (λ (l : List Value). move_of p s (move.Goes (job.Row what l rest))) pushed ∙ ap (λ (r : Row). move_of p s (move.Goes (job.Row what (vs ++ v ∷ []) r))) left))
 
 -- a node that is a name is evaluated as the name
 pub evaluates_name : (s : Tables) (t : ExpressionTree) (n : Expression) (name : ℕ) → t ≡ opened s (expression_tree s) n → n ≡ node.Name name → evaluate t ≡ Say (ReadName (name_at s name)) gives

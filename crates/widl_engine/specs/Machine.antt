@@ -65,6 +65,11 @@ pub record Moves (p : Program) (s : Tables) (t : StoreState) (d : Doing) (m : Ma
   pub place : Leads p s t d m u e n
   pub less : length n.frames.items < 2 * place.between + length m.frames.items
 
+-- and there is no more to do between two charges
+pub record Stays (p : Program) (s : Tables) (t : StoreState) (d : Doing) (m : Machine) (u : StoreState) (e : Doing) (n : Machine) : Type 0 where
+  pub place : Leads p s t d m u e n
+  pub most : length n.frames.items ≤ 2 * place.between + length m.frames.items
+
 -- with each budget the run ends in this machine's world
 pub record RunsTo (p : Program) (s : Tables) (t : StoreState) (d : Doing) (m : Machine) (u : StoreState) (n : Machine) (f : Finish JobEnd Stop) : Type 0 where
   pub taken : n.taken ≡ m.taken
@@ -76,6 +81,14 @@ Turns p s t current m u n turn.Rests = Leads p s t (moves_on p s current m) m u 
 Turns p s t current m u n (turn.Ended c) = RunsTo p s t (moves_on p s current m) m u n (Ended (job_end_of c))
 Turns p s t current m u n (turn.Stopped stop) = RunsTo p s t (moves_on p s current m) m u n (Halted stop)
 Turns p s t current m u n turn.Memory = Unit {0}
+
+-- what a move leads to in the turn of the one before it; it may still be the next one
+abbrev pub Continues : Program → Tables → StoreState → Move → Machine → StoreState → Machine → Turn → Type 0
+Continues p s t current m u n (turn.More next) = Stays p s t (moves_on p s current m) m u (moves_on p s next n) n
+Continues p s t current m u n turn.Rests = Leads p s t (moves_on p s current m) m u (still p s n) n
+Continues p s t current m u n (turn.Ended c) = RunsTo p s t (moves_on p s current m) m u n (Ended (job_end_of c))
+Continues p s t current m u n (turn.Stopped stop) = RunsTo p s t (moves_on p s current m) m u n (Halted stop)
+Continues p s t current m u n turn.Memory = Unit {0}
 
 abbrev pub Advances : Program → Tables → StoreState → Move → Machine → StoreState → Machine → Moved → Type 0
 Advances p s t first m u n moved.Going = Leads p s t (moves_on p s first m) m u (still p s n) n

@@ -75,7 +75,7 @@ fn new_line(f: ObjRef, args: Values) -> Move
 
 /// What the call of an object does.
 #[inline(always)]
-fn body_of(store: &Store, f: ObjRef) -> Body
+pub(crate) fn body_of(store: &Store, f: ObjRef) -> Body
     requires { IsLive store.now.objects f }
     ensures { body_of result ≡ body_at store.now.objects f }
 {

@@ -6,9 +6,8 @@ ghost use Rattle.widl_runs.specs.Jobs.{Program};
 ghost use Rattle.widl_script_tree.specs.Tables.{Tables as ScriptTables};
 ghost use Rattle.widl_store.specs.Objects.{StoreState};
 ghost use Rattle.widl_engine.specs.declared.machine.Machine.{Machine as Machines};
-ghost use Rattle.widl_engine.specs.Fits.{Fits};
 ghost use Rattle.widl_engine.specs.Frames.{job_of, program_of};
-ghost use Rattle.widl_engine.specs.Machine.{Advances, MachineFits, StepsTo, Turns, cost, moves_on, still};
+ghost use Rattle.widl_engine.specs.Machine.{Advances, Continues, MachineFits, StepsTo, Turns, cost, moves_on, still};
 ghost use Rattle.widl_engine.specs.ReadOver.{IsReadOver};
 
 use crate::acts::Acted;
@@ -79,7 +78,7 @@ fn goes(alloc: Global, tables: &Tables, script: &Script, job: Job) -> Turn
 // Each kind of move has a function of its own: a function pays for the room of all its arms.
 impl Machine {
     /// The turn of an action that takes units.
-    fn rests(&mut self, charge: Charge) -> Turn
+    pub(crate) fn rests(&mut self, charge: Charge) -> Turn
         ensures { (p : Program) (s : ScriptTables) (t : StoreState) → Turns p s t (Move.Pays charge) self.old t self.new result }
     {
         falls_due(&mut self.due, charge);
@@ -96,27 +95,39 @@ impl Machine {
         due: Due,
     ) -> Turn
         requires read { let p : Program = program_of tables.now script.now in IsReadOver p.list script.now }
-        requires fits { Fits script.now store.old.objects self.old.place.next_symbol due }
+        requires fits { let p : Program = program_of tables.now script.now in MachineFits p script.now store.old (moves_on p script.now (Move.Acts due) self.old) self.old }
         ensures { Turns (program_of tables.now script.now) script.now store.old (Move.Acts due) self.old store.new self.new result }
     {
         match perform(alloc, tables, script, store, &mut self.place, due) {
-            Acted::Went(next) => Turn::More(next),
+            Acted::Went(next) => self.ends_or_goes_on(alloc, tables, script, store, next),
             Acted::Stopped(stop) => Turn::Stopped(stop),
             Acted::Memory => Turn::Memory,
         }
     }
 
-    /// The turn of an end of a job.
-    fn gives(&mut self, alloc: Global, tables: &Tables, script: &Script, end: JobEnd) -> Turn
+    /// The turn of an end of a job, which frames may pass on.
+    fn gives(
+        &mut self,
+        alloc: Global,
+        tables: &Tables,
+        script: &Script,
+        store: &Store,
+        end: JobEnd,
+    ) -> Turn
         requires read { let p : Program = program_of tables.now script.now in IsReadOver p.list script.now }
-        ensures { (t : StoreState) → Turns (program_of tables.now script.now) script.now t (Move.Gives end) self.old t self.new result }
+        requires fits { let p : Program = program_of tables.now script.now in MachineFits p script.now store.now (moves_on p script.now (Move.Gives end) self.old) self.old }
+        ensures { Turns (program_of tables.now script.now) script.now store.now (Move.Gives end) self.old store.now self.new result }
     {
-        match pop(&mut self.frames) {
-            None => Turn::Ended(end),
-            Some(frame) => match returned(alloc, tables, script, frame, end) {
-                Ok(next) => Turn::More(next),
-                Err(_) => Turn::Memory,
-            },
+        let mut end = end;
+        'ends: loop {
+            match pop(&mut self.frames) {
+                None => return Turn::Ended(end),
+                Some(frame) => match returned(alloc, tables, script, frame, end) {
+                    Ok(Move::Gives(next)) => end = next,
+                    Ok(next) => return self.goes_on(tables, script, store, next),
+                    Err(_) => return Turn::Memory,
+                },
+            }
         }
     }
 
@@ -145,6 +156,81 @@ impl Machine {
         }
     }
 
+    /// The turn of a job whose end is for the frame below.
+    #[inline(always)]
+    fn begins(
+        &mut self,
+        alloc: Global,
+        tables: &Tables,
+        script: &Script,
+        store: &Store,
+        job: Job,
+    ) -> Turn
+        requires read { let p : Program = program_of tables.now script.now in IsReadOver p.list script.now }
+        requires fits { let p : Program = program_of tables.now script.now in MachineFits p script.now store.now (moves_on p script.now (Move.Goes job) self.old) self.old }
+        ensures { Turns (program_of tables.now script.now) script.now store.now (Move.Goes job) self.old store.now self.new result }
+    {
+        match job {
+            Job::Statements(row) => self.statements(script, row),
+            Job::Row { what, made, row } => self.row(tables, script, store, what, made, row),
+            Job::Call { calling, args } => self.calls(tables, script, store, calling, args),
+            job => goes(alloc, tables, script, job),
+        }
+    }
+
+    /// The turn that goes on with a job, where what it leads to is done at once.
+    #[inline(always)]
+    fn begins_at_once(&mut self, tables: &Tables, script: &Script, store: &Store, job: Job) -> Turn
+        requires read { let p : Program = program_of tables.now script.now in IsReadOver p.list script.now }
+        requires fits { let p : Program = program_of tables.now script.now in MachineFits p script.now store.now (moves_on p script.now (Move.Goes job) self.old) self.old }
+        ensures { Continues (program_of tables.now script.now) script.now store.now (Move.Goes job) self.old store.now self.new result }
+    {
+        match job {
+            Job::Statements(row) => self.statements(script, row),
+            Job::Row { what, made, row } => self.row(tables, script, store, what, made, row),
+            Job::Call { calling, args } => self.calls(tables, script, store, calling, args),
+            job => Turn::More(Move::Goes(job)),
+        }
+    }
+
+    /// The turn that goes on with a move: what it leads to is done at once where no action comes before the next charge.
+    #[inline(always)]
+    fn goes_on(&mut self, tables: &Tables, script: &Script, store: &Store, next: Move) -> Turn
+        requires read { let p : Program = program_of tables.now script.now in IsReadOver p.list script.now }
+        requires fits { let p : Program = program_of tables.now script.now in MachineFits p script.now store.now (moves_on p script.now next self.old) self.old }
+        ensures { Continues (program_of tables.now script.now) script.now store.now next self.old store.now self.new result }
+    {
+        match next {
+            Move::Pays(charge) => self.rests(charge),
+            Move::Goes(job) => self.begins_at_once(tables, script, store, job),
+            next => Turn::More(next),
+        }
+    }
+
+    /// The same, also where the move is an end, or goes to statements whose end is for a frame.
+    #[inline(always)]
+    pub(crate) fn ends_or_goes_on(
+        &mut self,
+        alloc: Global,
+        tables: &Tables,
+        script: &Script,
+        store: &Store,
+        next: Move,
+    ) -> Turn
+        requires read { let p : Program = program_of tables.now script.now in IsReadOver p.list script.now }
+        requires fits { let p : Program = program_of tables.now script.now in MachineFits p script.now store.now (moves_on p script.now next self.old) self.old }
+        ensures { Continues (program_of tables.now script.now) script.now store.now next self.old store.now self.new result }
+    {
+        match next {
+            Move::Gives(end) => self.gives(alloc, tables, script, store, end),
+            Move::Steps(frame, job) => match job {
+                Job::Statements(row) => self.statements_under(alloc, tables, script, frame, row),
+                job => Turn::More(Move::Steps(frame, job)),
+            },
+            next => self.goes_on(tables, script, store, next),
+        }
+    }
+
     /// One move that takes no unit.
     #[inline(always)]
     fn turn(
@@ -162,14 +248,13 @@ impl Machine {
         match current {
             Move::Pays(charge) => self.rests(charge),
             Move::Acts(due) => self.acts(alloc, tables, script, store, due),
-            Move::Gives(end) => self.gives(alloc, tables, script, end),
+            Move::Gives(end) => self.gives(alloc, tables, script, store, end),
             Move::Steps(frame, job) => match job {
                 Job::Evaluate(place) => self.evaluates(alloc, tables, script, store, frame, place),
                 Job::Statements(row) => self.statements_under(alloc, tables, script, frame, row),
                 job => self.steps(alloc, tables, script, frame, job),
             },
-            Move::Goes(Job::Statements(row)) => self.statements(script, row),
-            Move::Goes(job) => goes(alloc, tables, script, job),
+            Move::Goes(job) => self.begins(alloc, tables, script, store, job),
         }
     }
 

@@ -57,7 +57,7 @@ fn literal(script: &Script, place: u32) -> Option<Value>
 }
 
 /// The value of an expression that is a name, or a literal but a text.
-fn value_at(
+pub(crate) fn value_at(
     script: &Script,
     store: &Store,
     place: &Place,
@@ -132,12 +132,13 @@ impl Machine {
         place: u32,
     ) -> Turn
         requires read { let p : Program = program_of tables.now script.now in IsReadOver p.list script.now }
+        requires fits { let p : Program = program_of tables.now script.now in MachineFits p script.now store.now (moves_on p script.now (Move.Steps frame (Job.Evaluate place)) self.old) self.old }
         ensures { Turns (program_of tables.now script.now) script.now store.now (Move.Steps frame (Job.Evaluate place)) self.old store.now self.new result }
     {
         match frame {
             Frame::Value(frame) => match value_at(script, store, &self.place, place) {
                 Ok(Some(value)) => match valued(alloc, script, frame, value) {
-                    Ok(next) => Turn::More(next),
+                    Ok(next) => self.ends_or_goes_on(alloc, tables, script, store, next),
                     Err(_) => Turn::Memory,
                 },
                 Ok(None) => {

@@ -12,6 +12,7 @@ mod asks;
 mod at_once;
 mod bindings;
 mod calls;
+mod calls_at_once;
 mod charges;
 mod contexts;
 mod due;
