@@ -18,6 +18,7 @@ mod containers;
 mod dictionaries;
 mod faults;
 mod first_stores;
+mod forms;
 mod fragments;
 mod hostile_containers;
 mod hostile_runs;
