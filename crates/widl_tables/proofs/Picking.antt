@@ -1,11 +1,13 @@
 -- One test after another.
 use Rattle.std.proofs.Common.{◌≡◌, ℕ, suc, zero, ◌+◌, ◌<◌, ◌≤◌, Bool, true, false, List, [], ◌∷◌, length, drop, map, get_or, Option, None, Some, arith, refl, sym, ap, ◌∙◌}
 use Rattle.widl_idl.specs.DefinitionTerms.{DefsTerm}
+use Rattle.widl_idl.specs.Terms.{TypeTerm}
 use Rattle.widl_overload.specs.Sets.{TupleTerm}
 use Rattle.widl_value.specs.declared.class.Class.{Class}
+use Rattle.widl_value.specs.declared.class.Class.TheVariants as classes
 use Rattle.widl_tables.specs.declared.pick.Pick.{Pick}
-use Rattle.widl_tables.specs.Picks.{Met, first_pick, pick_kept, pick_of, picks_by}
-use Rattle.widl_tables.specs.Decided.{decided, decided_by}
+use Rattle.widl_tables.specs.Picks.{Met, first_pick, met_members, pick_kept, pick_of, picks_by}
+use Rattle.widl_tables.specs.Decided.{decided, decided_by, met_step, steps}
 
 abbrev or_later : Option Pick → Pick → Pick
 or_later None later = later
@@ -41,3 +43,16 @@ pub of_several : (list : DefsTerm) (f : ℕ → TupleTerm) (numbers : List ℕ) 
 of_several list f [] place p class probed several is = absurd (omega arith)
 of_several list f (e ∷ []) place p class probed several is = absurd (omega arith)
 of_several list f (e ∷ g ∷ more) place p class probed several is = ap (λ found. pick_kept list (f e ∷ f g ∷ map f more) found class probed) (sym is)
+
+-- the steps of unions, by the class of the value: none but a platform object implements an interface
+pub steps_are_met : (list : DefsTerm) (class : Class) (members : List TypeTerm) (probed : Bool)
+    → first_pick probed (map (met_step list class members) steps) ≡ first_pick probed (met_members list class members)
+steps_are_met list classes.Undefined members probed = refl
+steps_are_met list classes.Null members probed = refl
+steps_are_met list classes.Bool members probed = refl
+steps_are_met list classes.Num members probed = refl
+steps_are_met list classes.Str members probed = refl
+steps_are_met list classes.Sym members probed = refl
+steps_are_met list (classes.Platform own) members probed = refl
+steps_are_met list classes.Callable members probed = refl
+steps_are_met list classes.Plain members probed = refl

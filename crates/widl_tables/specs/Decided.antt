@@ -38,7 +38,7 @@ met_step list class members step = record { needs_method = is_iterable step.1; e
 abbrev pub steps : List (ValueTest × TypeTest)
 steps =
     (values.NullOrUndefined, types.Dictionary)
-    ∷ (values.Anything, types.Implemented)
+    ∷ (values.PlatformObject, types.Implemented)
     ∷ (values.PlatformObject, types.Object)
     ∷ (values.Callable, types.CallbackFunction)
     ∷ (values.Callable, types.Object)

@@ -19,7 +19,7 @@ use widl_value::Class;
 /// What each step asks of a value and of a member type, in the order of the standard's steps.
 const STEPS: [(ValueTest, TypeTest); 15] = [
     (ValueTest::NullOrUndefined, TypeTest::Dictionary),
-    (ValueTest::Anything, TypeTest::Implemented),
+    (ValueTest::PlatformObject, TypeTest::Implemented),
     (ValueTest::PlatformObject, TypeTest::Object),
     (ValueTest::Callable, TypeTest::CallbackFunction),
     (ValueTest::Callable, TypeTest::Object),

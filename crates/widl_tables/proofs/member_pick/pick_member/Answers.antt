@@ -3,8 +3,11 @@ use Rattle.widl_idl.specs.DefinitionTerms.{defs_term}
 use Rattle.widl_idl.specs.Flattened.{flattened_members}
 use Rattle.widl_idl.specs.Terms.{packed, type_terms}
 use Rattle.widl_tables.specs.Decided.{met_step, steps}
-use Rattle.widl_tables.proofs.Picking.{settled, undecided}
+use Rattle.widl_tables.proofs.Picking.{settled, steps_are_met, undecided}
 use Rattle.widl_tables.proofs.member_pick.pick_member.Goals as goal
+
+pub loop-step-init : goal.loop-step-init
+loop-step-init c = steps_are_met (defs_term c.args.defs.now) c.args.class (flattened_members (packed (type_terms c.args.members.now))) c.args.probed
 
 pub returns-in-Some : goal.returns-in-Some
 returns-in-Some c =
