@@ -1,23 +1,24 @@
 -- The types inside nullable types and unions that Numbers and Strings take. Whether a value implements an interface is asked of objects alone: so
 -- no list matters.
-use Rattle.std.proofs.Common.{◌≡◌, ℕ, ◌&&◌, Bool, true, false, if◌then◌else◌, List, [], Option, Some, None, refl, ap, subst, ◌∙◌}
+use Rattle.std.proofs.Common.{◌≡◌, ℕ, ◌&&◌, Bool, true, false, if◌then◌else◌, List, [], Option, Some, None, refl, sym, ap, subst, ◌∙◌}
 use Rattle.widl_dialog.specs.Position.{At}
 use Rattle.widl_dialog.specs.Stack.{still}
-use Rattle.std.specs.Prelude.{slice_get}
-use Rattle.widl_idl.specs.declared.int_kind.IntKind.{IntKind}
-use Rattle.widl_idl.specs.declared.int_kind.Mode.{Mode}
-use Rattle.widl_idl.specs.declared.text_kind.TextKind.{TextKind}
+use Rattle.std.specs.Prelude.{IfSome, slice_get}
 use Rattle.widl_idl.specs.DefinitionTerms.{DefsTerm}
 use Rattle.widl_idl.specs.Flattened.{flattened_members, includes_nullable_type}
-use Rattle.widl_idl.specs.Terms.{TypeTerm, TypeTerms, IntegerType, StringType, UnionType}
+use Rattle.widl_idl.specs.Terms.{TypeTerm, TypeTerms, IntegerType, NullableType, StringType, UnionType}
 use Rattle.widl_value.specs.declared.class.Class.TheVariants as classes
-use Rattle.widl_value.specs.declared.number.Number.{Number}
 use Rattle.widl_value.specs.declared.value.Value.{Value}
 use Rattle.widl_value.specs.declared.value.Value.TheVariants as values
 use Rattle.widl_value.specs.IdlTerms.{NullValue}
 use Rattle.widl_tables.specs.declared.pick.Pick.{Pick}
 use Rattle.widl_tables.specs.declared.pick.Pick.TheVariants.{Entry}
 use Rattle.widl_tables.specs.Picks.{pick_member_of}
+use Rattle.widl_convert.specs.declared.scalar_types.Given.{Given}
+use Rattle.widl_convert.specs.declared.scalar_types.Given.TheVariants as givens
+use Rattle.widl_convert.specs.declared.scalar_types.ScalarType.{ScalarType}
+use Rattle.widl_convert.specs.declared.scalar_types.ScalarType.TheVariants as scalars
+use Rattle.widl_convert.specs.AtOnce.{AreSame, class_given, scalar_type}
 use Rattle.widl_convert.specs.AskTerms.{BeginAnswer, Fits}
 use Rattle.widl_convert.specs.declared.asker.Asker.{Asker}
 use Rattle.widl_convert.specs.Built.{built_today}
@@ -39,15 +40,31 @@ goes_on : (list : DefsTerm) (ts : TypeTerms) (v : Value) (pick : Pick) (place : 
 goes_on list ts v pick place t picks found =
     ap (member_picked (convert_plain built_today list) built_today list ts v) picks ∙ ap (λ (m : Option TypeTerm). to_member (convert_plain built_today list) m v) found
 
-pub number_member : (list other : DefsTerm) (ts : TypeTerms) (place : ℕ) (kind : IntKind) (mode : Mode) (n : Number) → pick_member_of other ts classes.Num false ≡ Entry place → slice_get (flattened_members ts) place ≡ Some (IntegerType kind mode) → convert built_today list (UnionType ts) (values.Num n) ≡ convert built_today list (IntegerType kind mode) (values.Num n)
-number_member list other ts place kind mode n picks found =
-    no_null (includes_nullable_type (UnionType ts)) (gives NullValue) (member_picked (convert_plain built_today list) built_today list ts (values.Num n) (pick_member_of list ts classes.Num false))
-    ∙ goes_on list ts (values.Num n) (pick_member_of list ts classes.Num false) place (IntegerType kind mode) picks found
+-- a type at which no list of members is gone through
+abbrev IsPlain : TypeTerm → Type 0
+IsPlain t = (list : DefsTerm) (v : Value) → convert built_today list t v ≡ convert_plain built_today list t v
 
-pub text_member : (list other : DefsTerm) (ts : TypeTerms) (place : ℕ) (kind : TextKind) (units : List ℕ) → pick_member_of other ts classes.Str false ≡ Entry place → slice_get (flattened_members ts) place ≡ Some (StringType kind false) → convert built_today list (UnionType ts) (values.Str units) ≡ convert built_today list (StringType kind false) (values.Str units)
-text_member list other ts place kind units picks found =
+of_member : (given : Given) (other : DefsTerm) (ts : TypeTerms) (place : ℕ) (t : TypeTerm) → IsPlain t → pick_member_of other ts (class_given given) false ≡ Entry place → slice_get (flattened_members ts) place ≡ Some t → AreSame given (UnionType ts) t
+of_member givens.Number other ts place t plain picks found = λ list n.
+    no_null (includes_nullable_type (UnionType ts)) (gives NullValue) (member_picked (convert_plain built_today list) built_today list ts (values.Num n) (pick_member_of list ts classes.Num false))
+    ∙ goes_on list ts (values.Num n) (pick_member_of list ts classes.Num false) place t picks found ∙ sym (plain list (values.Num n))
+of_member givens.Text other ts place t plain picks found = λ list units.
     no_null (includes_nullable_type (UnionType ts)) (gives NullValue) (member_picked (convert_plain built_today list) built_today list ts (values.Str units) (pick_member_of list ts classes.Str false))
-    ∙ goes_on list ts (values.Str units) (pick_member_of list ts classes.Str false) place (StringType kind false) picks found
+    ∙ goes_on list ts (values.Str units) (pick_member_of list ts classes.Str false) place t picks found ∙ sym (plain list (values.Str units))
+
+pub picked_same : (given : Given) (s : ScalarType) (other : DefsTerm) (ts : TypeTerms) (place : ℕ) → pick_member_of other ts (class_given given) false ≡ Entry place → IfSome (scalar_type s) (λ t. slice_get (flattened_members ts) place ≡ Some t) → IfSome (scalar_type s) (λ t. AreSame given (UnionType ts) t)
+picked_same given (scalars.Integer kind mode) other ts place picks found = of_member given other ts place (IntegerType kind mode) (λ list v. refl) picks found
+picked_same given (scalars.Text kind) other ts place picks found = of_member given other ts place (StringType kind false) (λ list v. refl) picks found
+picked_same given scalars.Unknown other ts place picks found = tt
+
+-- neither a Number nor a String is null
+pub nullable_same : (given : Given) (t u : TypeTerm) → AreSame given t u → AreSame given (NullableType t) u
+nullable_same givens.Number t u same = same
+nullable_same givens.Text t u same = same
+
+pub same_back : (given : Given) (t u : TypeTerm) → AreSame given t u → AreSame given u t
+same_back givens.Number t u same = λ list n. sym (same list n)
+same_back givens.Text t u same = λ list units. sym (same list units)
 
 -- 2. Where a conversation of another task with the same steps begins
 

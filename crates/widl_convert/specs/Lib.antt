@@ -10,6 +10,7 @@ pub mod Dictionaries
 pub mod Nullables
 pub mod Unions
 pub mod Scalars
+pub mod AtOnce
 pub mod Resolution
 pub mod Defaults
 pub mod Results

@@ -24,7 +24,7 @@ use crate::moves::{Ending, Move};
 use crate::nullable::null_of;
 use crate::outcome::{Outcome, Want};
 use crate::record::to_record;
-use crate::scalar_types::{integer_within, string_within};
+use crate::scalar_types::{Given, ScalarType, scalar_within};
 use crate::sequence::to_sequence;
 use crate::union::{by_member, is_null_of};
 use std::alloc::{AllocError, Global};
@@ -174,29 +174,9 @@ fn convert_number(
     ensures leads { IfOk result (λ m. Leads (defs_term tables.now.defs) (convert built_today (defs_term tables.now.defs) (type_term ty.now) (Value.Num number)) (move_dialog (defs_term tables.now.defs) m)) }
     ensures weight { IfOk result (λ m. weight (defs_term tables.now.defs) m ≤ type_load (type_term ty.now)) }
 {
-    match ty {
-        IdlType::Int(kind, mode) => Ok(to_integer(*kind, *mode, number)),
-        _ => convert_number_within(alloc, tables, ty, number),
-    }
-}
-
-/// The same, where the integer type may be inside the type.
-///
-/// # Errors
-///
-/// `AllocError` where there is no memory.
-fn convert_number_within(
-    alloc: Global,
-    tables: &Tables,
-    ty: &IdlType,
-    number: Number,
-) -> Result<Move, AllocError>
-    ensures leads { IfOk result (λ m. Leads (defs_term tables.now.defs) (convert built_today (defs_term tables.now.defs) (type_term ty.now) (Value.Num number)) (move_dialog (defs_term tables.now.defs) m)) }
-    ensures weight { IfOk result (λ m. weight (defs_term tables.now.defs) m ≤ type_load (type_term ty.now)) }
-{
-    match integer_within(tables.list().defs(), ty) {
-        Some((kind, mode)) => Ok(to_integer(kind, mode, number)),
-        None => convert(alloc, tables, ty, Value::Num(number)),
+    match scalar_within(tables.list().defs(), Given::Number, ty) {
+        ScalarType::Integer(kind, mode) => Ok(to_integer(kind, mode, number)),
+        ScalarType::Text(_) | ScalarType::Unknown => convert(alloc, tables, ty, Value::Num(number)),
     }
 }
 
@@ -214,32 +194,11 @@ fn convert_text(
     ensures leads { IfOk result (λ m. Leads (defs_term tables.now.defs) (convert built_today (defs_term tables.now.defs) (type_term ty.now) (Value.Str text)) (move_dialog (defs_term tables.now.defs) m)) }
     ensures weight { IfOk result (λ m. weight (defs_term tables.now.defs) m ≤ type_load (type_term ty.now)) }
 {
-    match ty {
-        IdlType::Text {
-            kind,
-            null_empty: _,
-        } => to_string(alloc, *kind, text),
-        _ => convert_text_within(alloc, tables, ty, text),
-    }
-}
-
-/// The same, where the string type may be inside the type.
-///
-/// # Errors
-///
-/// `AllocError` where there is no memory.
-fn convert_text_within(
-    alloc: Global,
-    tables: &Tables,
-    ty: &IdlType,
-    text: Units,
-) -> Result<Move, AllocError>
-    ensures leads { IfOk result (λ m. Leads (defs_term tables.now.defs) (convert built_today (defs_term tables.now.defs) (type_term ty.now) (Value.Str text)) (move_dialog (defs_term tables.now.defs) m)) }
-    ensures weight { IfOk result (λ m. weight (defs_term tables.now.defs) m ≤ type_load (type_term ty.now)) }
-{
-    match string_within(tables.list().defs(), ty) {
-        Some(kind) => to_string(alloc, kind, text),
-        None => convert(alloc, tables, ty, Value::Str(text)),
+    match scalar_within(tables.list().defs(), Given::Text, ty) {
+        ScalarType::Text(kind) => to_string(alloc, kind, text),
+        ScalarType::Integer(_, _) | ScalarType::Unknown => {
+            convert(alloc, tables, ty, Value::Str(text))
+        }
     }
 }
 

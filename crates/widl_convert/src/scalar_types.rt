@@ -1,12 +1,13 @@
-//! The types inside nullable types and unions to which Numbers and Strings are converted: those that need no more than the value,
-//! and that it picks without an ask. Which they are depends on no list of definitions.
+//! The types to which Numbers and Strings are converted at once, also inside nullable types and unions: integer types and string
+//! types, where the value picks them without an ask. Which they are depends on no list of definitions.
 //!
 //! A type of a list of definitions nests at most 16 levels, which bounds the recursion.
 
-ghost use Rattle.std.specs.Prelude.{ℕ, List, ◌≡◌, IfOk, IfSome, Some, false, slice_get};
+ghost use Rattle.std.specs.Prelude.{◌≡◌, IfOk, IfSome, Some, false, slice_get};
 ghost use Rattle.widl_idl.specs.DefinitionTerms.{DefsTerm};
-ghost use Rattle.widl_idl.specs.Flattened.{flattened_members};
-ghost use Rattle.widl_idl.specs.Terms.{IntegerType, NullableType, StringType, UnionType, packed, type_term, type_terms};
+ghost use Rattle.widl_idl.specs.Flattened.{flattened_members, unannotated};
+ghost use Rattle.widl_idl.specs.Terms.{NullableType, StringType, UnionType, packed, type_term, type_terms};
+ghost use Rattle.widl_convert.specs.AtOnce.{AreSame, class_given, scalar_type};
 ghost use Rattle.widl_convert.specs.Built.{built_today};
 ghost use Rattle.widl_convert.specs.Loads.{conversion_load, type_load};
 ghost use Rattle.widl_convert.specs.Scalars.{convert};
@@ -17,10 +18,41 @@ use widl_idl::{
     Callbacks, Choices, Defs, Dicts, IdlType, IdlTypes, Ifaces, IntKind, Mode, Spaces, TextKind,
 };
 use widl_tables::{Pick, pick_member};
-use widl_value::{Class, Number, Value};
+use widl_value::{Class, Value};
 
-/// A type to which a value is converted in the same steps as to this one: of a union no more than the integer type that a Number
-/// picks, or the string type that a String does, and otherwise a copy.
+/// What kind of value is converted.
+#[derive(Clone, Copy)]
+pub(crate) enum Given {
+    /// A Number.
+    Number,
+    /// A String.
+    Text,
+}
+
+/// A type to which a value is converted in the same steps as to the type that it stands in.
+#[derive(Clone, Copy)]
+pub(crate) enum ScalarType {
+    /// An integer type.
+    Integer(IntKind, Mode),
+    /// A string type, where what null is converted to doesn't matter.
+    Text(TextKind),
+    /// None was found.
+    Unknown,
+}
+
+impl Given {
+    fn class(self) -> Class
+        ensures { result ≡ class_given self }
+    {
+        match self {
+            Given::Number => Class::Num,
+            Given::Text => Class::Str,
+        }
+    }
+}
+
+/// A type to which a value is converted in the same steps as to this one: of a union no more than the integer type or string type
+/// that a Number or a String picks, and otherwise a copy.
 ///
 /// # Errors
 ///
@@ -31,46 +63,32 @@ pub(crate) fn type_for(alloc: Global, ty: &IdlType, value: &Value) -> Result<Idl
 {
     match ty {
         IdlType::Union(members) => match value {
-            Value::Num(_) => type_for_number(alloc, members),
-            Value::Str(_) => type_for_text(alloc, members),
+            Value::Num(_) => type_for_given(alloc, Given::Number, members),
+            Value::Str(_) => type_for_given(alloc, Given::Text, members),
             _ => ty.copy(alloc),
         },
         _ => ty.copy(alloc),
     }
 }
 
-/// The same of a Number, for a union with these members.
+/// The same of a Number or a String, for a union with these members.
 ///
 /// # Errors
 ///
 /// `AllocError` where there is no memory.
-fn type_for_number(alloc: Global, members: &IdlTypes) -> Result<IdlType, AllocError>
-    ensures same { IfOk result (λ t. (list : DefsTerm) (n : Number) → convert built_today list (type_term t) (Value.Num n) ≡ convert built_today list (UnionType (packed (type_terms members.now))) (Value.Num n)) }
+fn type_for_given(alloc: Global, given: Given, members: &IdlTypes) -> Result<IdlType, AllocError>
+    ensures same { IfOk result (λ t. AreSame given (type_term t) (UnionType (packed (type_terms members.now)))) }
     ensures load { IfOk result (λ t. type_load (type_term t) ≡ conversion_load) }
 {
-    match integer_member(&no_definitions(alloc), members) {
-        Some((kind, mode)) => Ok(IdlType::Int(kind, mode)),
-        None => Ok(IdlType::Union(members.copy(alloc)?)),
+    match scalar_of_union(&no_definitions(alloc), given, members) {
+        ScalarType::Integer(kind, mode) => Ok(IdlType::Int(kind, mode)),
+        ScalarType::Text(kind) => nullable_text(alloc, kind),
+        ScalarType::Unknown => Ok(IdlType::Union(members.copy(alloc)?)),
     }
 }
 
-/// The same of a String.
-///
-/// # Errors
-///
-/// `AllocError` where there is no memory.
-fn type_for_text(alloc: Global, members: &IdlTypes) -> Result<IdlType, AllocError>
-    ensures same { IfOk result (λ t. (list : DefsTerm) (units : List ℕ) → convert built_today list (type_term t) (Value.Str units) ≡ convert built_today list (UnionType (packed (type_terms members.now))) (Value.Str units)) }
-    ensures load { IfOk result (λ t. type_load (type_term t) ≡ conversion_load) }
-{
-    match string_member(&no_definitions(alloc), members) {
-        Some(kind) => nullable_text(alloc, kind),
-        None => Ok(IdlType::Union(members.copy(alloc)?)),
-    }
-}
-
-/// A string type, as a nullable one: a String is converted to both in the same steps, and what is left of that without a charge is
-/// counted as for a union.
+/// A string type, as a nullable one: a Number or a String is converted to both in the same steps, and what is left of that without a
+/// charge is counted as for a union.
 ///
 /// # Errors
 ///
@@ -97,159 +115,110 @@ fn no_definitions(alloc: Global) -> Defs {
     }
 }
 
-/// The integer type to which a Number is converted where it is converted to a type.
-pub(crate) fn integer_within(defs: &Defs, ty: &IdlType) -> Option<(IntKind, Mode)>
-    ensures { IfSome result (λ within. (list : DefsTerm) (n : Number) → convert built_today list (type_term ty.now) (Value.Num n) ≡ convert built_today list (IntegerType within.0 within.1) (Value.Num n)) }
+/// The integer type or string type to which a Number or a String is converted where it is converted to a type.
+pub(crate) fn scalar_within(defs: &Defs, given: Given, ty: &IdlType) -> ScalarType
+    ensures { IfSome (scalar_type result) (λ t. AreSame given (type_term ty.now) t) }
 {
     match ty {
-        IdlType::Int(kind, mode) => Some((*kind, *mode)),
-        IdlType::Nullable(inner) => integer_within(defs, inner),
-        IdlType::Union(members) => integer_member(defs, members),
-        _ => None,
-    }
-}
-
-/// The same, of a union with these members. Where none is an integer type nothing is picked: the pick is made where the value is
-/// converted, and no union is gone through twice for it.
-fn integer_member(defs: &Defs, members: &IdlTypes) -> Option<(IntKind, Mode)>
-    ensures { IfSome result (λ within. (list : DefsTerm) (n : Number) → convert built_today list (UnionType (packed (type_terms members.now))) (Value.Num n) ≡ convert built_today list (IntegerType within.0 within.1) (Value.Num n)) }
-{
-    if has_integer(members) {
-        integer_among(defs, members)
-    } else {
-        None
-    }
-}
-
-/// Whether one of these types is an integer type, or has one inside. What is converted doesn't depend on the answer.
-#[cycle(integer)]
-fn has_integer(members: &IdlTypes) -> bool {
-    for member in members.as_slice() {
-        match member {
-            IdlType::Int(_, _) => return true,
-            IdlType::Nullable(inner) => if is_integer_inside(inner) {
-                return true;
-            },
-            IdlType::Union(inner) => if has_integer(inner) {
-                return true;
-            },
-            _ => {}
-        }
-    }
-    false
-}
-
-/// The same of one type.
-#[cycle(integer)]
-fn is_integer_inside(ty: &IdlType) -> bool {
-    match ty {
-        IdlType::Int(_, _) => true,
-        IdlType::Nullable(inner) => is_integer_inside(inner),
-        IdlType::Union(members) => has_integer(members),
-        _ => false,
-    }
-}
-
-/// The integer type that a Number picks of a union with these members, if it picks one.
-fn integer_among(defs: &Defs, members: &IdlTypes) -> Option<(IntKind, Mode)>
-    ensures { IfSome result (λ within. (list : DefsTerm) (n : Number) → convert built_today list (UnionType (packed (type_terms members.now))) (Value.Num n) ≡ convert built_today list (IntegerType within.0 within.1) (Value.Num n)) }
-{
-    match pick_member(defs, members, Class::Num, false) {
-        Pick::Entry(place) => integer_at(members, place),
-        Pick::Probe(_) => None,
-        Pick::Refuse => None,
-    }
-}
-
-/// The integer type that is the flattened member of a union at a place.
-fn integer_at(members: &IdlTypes, place: u32) -> Option<(IntKind, Mode)>
-    ensures { IfSome result (λ within. slice_get (flattened_members (packed (type_terms members.now))) place ≡ Some (IntegerType within.0 within.1)) }
-{
-    match member_at(members, place) {
-        Some(IdlType::Int(kind, _)) => Some((*kind, Mode::Wrap)),
-        _ => None,
-    }
-}
-
-/// The string type to which a String is converted where it is converted to a type.
-pub(crate) fn string_within(defs: &Defs, ty: &IdlType) -> Option<TextKind>
-    ensures { IfSome result (λ kind. (list : DefsTerm) (units : List ℕ) → convert built_today list (type_term ty.now) (Value.Str units) ≡ convert built_today list (StringType kind false) (Value.Str units)) }
-{
-    match ty {
+        IdlType::Int(kind, mode) => ScalarType::Integer(*kind, *mode),
         IdlType::Text {
             kind,
             null_empty: _,
-        } => Some(*kind),
-        IdlType::Nullable(inner) => string_within(defs, inner),
-        IdlType::Union(members) => string_member(defs, members),
-        _ => None,
+        } => ScalarType::Text(*kind),
+        IdlType::Nullable(inner) => scalar_within(defs, given, inner),
+        IdlType::Union(members) => scalar_of_union(defs, given, members),
+        _ => ScalarType::Unknown,
     }
 }
 
-/// The same, of a union with these members. Where the first of the types of texts is no string type nothing is picked.
-fn string_member(defs: &Defs, members: &IdlTypes) -> Option<TextKind>
-    ensures { IfSome result (λ kind. (list : DefsTerm) (units : List ℕ) → convert built_today list (UnionType (packed (type_terms members.now))) (Value.Str units) ≡ convert built_today list (StringType kind false) (Value.Str units)) }
+/// The same, of a union with these members. Where none would be found nothing is picked: the pick is made where the value is
+/// converted, and no union is gone through twice for it.
+fn scalar_of_union(defs: &Defs, given: Given, members: &IdlTypes) -> ScalarType
+    ensures { IfSome (scalar_type result) (λ t. AreSame given (UnionType (packed (type_terms members.now))) t) }
 {
-    if matches!(first_text(members), Some(true)) {
-        string_among(defs, members)
-    } else {
-        None
+    match first_among(given, members) {
+        First::Scalar => picked(defs, given, members),
+        First::Enumeration | First::Neither => ScalarType::Unknown,
     }
 }
 
-/// Whether the first string type or enumeration among these types, or inside them, is a string type. What is converted doesn't
-/// depend on the answer.
-#[cycle(text)]
-fn first_text(members: &IdlTypes) -> Option<bool> {
+/// The first type that a value of a kind may pick.
+#[derive(Clone, Copy)]
+enum First {
+    /// An integer type or a string type.
+    Scalar,
+    /// An enumeration.
+    Enumeration,
+    /// There is none.
+    Neither,
+}
+
+/// The first of these types, and of those inside them, that a Number or a String may pick. What is converted doesn't depend on the
+/// answer.
+#[cycle(first)]
+fn first_among(given: Given, members: &IdlTypes) -> First {
     for member in members.as_slice() {
-        let first = match member {
-            IdlType::Text { .. } => return Some(true),
-            IdlType::Choice(_) => return Some(false),
-            IdlType::Nullable(inner) => first_text_inside(inner),
-            IdlType::Union(inner) => first_text(inner),
-            _ => None,
-        };
-        if first.is_some() {
-            return first;
+        match first_inside(given, member) {
+            First::Neither => {}
+            first => return first,
         }
     }
-    None
+    First::Neither
 }
 
 /// The same of one type.
-#[cycle(text)]
-fn first_text_inside(ty: &IdlType) -> Option<bool> {
+#[cycle(first)]
+fn first_inside(given: Given, ty: &IdlType) -> First {
     match ty {
-        IdlType::Text { .. } => Some(true),
-        IdlType::Choice(_) => Some(false),
-        IdlType::Nullable(inner) => first_text_inside(inner),
-        IdlType::Union(members) => first_text(members),
-        _ => None,
+        IdlType::Int(_, _) => match given {
+            Given::Number => First::Scalar,
+            Given::Text => First::Neither,
+        },
+        IdlType::Text { .. } => match given {
+            Given::Number => First::Neither,
+            Given::Text => First::Scalar,
+        },
+        IdlType::Choice(_) => match given {
+            Given::Number => First::Neither,
+            Given::Text => First::Enumeration,
+        },
+        IdlType::Nullable(inner) => first_inside(given, inner),
+        IdlType::Union(members) => first_among(given, members),
+        _ => First::Neither,
     }
 }
 
-/// The string type that a String picks of a union with these members, if it picks one.
-fn string_among(defs: &Defs, members: &IdlTypes) -> Option<TextKind>
-    ensures { IfSome result (λ kind. (list : DefsTerm) (units : List ℕ) → convert built_today list (UnionType (packed (type_terms members.now))) (Value.Str units) ≡ convert built_today list (StringType kind false) (Value.Str units)) }
+/// The integer type or string type that a Number or a String picks of a union with these members, if it picks one.
+fn picked(defs: &Defs, given: Given, members: &IdlTypes) -> ScalarType
+    ensures { IfSome (scalar_type result) (λ t. AreSame given (UnionType (packed (type_terms members.now))) t) }
 {
-    match pick_member(defs, members, Class::Str, false) {
-        Pick::Entry(place) => string_at(members, place),
-        Pick::Probe(_) => None,
-        Pick::Refuse => None,
+    match pick_member(defs, members, given.class(), false) {
+        Pick::Entry(place) => scalar_at(members, place),
+        Pick::Probe(_) => ScalarType::Unknown,
+        Pick::Refuse => ScalarType::Unknown,
     }
 }
 
-/// The string type that is the flattened member of a union at a place.
-fn string_at(members: &IdlTypes, place: u32) -> Option<TextKind>
-    ensures { IfSome result (λ kind. slice_get (flattened_members (packed (type_terms members.now))) place ≡ Some (StringType kind false)) }
+/// The integer type or string type that is the flattened member of a union at a place.
+fn scalar_at(members: &IdlTypes, place: u32) -> ScalarType
+    ensures { IfSome (scalar_type result) (λ t. slice_get (flattened_members (packed (type_terms members.now))) place ≡ Some t) }
 {
     match member_at(members, place) {
-        Some(
-            IdlType::Text {
-                kind,
-                null_empty: _,
-            },
-        ) => Some(*kind),
-        _ => None,
+        Some(member) => scalar_of(member),
+        None => ScalarType::Unknown,
+    }
+}
+
+/// The integer type or string type that a type is without its annotation.
+fn scalar_of(ty: &IdlType) -> ScalarType
+    ensures { IfSome (scalar_type result) (λ t. unannotated (type_term ty.now) ≡ t) }
+{
+    match ty {
+        IdlType::Int(kind, _) => ScalarType::Integer(*kind, Mode::Wrap),
+        IdlType::Text {
+            kind,
+            null_empty: _,
+        } => ScalarType::Text(*kind),
+        _ => ScalarType::Unknown,
     }
 }
