@@ -131,65 +131,8 @@ pub(crate) fn scalar_within(defs: &Defs, given: Given, ty: &IdlType) -> ScalarTy
     }
 }
 
-/// The same, of a union with these members. Where none would be found nothing is picked: the pick is made where the value is
-/// converted, and no union is gone through twice for it.
+/// The same, of a union with these members: what the value picks of them, if that is such a type.
 fn scalar_of_union(defs: &Defs, given: Given, members: &IdlTypes) -> ScalarType
-    ensures { IfSome (scalar_type result) (λ t. AreSame given (UnionType (packed (type_terms members.now))) t) }
-{
-    match first_among(given, members) {
-        First::Scalar => picked(defs, given, members),
-        First::Enumeration | First::Neither => ScalarType::Unknown,
-    }
-}
-
-/// The first type that a value of a kind may pick.
-#[derive(Clone, Copy)]
-enum First {
-    /// An integer type or a string type.
-    Scalar,
-    /// An enumeration.
-    Enumeration,
-    /// There is none.
-    Neither,
-}
-
-/// The first of these types, and of those inside them, that a Number or a String may pick. What is converted doesn't depend on the
-/// answer.
-#[cycle(first)]
-fn first_among(given: Given, members: &IdlTypes) -> First {
-    for member in members.as_slice() {
-        match first_inside(given, member) {
-            First::Neither => {}
-            first => return first,
-        }
-    }
-    First::Neither
-}
-
-/// The same of one type.
-#[cycle(first)]
-fn first_inside(given: Given, ty: &IdlType) -> First {
-    match ty {
-        IdlType::Int(_, _) => match given {
-            Given::Number => First::Scalar,
-            Given::Text => First::Neither,
-        },
-        IdlType::Text { .. } => match given {
-            Given::Number => First::Neither,
-            Given::Text => First::Scalar,
-        },
-        IdlType::Choice(_) => match given {
-            Given::Number => First::Neither,
-            Given::Text => First::Enumeration,
-        },
-        IdlType::Nullable(inner) => first_inside(given, inner),
-        IdlType::Union(members) => first_among(given, members),
-        _ => First::Neither,
-    }
-}
-
-/// The integer type or string type that a Number or a String picks of a union with these members, if it picks one.
-fn picked(defs: &Defs, given: Given, members: &IdlTypes) -> ScalarType
     ensures { IfSome (scalar_type result) (λ t. AreSame given (UnionType (packed (type_terms members.now))) t) }
 {
     match pick_member(defs, members, given.class(), false) {

@@ -3,7 +3,7 @@ use Rattle.widl_idl.specs.DefinitionTerms.{defs_term}
 use Rattle.widl_idl.specs.Terms.{packed, type_terms}
 use Rattle.widl_tables.specs.Picks.{pick_member_of}
 use Rattle.widl_convert.proofs.ScalarTypes.{picked_same}
-use Rattle.widl_convert.proofs.scalar_types.picked.Goals as goal
+use Rattle.widl_convert.proofs.scalar_types.scalar_of_union.Goals as goal
 
 pub returns-in-Entry : goal.returns-in-Entry
 returns-in-Entry c =
