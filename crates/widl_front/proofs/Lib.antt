@@ -3,4 +3,5 @@ mod OneFinding
 mod OneText
 mod OneVerdict
 mod TokenCounts
+mod DefinitionCounts
 mod Trees

@@ -27,6 +27,7 @@ use Rattle.widl_front.specs.declared.verdict.Verdict.{Verdict}
 use Rattle.widl_front.specs.declared.verdict.Verdict.TheVariants.{Fault, Broken, Accepted}
 use Rattle.widl_front.proofs.Found.{size_before}
 use Rattle.widl_front.proofs.TokenCounts.{tokens_fit}
+use Rattle.widl_front.proofs.DefinitionCounts.{definitions_fit}
 
 no_finding : {X : Type 0} {x : X} → ◌≡◌ {A = Option X} (Some x) None → ⊥
 no_finding e = (cc)
@@ -89,6 +90,7 @@ found_files texts trees None few short is so = record {
   few = (let size : length trees ≡ length texts = same_size 0 texts trees so in omega (arith, size, few));
   numbered = λ i f at. (let numbered : f.file ≡ 0 + i = numbered_from 0 texts trees so i f at in omega (arith, numbered));
   tokens = tokens_fit texts trees few short so;
+  definitions = definitions_fit texts trees few short so;
 }
 found_files texts trees (Some finding) few short is so = absurd (no_finding is)
 

@@ -35,7 +35,7 @@ none_numbered P xs e = subst (IsNumbered P) (sym e) (record { few = omega arith;
 
 pub empty_is_merged : (defs : Defs) (fragments : List Fragment) → defs.ifaces ≡ [] → defs.spaces ≡ [] → defs.dicts ≡ [] → defs.choices ≡ [] → defs.callback_fns ≡ [] → defs.callback_ifaces ≡ [] → fragments ≡ [] → IsMerged defs fragments
 empty_is_merged defs fragments a b c d e f g = subst (IsMerged defs) (sym g) (record {
-  files = record { few = omega arith; numbered = λ i x h. absurd (nothing_there i x h); tokens = omega arith };
+  files = record { few = omega arith; numbered = λ i x h. absurd (nothing_there i x h); tokens = omega arith; definitions = omega arith };
   unbroken = record { profile = λ r s h. omega (arith, h.listed.1); merging = no_breaks };
   merged = rw (a, b, c, d, e, f) refl;
   numbered = record {

@@ -13,11 +13,12 @@ use Rattle.widl_idl.specs.MergedList.{merged_list}
 use Rattle.widl_idl.specs.MergingRules.{BreaksMerging}
 use Rattle.widl_idl.specs.Profile.{BreaksProfile}
 
--- a set of files, few enough, in the order of their numbers, with fewer tokens than 32 bits can count
+-- a set of files, few enough, in the order of their numbers, with fewer tokens and fewer definitions than 32 bits can count
 pub record AreFiles (fragments : List Fragment) : Type 0 where
   pub few : length fragments ≤ most_files
   pub numbered : (i : ℕ) (f : Fragment) → slice_get fragments i ≡ Some f → f.file ≡ i
   pub tokens : sum_by (λ (f : Fragment). f.token_count) fragments < 2 ^ 32
+  pub definitions : length (definitions_of fragments) < 2 ^ 32
 
 -- no rule of the profile is broken anywhere, and no rule of merging
 pub record IsUnbroken (fragments : List Fragment) : Type 0 where

@@ -10,7 +10,7 @@ use Rattle.widl_idl.specs.declared.tree.members.Member.{Member}
 use Rattle.widl_idl.specs.First.{AtOne, FirstWhere, Somewhere, earlier}
 use Rattle.widl_idl.specs.PlainTrees.{PlainMember, PlainMemberKind, IterableMember, member_of}
 use Rattle.widl_idl.proofs.Order.{first_same, one_place}
-use Rattle.widl_inheritance.specs.InterfaceMembers.{listed_members}
+use Rattle.widl_names.specs.Listings.{listed_members}
 use Rattle.widl_inheritance.specs.Iterations.{FollowsIterable, IsHiding, iterable_place, violation_if}
 use Rattle.widl_fits.proofs.Fits.{item_any}
 use Rattle.widl_names.proofs.Mapped.{all_somewhere, next_somewhere}

@@ -12,7 +12,10 @@ pub mod Opening
 pub mod Closing
 pub mod Visiting
 pub mod Coming
-pub mod Whole
+pub mod ParentChains
+pub mod Rooms
+pub mod Taking
+pub mod Covering
 pub mod Keeping
 pub mod Inheriting
 pub mod NumberedMembers

@@ -10,8 +10,8 @@ use Rattle.widl_idl.specs.MergingRules.{is_number}
 use Rattle.widl_idl.specs.Parts.{members_in, merged_members}
 use Rattle.widl_idl.specs.PlainTypes.{PlainName}
 use Rattle.widl_idl.specs.PlainTrees.{PlainDefinition, PlainKind, definition_of, plain_definitions}
-use Rattle.widl_inheritance.specs.InterfaceMembers.{is_meant_interface, means_itself, members_at, members_named, members_of_kind}
-use Rattle.widl_names.specs.PartTables.{ListsParts}
+use Rattle.widl_inheritance.specs.InterfaceMembers.{is_meant_interface, members_at, members_named, members_of_kind}
+use Rattle.widl_names.specs.PartTables.{ListsParts, means_itself}
 use Rattle.widl_names.proofs.KeptMembers.{merged_listed}
 use Rattle.widl_names.proofs.NamedParts.{meaning_named, meant_at}
 use Rattle.widl_names.proofs.PlainLists.{listed_same}

@@ -5,6 +5,8 @@ pub mod EmptyDefaults
 pub mod HoldingGraph
 pub mod ChainLengths
 pub mod Spans
+pub mod Children
+pub mod SpanWalks
 pub mod MemberEnds
 pub mod InterfaceMembers
 pub mod ReachedFlags

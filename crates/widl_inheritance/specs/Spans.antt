@@ -1,7 +1,8 @@
 -- For proofs alone. The spans of the nodes of a forest: where each stands in an order in which those that come from a node follow it, and where the last of these stands.
 use Rattle.std.specs.Prelude.{◌≡◌, ◌⊎◌, ℕ, ◌<◌, ◌≤◌, List, length, map, slice_get, Option, Some, option_and_then}
 use Rattle.std.specs.Option.{option_to_list}
-use Rattle.widl_graph.specs.Reaching.{Reaches}
+use Rattle.widl_graph.specs.Reaching.{AreNodes, Reaches}
+use Rattle.widl_inheritance.specs.ReachedFlags.{IsAcyclic}
 use Rattle.widl_inheritance.specs.declared.spans.Span.{Span}
 
 -- the parent of a node, if it has one
@@ -11,6 +12,11 @@ parent_in parents n = option_and_then (λ p. p) (slice_get parents n)
 -- the graph in which each node is followed by its parent
 abbrev pub parent_graph : List (Option ℕ) → List (List ℕ)
 parent_graph parents = map option_to_list parents
+
+-- nodes with these parents are a forest: each parent is one of them, and none comes from itself
+pub record IsForest (parents : List (Option ℕ)) : Type 0 where
+  pub listed : AreNodes (parent_graph parents)
+  pub acyclic : IsAcyclic (parent_graph parents)
 
 -- the span of a node, if it has one
 abbrev pub span_of : List (Option Span) → ℕ → Option Span

@@ -28,6 +28,22 @@ pub fn list_arguments<'a>(
     Ok(lists)
 }
 
+/// The lists of arguments of one definition, in the order of the source.
+///
+/// # Errors
+///
+/// `AllocError` where there is no memory.
+pub fn arguments_in<'a>(
+    alloc: Global,
+    kind: &'a DefinitionKind,
+) -> Result<Vec<&'a [Argument]>, AllocError>
+    ensures { IfOk result (λ lists. listed_arguments lists.items ≡ lists_in_definition (definition_kind_of kind.now)) }
+{
+    let mut lists = Vec::new(alloc);
+    add_definition(&mut lists, kind)?;
+    Ok(lists)
+}
+
 /// Adds the lists of a definition.
 fn add_definition<'a>(
     lists: &mut Vec<&'a [Argument]>,

@@ -1,17 +1,15 @@
 //! The members of an interface with those of its partials and its mixins, by the number of its definition.
 
-ghost use Rattle.std.specs.Prelude.{◌≡◌, ◌++◌, Some, flat_map, option_map, slice_get, IfOk, OnOk};
-ghost use Rattle.widl_idl.specs.Meanings.{main_name};
-ghost use Rattle.widl_idl.specs.Parts.{members_in};
-ghost use Rattle.widl_idl.specs.PlainTrees.{definition_kind_of, members_of, plain_definitions};
-ghost use Rattle.widl_inheritance.specs.InterfaceMembers.{is_meant_interface, listed_members, means_itself, members_at};
-ghost use Rattle.widl_names.specs.PartTables.{listed_parts};
+ghost use Rattle.std.specs.Prelude.{◌≡◌, Some, option_map, slice_get, IfOk};
+ghost use Rattle.widl_idl.specs.PlainTrees.{definition_kind_of, plain_definitions};
+ghost use Rattle.widl_inheritance.specs.InterfaceMembers.{is_meant_interface, members_at};
 ghost use Rattle.widl_overload.specs.MemberRules.{is_interface_kind};
+ghost use Rattle.widl_names.specs.Listings.{listed_members};
 
 use std::alloc::{AllocError, Global};
 use widl_idl::Kind;
 use widl_idl::tree::{DefinitionKind, Member};
-use widl_names::{Meanings, Parts, kind_at, kind_of, main_name, means_number, members_in};
+use widl_names::{Meanings, Parts, kind_at, kind_of, list_members, means_itself};
 
 /// The members in merged order of the interface of this number; none where the definition of the number
 /// is no interface, or its name means another.
@@ -61,15 +59,6 @@ fn is_meant_interface(meanings: &Meanings<'_, '_>, number: usize, kind: &Definit
     is_interface(kind_of(kind)) && means_itself(meanings, number, kind)
 }
 
-fn means_itself(meanings: &Meanings<'_, '_>, number: usize, kind: &DefinitionKind) -> bool
-    ensures { result ≡ means_itself (plain_definitions meanings.now) number (main_name (definition_kind_of kind.now)) }
-{
-    match main_name(kind) {
-        None => false,
-        Some(name) => means_number(meanings, name.text.as_str(), number),
-    }
-}
-
 fn is_interface(kind: Kind) -> bool
     ensures { result ≡ is_interface_kind kind }
 {
@@ -77,27 +66,4 @@ fn is_interface(kind: Kind) -> bool
         Kind::Interface => true,
         _ => false,
     }
-}
-
-/// The members of the parts of an interface, in the order of the parts.
-fn list_members<'a>(
-    alloc: Global,
-    parts: &[&'a DefinitionKind],
-) -> Result<Vec<&'a Member>, AllocError>
-    ensures { IfOk result (λ list. listed_members list.items ≡ flat_map members_in (listed_parts parts.now)) }
-{
-    let mut list = Vec::new(alloc);
-    for part in parts {
-        add_members(&mut list, members_in(part))?;
-    }
-    Ok(list)
-}
-
-fn add_members<'a>(list: &mut Vec<&'a Member>, members: &'a [Member]) -> Result<(), AllocError>
-    ensures { OnOk result (listed_members list.new.items ≡ listed_members list.old.items ++ members_of members.now) }
-{
-    for member in members {
-        list.push(member)?;
-    }
-    Ok(())
 }

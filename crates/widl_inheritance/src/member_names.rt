@@ -7,6 +7,7 @@
 //! span.
 
 ghost use Rattle.std.specs.Prelude.{◌≡◌, ◌<◌, ◌&&◌, ◌||◌, ℕ, List, length, map, bytes_eq, max, nat_lt, None, Some, if◌then◌else◌, IfOk, OnOk};
+ghost use Rattle.widl_fits.specs.Hierarchies.{IsHierarchy};
 ghost use Rattle.widl_idl.specs.DefinitionTerms.{DictTerm, dict_term, member_term};
 ghost use Rattle.widl_idl.specs.First.{AtOne, FirstWhere, violation_at};
 ghost use Rattle.widl_overload.specs.DictionaryRules.{HasNameTwice, has_member};
@@ -24,16 +25,13 @@ use widl_idl::{Dict, Member, Violation, earlier_violation};
 ///
 /// # Errors
 ///
-/// `AllocError` where there is no memory, and where a dictionary inherits from itself or from one that is
-/// not in the list. No merged list has such a dictionary.
+/// `AllocError` where there is no memory.
 pub fn first_repeated_member(alloc: Global, dicts: &[Dict]) -> Result<Option<Violation>, AllocError>
+    requires { IsHierarchy (map dict_term dicts.now) }
     ensures { IfOk result (λ found. FirstWhere (HasNameTwice (map dict_term dicts.now)) found) }
 {
     let parents = parents_of(alloc, dicts)?;
     let spans = Spans::of(alloc, parents.as_slice())?;
-    if !spans.is_whole() {
-        return Err(AllocError);
-    }
     first_in_order(alloc, dicts, &spans)
 }
 

@@ -1,10 +1,14 @@
 //! The walk that finds the spans of the nodes of a forest: it visits each node once, directly followed by
 //! those that come from it.
 
-ghost use Rattle.std.specs.Prelude.{◌≡◌, ◌-◌, ◌<◌, ◌≤◌, ◌+◌, ℕ, [], IfOk, OnOk, None, Some, length, slice_get, true};
+ghost use Rattle.std.specs.Prelude.{◌≡◌, ◌↔◌, ◌∷◌, ◌++◌, ◌-◌, ◌<◌, ℕ, [], IfOk, OnOk, IsTrue, None, Some, length, slice_get};
+ghost use Rattle.widl_graph.specs.Search.{Has};
+ghost use Rattle.widl_inheritance.specs.Children.{IsVisited};
+ghost use Rattle.widl_inheritance.specs.SpanWalks.{IsUnderWay, work_of};
+ghost use Rattle.widl_inheritance.specs.Spans.{AreNested, AreSpans, AreWhole, IsForest, IsWalk, parent_in, span_of};
 ghost use Rattle.widl_inheritance.specs.declared.spans.Span as declared;
-ghost use Rattle.widl_inheritance.specs.Spans.{AreSpans, IsWalk, parent_in, span_of};
 
+use crate::children::Children;
 use crate::spans::{Span, Spans};
 use std::alloc::{AllocError, Global};
 
@@ -14,12 +18,15 @@ use std::alloc::{AllocError, Global};
 ///
 /// `AllocError` where there is no memory.
 pub fn walked(alloc: Global, parents: &[Option<usize>]) -> Result<Spans, AllocError>
-    ensures { IfOk result (λ found. AreSpans parents.now found.by_node.items found.order.items) }
+    ensures spans { IfOk result (λ found. AreSpans parents.now found.by_node.items found.order.items) }
+    ensures nested { IfOk result (λ found. AreNested parents.now found.by_node.items) }
+    ensures whole { IfOk result (λ found. IsForest parents.now → AreWhole found.by_node.items) }
 {
     let mut walk = Walk::begun(alloc, parents)?;
-    let children = direct_children(alloc, parents, &mut walk.waiting)?;
-    for _turn in 0..parents.len() {
-        walk.visit_next(parents, &children)?;
+    for number in 0..parents.len() {
+        if parents[number].is_none() {
+            walk.visit_all(parents, number)?;
+        }
     }
     Ok(Spans {
         by_node: walk.spans,
@@ -35,59 +42,52 @@ struct Walk {
     spans: Vec<Option<Span>>,
     /// Those that were visited, in order.
     order: Vec<usize>,
-    /// The node that was visited last and those from which it comes, the oldest one first.
+    /// The node whose children are visited next and those from which it comes, the oldest one first.
     path: Vec<usize>,
-    /// Those that wait for their visit, the next one last.
-    waiting: Vec<usize>,
+    /// The children to which the walk has yet to come.
+    children: Children,
 }
 
 impl Walk {
     /// The walk before its first visit.
     fn begun(alloc: Global, parents: &[Option<usize>]) -> Result<Walk, AllocError>
-        ensures walk { IfOk result (λ walk. IsWalk parents.now walk.spans.items walk.order.items walk.path.items) }
-        ensures fresh { IfOk result (λ walk. walk.order.items ≡ []) }
+        ensures under_way { IfOk result (λ walk. IsUnderWay parents.now walk) }
+        ensures idle { IfOk result (λ walk. walk.path.items ≡ []) }
     {
         Ok(Walk {
             spans: no_spans(alloc, parents.len())?,
             order: Vec::new(alloc),
             path: Vec::new(alloc),
-            waiting: Vec::new(alloc),
+            children: Children::of(alloc, parents)?,
         })
     }
 
-    /// Visits the node that waits at the end, if there is one, and has its children wait.
-    fn visit_next(
-        &mut self,
-        parents: &[Option<usize>],
-        children: &[Vec<usize>],
-    ) -> Result<(), AllocError>
-        requires walk { IsWalk parents.now self.old.spans.items self.old.order.items self.old.path.items }
-        requires within { length self.old.order.items < length parents.now }
-        ensures walk { OnOk result (IsWalk parents.now self.new.spans.items self.new.order.items self.new.path.items) }
-        ensures further { length self.new.order.items ≤ length self.old.order.items + 1 }
+    /// Visits a node without a parent, and all that come from it.
+    fn visit_all(&mut self, parents: &[Option<usize>], root: usize) -> Result<(), AllocError>
+        requires under_way { IsUnderWay parents.now self.old }
+        requires idle { self.old.path.items ≡ [] }
+        requires below { root < length parents.now }
+        requires root { parent_in parents.now root ≡ None }
+        ensures under_way { OnOk result (IsUnderWay parents.now self.new) }
+        ensures idle { OnOk result (self.new.path.items ≡ []) }
+        ensures kept { OnOk result ((n : ℕ) → Has self.old.order.items n → Has self.new.order.items n) }
+        ensures root { OnOk result (Has self.new.order.items root) }
     {
-        match self.waiting.pop() {
-            None => Ok(()),
-            Some(number) => {
-                if let Some(own) = children.get(number) {
-                    add_all(&mut self.waiting, own)?;
-                }
-                self.leave_others(parents, parent(parents, number));
-                self.enter(parents, number)
-            }
-        }
+        self.enter(parents, root)?;
+        self.finish(parents)
     }
 
-    /// Leaves the end of the path, up to this node.
-    fn leave_others(&mut self, parents: &[Option<usize>], parent: Option<usize>)
-        requires walk { IsWalk parents.now self.old.spans.items self.old.order.items self.old.path.items }
-        requires within { length self.old.order.items ≤ length parents.now }
-        ensures walk { IsWalk parents.now self.new.spans.items self.new.order.items self.new.path.items }
-        ensures order { self.new.order ≡ self.old.order }
+    /// Goes on until the path is empty.
+    fn finish(&mut self, parents: &[Option<usize>]) -> Result<(), AllocError>
+        requires { IsUnderWay parents.now self.old }
+        ensures under_way { OnOk result (IsUnderWay parents.now self.new) }
+        ensures idle { OnOk result (self.new.path.items ≡ []) }
+        ensures kept { OnOk result ((n : ℕ) → Has self.old.order.items n → Has self.new.order.items n) }
     {
-        while self.is_elsewhere(parent) {
-            self.leave(parents);
+        while let Some(last) = self.last() {
+            self.advance(parents, last)?;
         }
+        Ok(())
     }
 
     /// The last node of the path.
@@ -97,48 +97,56 @@ impl Walk {
         self.path.last().copied()
     }
 
-    /// Whether the path ends at another node.
-    fn is_elsewhere(&self, parent: Option<usize>) -> bool
-        ensures { result ≡ true → 0 < length self.now.path.items }
+    /// Visits a child of the last node of the path, or leaves that node where no child is left.
+    fn advance(&mut self, parents: &[Option<usize>], last: usize) -> Result<(), AllocError>
+        requires under_way { IsUnderWay parents.now self.old }
+        requires last { slice_get self.old.path.items (length self.old.path.items - 1) ≡ Some last }
+        ensures under_way { OnOk result (IsUnderWay parents.now self.new) }
+        ensures kept { OnOk result ((n : ℕ) → Has self.old.order.items n → Has self.new.order.items n) }
+        ensures less { OnOk result (work_of self.new < work_of self.old) }
     {
-        !self.path.is_empty() && self.last() != parent
+        match self.children.take(last) {
+            Some(child) => self.enter(parents, child),
+            None => {
+                self.leave(parents);
+                Ok(())
+            }
+        }
     }
 
     /// Leaves the last node of the path: all that come from it were visited.
     fn leave(&mut self, parents: &[Option<usize>])
         requires walk { IsWalk parents.now self.old.spans.items self.old.order.items self.old.path.items }
-        requires within { length self.old.order.items ≤ length parents.now }
         requires some { 0 < length self.old.path.items }
         ensures walk { IsWalk parents.now self.new.spans.items self.new.order.items self.new.path.items }
         ensures order { self.new.order ≡ self.old.order }
-        ensures shorter { length self.new.path.items < length self.old.path.items }
+        ensures children { self.new.children ≡ self.old.children }
+        ensures path { (n : ℕ) → slice_get self.old.path.items (length self.old.path.items - 1) ≡ Some n → self.old.path.items ≡ self.new.path.items ++ n ∷ [] }
     {
         if let Some(number) = self.path.pop() {
             self.spans[number] = ended(self.spans[number], self.order.len());
         }
     }
 
-    /// Whether the node is to follow the end of the path: it was not visited, and its parent is the last
-    /// one, or it has none where there is none.
-    fn takes(&self, parents: &[Option<usize>], number: usize) -> bool
-        ensures new { result ≡ true → span_of self.now.spans.items number ≡ None }
-        ensures below { result ≡ true → number < length self.now.spans.items }
-        ensures parent { result ≡ true → parent_in parents.now number ≡ slice_get self.now.path.items (length self.now.path.items - 1) }
+    /// Whether a node was not visited yet.
+    fn is_new(&self, number: usize) -> bool
+        requires { number < length self.now.spans.items }
+        ensures { IsTrue result ↔ (span_of self.now.spans.items number ≡ None) }
     {
-        match self.spans.get(number) {
-            Some(None) => parent(parents, number) == self.last(),
-            _ => false,
-        }
+        self.spans[number].is_none()
     }
 
-    /// Visits a node, where it is to follow the end of the path. In a circle of parents none does.
+    /// Visits a node whose parent is the end of the path, or none where the path is empty, unless it was
+    /// visited before.
     fn enter(&mut self, parents: &[Option<usize>], number: usize) -> Result<(), AllocError>
         requires walk { IsWalk parents.now self.old.spans.items self.old.order.items self.old.path.items }
-        requires within { length self.old.order.items < length parents.now }
+        requires below { number < length parents.now }
+        requires parent { parent_in parents.now number ≡ slice_get self.old.path.items (length self.old.path.items - 1) }
         ensures walk { OnOk result (IsWalk parents.now self.new.spans.items self.new.order.items self.new.path.items) }
-        ensures further { length self.new.order.items ≤ length self.old.order.items + 1 }
+        ensures visited { OnOk result (IsVisited self.old.order.items self.old.path.items self.new.order.items self.new.path.items number) }
+        ensures children { self.new.children ≡ self.old.children }
     {
-        if self.takes(parents, number) {
+        if self.is_new(number) {
             self.spans[number] = Some(Span {
                 start: self.order.len(),
                 past: parents.len(),
@@ -163,13 +171,6 @@ fn ended(span: Option<Span>, past: usize) -> Option<Span>
     }
 }
 
-/// The parent of a node.
-fn parent(parents: &[Option<usize>], number: usize) -> Option<usize>
-    ensures { result ≡ parent_in parents.now number }
-{
-    parents.get(number).copied().flatten()
-}
-
 /// As many nodes without a span.
 fn no_spans(alloc: Global, count: usize) -> Result<Vec<Option<Span>>, AllocError>
     ensures none { IfOk result (λ spans. (n : ℕ) → span_of spans.items n ≡ None) }
@@ -180,49 +181,4 @@ fn no_spans(alloc: Global, count: usize) -> Result<Vec<Option<Span>>, AllocError
         spans.push(None)?;
     }
     Ok(spans)
-}
-
-/// For each node its children. Those without a parent are added to the list of those that wait.
-fn direct_children(
-    alloc: Global,
-    parents: &[Option<usize>],
-    waiting: &mut Vec<usize>,
-) -> Result<Vec<Vec<usize>>, AllocError> {
-    let mut children = no_children(alloc, parents.len())?;
-    for number in 0..parents.len() {
-        match parents[number] {
-            None => waiting.push(number)?,
-            Some(parent) => add_child(&mut children, parent, number)?,
-        }
-    }
-    Ok(children)
-}
-
-/// As many nodes without children.
-fn no_children(alloc: Global, count: usize) -> Result<Vec<Vec<usize>>, AllocError> {
-    let mut children = Vec::new(alloc);
-    for _number in 0..count {
-        children.push(Vec::new(alloc))?;
-    }
-    Ok(children)
-}
-
-/// Adds a child to those of its parent, where there is such a node.
-fn add_child(
-    children: &mut Vec<Vec<usize>>,
-    parent: usize,
-    number: usize,
-) -> Result<(), AllocError> {
-    if parent < children.len() {
-        children[parent].push(number)?;
-    }
-    Ok(())
-}
-
-/// Adds all to those that wait.
-fn add_all(waiting: &mut Vec<usize>, own: &[usize]) -> Result<(), AllocError> {
-    for number in own {
-        waiting.push(*number)?;
-    }
-    Ok(())
 }

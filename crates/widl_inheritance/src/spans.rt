@@ -1,7 +1,7 @@
 //! Which nodes of a forest come from which, told by two comparisons.
 
-ghost use Rattle.std.specs.Prelude.{◌≡◌, ◌↔◌, IfOk, IsTrue};
-ghost use Rattle.widl_inheritance.specs.Spans.{AreSpans, AreWhole, span_of};
+ghost use Rattle.std.specs.Prelude.{◌≡◌, IfOk};
+ghost use Rattle.widl_inheritance.specs.Spans.{AreNested, AreSpans, AreWhole, IsForest, span_of};
 
 use crate::span_walk::walked;
 use std::alloc::{AllocError, Global};
@@ -34,7 +34,9 @@ impl Spans {
     ///
     /// `AllocError` where there is no memory.
     pub fn of(alloc: Global, parents: &[Option<usize>]) -> Result<Spans, AllocError>
-        ensures { IfOk result (λ found. AreSpans parents.now found.by_node.items found.order.items) }
+        ensures spans { IfOk result (λ found. AreSpans parents.now found.by_node.items found.order.items) }
+        ensures nested { IfOk result (λ found. AreNested parents.now found.by_node.items) }
+        ensures whole { IfOk result (λ found. IsForest parents.now → AreWhole found.by_node.items) }
     {
         walked(alloc, parents)
     }
@@ -44,17 +46,5 @@ impl Spans {
         ensures { result ≡ span_of self.now.by_node.items number }
     {
         self.by_node.get(number).copied().flatten()
-    }
-
-    /// Whether each node has a span.
-    pub fn is_whole(&self) -> bool
-        ensures { IsTrue result ↔ AreWhole self.now.by_node.items }
-    {
-        for number in 0..self.by_node.len() {
-            if self.span(number).is_none() {
-                return false;
-            }
-        }
-        true
     }
 }

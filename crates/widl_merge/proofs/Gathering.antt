@@ -30,10 +30,11 @@ use Rattle.widl_idl.specs.PlainTrees.{PlainAttributeMember, PlainConstant, Plain
 use Rattle.widl_idl.specs.WrittenLiterals.{units_of}
 use Rattle.widl_names.proofs.PlainLists.{mapped_more}
 use Rattle.widl_merge.specs.declared.merged_members.MergedMembers.{MergedMembers}
-use Rattle.widl_merge.specs.PutTogether.{AreNumbers, ArePutTogether, Gathered, GetsStringifier, HasName, HasOverload, Means, first_stringifier, is_named, listed_members, stringifier_slots, this_slot}
+use Rattle.widl_merge.specs.PutTogether.{AreNumbers, ArePutTogether, Gathered, GetsStringifier, HasName, HasOverload, Means, first_stringifier, is_named, stringifier_slots, this_slot}
 use Rattle.widl_merge.proofs.FirstOperations.{numbers_known, numbers_new, seen}
 use Rattle.widl_merge.proofs.OperationTerms.{known_means, new_means}
 use Rattle.widl_merge.proofs.MemberSteps.{has_pairs, none_more, one_more, pairs_push, slots_push, stringifier_push, stringifier_slot}
+use Rattle.widl_names.specs.Listings.{listed_members}
 
 this_all : (l : List Slot) → map this_slot l ≡ l
 this_all [] = refl

@@ -16,8 +16,8 @@ use Rattle.widl_idl.specs.PlainTypes.{PlainName}
 use Rattle.widl_idl.specs.PlainTrees.{PlainDefinition, PlainKind, PlainMember, PlainMemberKind, OperationMember, definition_of}
 use Rattle.widl_idl.proofs.Order.{first_same}
 use Rattle.widl_names.specs.Listings.{listed_definitions}
-use Rattle.widl_names.specs.PartTables.{ListsParts, has_members, has_parts}
-use Rattle.widl_merge.specs.Repeats.{RepeatsAt, RepeatsInOwner, is_owner, means_itself}
+use Rattle.widl_names.specs.PartTables.{ListsParts, has_members, has_parts, means_itself}
+use Rattle.widl_merge.specs.Repeats.{RepeatsAt, RepeatsInOwner, is_owner}
 use Rattle.widl_names.proofs.KeptMembers.{no_members}
 use Rattle.widl_merge.proofs.Known.{any_push}
 use Rattle.widl_names.proofs.NamedParts.{meaning_named, meant_at}

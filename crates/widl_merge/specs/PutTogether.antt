@@ -1,5 +1,5 @@
 -- For proofs alone. The members of an interface or a namespace, put together a member at a time, as the program has them.
-use Rattle.std.specs.Prelude.{◌≡◌, ℕ, ◌<◌, ◌++◌, Bool, ◌&&◌, List, [], ◌∷◌, length, map, slice_get, slice_set, Option, Some, option_map, if◌then◌else◌, bytes_eq, is_some}
+use Rattle.std.specs.Prelude.{if◌then◌else◌, ◌≡◌, ℕ, ◌<◌, ◌++◌, Bool, ◌&&◌, List, [], ◌∷◌, length, map, slice_get, slice_set, Option, Some, option_map, bytes_eq, is_some}
 use Rattle.std.specs.List.{list_any}
 use Rattle.std.specs.Borrow.{Bor}
 use Rattle.indexmap.specs.IndexMap.{IndexMap}
@@ -9,19 +9,14 @@ use Rattle.widl_idl.specs.declared.interface.Stringify.{Stringify}
 use Rattle.widl_idl.specs.declared.interface.Stringify.TheVariants as stringify
 use Rattle.widl_idl.specs.declared.operation.OpName.{OpName}
 use Rattle.widl_idl.specs.declared.signature.Sig.{Sig}
-use Rattle.widl_idl.specs.declared.tree.members.Member.{Member}
 use Rattle.widl_idl.specs.Counts.{IsNumbered, AnyItem, NumberedSig, NumberedOp, NumberedAttr, NumberedConstant, NumberedPairs}
 use Rattle.widl_idl.specs.DefinitionTerms.{sig_term, op_name_term, attr_term, constant_term, pair_term}
 use Rattle.widl_idl.specs.MergedMembers.{attr_of, attributes_in, constant_of, constants_in, constructors_of, firsts_after, members_term, op_names_of, operation_text, operations_in, pairs_of, slots_after, stringifier_from}
 use Rattle.widl_idl.specs.MergingRules.{both_or_none, is_static}
-use Rattle.widl_idl.specs.PlainTrees.{PlainDefinition, PlainMember, PlainMemberKind, OperationMember, PlainOperation, member_of}
+use Rattle.widl_idl.specs.PlainTrees.{PlainDefinition, PlainMember, PlainMemberKind, OperationMember, PlainOperation}
 use Rattle.widl_idl.specs.PlainTypes.{PlainAttribute}
 use Rattle.widl_names.specs.Numbers.{number_in}
 use Rattle.widl_merge.specs.declared.merged_members.MergedMembers.{MergedMembers}
-
--- the members after references
-abbrev pub listed_members : List (Bor Member) → List PlainMember
-listed_members list = map (λ m. member_of m.now) list
 
 -- these are the members of an interface or a namespace, as the list of definitions has them
 pub record ArePutTogether (definitions : List PlainDefinition) (members : List PlainMember) (m : MergedMembers) : Type 0 where

@@ -1,15 +1,15 @@
 -- For proofs alone. Operations that an earlier part has too, as the program finds them.
-use Rattle.std.specs.Prelude.{◌≡◌, ℕ, Bool, false, ◌&&◌, List, length, Option, None, Some, if◌then◌else◌, bytes_eq}
+use Rattle.std.specs.Prelude.{if◌then◌else◌, ◌≡◌, ℕ, Bool, ◌&&◌, List, length, Option, None, Some, bytes_eq}
 use Rattle.std.specs.Borrow.{Bor}
 use Rattle.indexmap.specs.IndexSet.{IndexSet, contains_by}
 use Rattle.widl_idl.specs.declared.violation.Violation.{Violation}
 use Rattle.widl_idl.specs.First.{AtOne, violation_at}
 use Rattle.widl_idl.specs.Meanings.{kind_of, main_name, meaning}
-use Rattle.widl_idl.specs.MergingRules.{RepeatsOperation, is_number, is_static}
+use Rattle.widl_idl.specs.MergingRules.{RepeatsOperation, is_static}
 use Rattle.widl_idl.specs.Parts.{parts_of}
 use Rattle.widl_idl.specs.PlainTypes.{PlainName}
 use Rattle.widl_idl.specs.PlainTrees.{PlainDefinition, PlainKind, PlainMember, PlainMemberKind, OperationMember}
-use Rattle.widl_names.specs.PartTables.{has_parts}
+use Rattle.widl_names.specs.PartTables.{has_parts, means_itself}
 
 -- whether a set has a text
 abbrev pub has_text : {S : Type 0} → IndexSet (Bor (List ℕ)) S → List ℕ → Bool
@@ -31,11 +31,6 @@ known_at known kind = None
 
 abbrev pub IsKnown : (List ℕ → Bool → Bool) → PlainMember → Violation → Type 0
 IsKnown known member s = known_at known member.kind ≡ Some s
-
--- whether the name of a definition of this number means it
-abbrev pub means_itself : List PlainDefinition → ℕ → Option PlainName → Bool
-means_itself definitions number None = false
-means_itself definitions number (Some name) = is_number number (meaning definitions name.text)
 
 -- whether a definition of this number is an interface, a mixin or a namespace that its name means
 abbrev pub is_owner : List PlainDefinition → ℕ → PlainKind → Bool

@@ -1,6 +1,6 @@
 //! The merged list of definitions.
 
-ghost use Rattle.std.specs.Prelude.{List, [], IfOk, OnOk};
+ghost use Rattle.std.specs.Prelude.{◌<◌, ◌^◌, List, [], length, IfOk, OnOk};
 ghost use Rattle.widl_idl.specs.Counts.{NumberedDictionary, NumberedInterface, NumberedNamespace};
 ghost use Rattle.widl_idl.specs.DefinitionTerms.{dict_term, iface_term, space_term};
 ghost use Rattle.widl_idl.specs.MergedList.{dictionary_if, interface_if, namespace_if};
@@ -34,7 +34,8 @@ pub fn merge_definitions(
     meanings: &Meanings<'_, '_>,
     steps: &mut usize,
 ) -> Result<Defs, AllocError>
-    requires { AreKept (plain_definitions meanings.now) }
+    requires kept { AreKept (plain_definitions meanings.now) }
+    requires few { length meanings.now < 2 ^ 32 }
     ensures { IfOk result (λ defs. AreListed (plain_definitions meanings.now) (plain_definitions meanings.now) defs) }
 {
     let sources = Sources::of(alloc, meanings)?;

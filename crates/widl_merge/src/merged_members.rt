@@ -6,7 +6,8 @@ ghost use Rattle.widl_idl.specs.MergedMembers.{is_stringifier_attribute, operati
 ghost use Rattle.widl_idl.specs.PlainTrees.{AttributeMember, ConstantMember, ConstructorMember, IterableMember, OperationMember, attribute_member_of, constant_of, constructor_of, iterable_of, member_of, operation_of, plain_definitions};
 ghost use Rattle.widl_idl.specs.PlainTypes.{PlainAttribute, attribute_of};
 ghost use Rattle.widl_idl.specs.WrittenLiterals.{units_of};
-ghost use Rattle.widl_merge.specs.PutTogether.{ArePutTogether, GetsStringifier, Grows, GrowsByMember, GrowsByOperation, HasName, HasOverload, listed_members, number_named};
+ghost use Rattle.widl_merge.specs.PutTogether.{ArePutTogether, GetsStringifier, Grows, GrowsByMember, GrowsByOperation, HasName, HasOverload, number_named};
+ghost use Rattle.widl_names.specs.Listings.{listed_members};
 
 use crate::long_texts::LongTexts;
 use crate::member_parts::{attribute_meant, constant_meant, pair_meant};

@@ -1,6 +1,6 @@
 //! Merging: from the trees of a set of files to its merged list, or to its refusal.
 
-ghost use Rattle.std.specs.Prelude.{◌≡◌, IfOk, IsErrOf, None, Some};
+ghost use Rattle.std.specs.Prelude.{◌≡◌, ◌<◌, ◌^◌, IfOk, IsErrOf, None, Some, length};
 ghost use Rattle.widl_idl.specs.declared.refusal.Refusal.{Refusal as RefusalType};
 ghost use Rattle.widl_idl.specs.MergedSets.{AreFiles, IsMerged};
 ghost use Rattle.widl_idl.specs.Meanings.{definitions_of};
@@ -60,6 +60,7 @@ pub fn merge(alloc: Global, fragments: Fragments) -> Result<Merged, MergeFault>
 
 /// The merged list alone.
 fn merge_files(alloc: Global, fragments: &[Fragment]) -> Result<Defs, MergeFault>
+    requires { length (definitions_of fragments.now) < 2 ^ 32 }
     ensures merged { IfOk result (λ defs. AreMerged (definitions_of fragments.now) defs) }
     ensures refused { (refusal : RefusalType) → IsErrOf result (MergeFault.Refused refusal) → IsRefusal (definitions_of fragments.now) (Some refusal) }
 {
@@ -74,7 +75,8 @@ fn merge_listed(
     definitions: &[&Definition],
     nodes: &[Node<'_>],
 ) -> Result<Defs, MergeFault>
-    requires { nodes_listed nodes.now ≡ nodes_of (listed_definitions definitions.now) }
+    requires listed { nodes_listed nodes.now ≡ nodes_of (listed_definitions definitions.now) }
+    requires few { length definitions.now < 2 ^ 32 }
     ensures merged { IfOk result (λ defs. AreMerged (listed_definitions definitions.now) defs) }
     ensures refused { (refusal : RefusalType) → IsErrOf result (MergeFault.Refused refusal) → IsRefusal (listed_definitions definitions.now) (Some refusal) }
 {
@@ -87,7 +89,8 @@ fn merge_listed(
 
 /// The merged list of definitions that break no rule.
 fn merge_unbroken(alloc: Global, definitions: &[&Definition]) -> Result<Defs, AllocError>
-    requires { IsRefusal (listed_definitions definitions.now) None }
+    requires unbroken { IsRefusal (listed_definitions definitions.now) None }
+    requires few { length definitions.now < 2 ^ 32 }
     ensures { IfOk result (λ defs. AreMerged (listed_definitions definitions.now) defs) }
 {
     let mut left = MOST_TYPES;

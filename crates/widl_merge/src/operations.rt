@@ -5,16 +5,16 @@ ghost use Rattle.std.specs.List.{list_any};
 ghost use Rattle.widl_idl.specs.declared.merging_rule.MergingRule.TheVariants as rule;
 ghost use Rattle.widl_idl.specs.First.{AtOne, FirstWhere, Somewhere};
 ghost use Rattle.widl_idl.specs.MergingRules.{BreaksMerging, RepeatsOperation, both_or_none, is_operation_of, is_static};
-ghost use Rattle.widl_idl.specs.Meanings.{is_text_of, main_name};
+ghost use Rattle.widl_idl.specs.Meanings.{is_text_of};
 ghost use Rattle.widl_idl.specs.PlainTrees.{definition_kind_of, member_kind_of, members_of, operation_of, plain_definitions};
 ghost use Rattle.widl_names.specs.PartTables.{has_parts, listed_parts};
-ghost use Rattle.widl_merge.specs.Repeats.{IsKnown, RepeatsInOwner, has_name, has_text, is_owner, known_at, known_name, means_itself};
+ghost use Rattle.widl_merge.specs.Repeats.{IsKnown, RepeatsInOwner, has_name, has_text, is_owner, known_at, known_name};
 
 use indexmap::IndexSet;
 use std::alloc::{AllocError, Global};
 use widl_idl::tree::{DefinitionKind, Member, MemberKind, Operation, OperationKind};
 use widl_idl::{Kind, Violation, earlier_violation};
-use widl_names::{Meanings, Parts, kind_of, main_name, means_number, members_in};
+use widl_names::{Meanings, Parts, kind_of, means_itself, members_in};
 
 /// The names of operations.
 #[derive(Drop)]
@@ -72,15 +72,6 @@ fn is_owner(meanings: &Meanings, number: usize, kind: &DefinitionKind) -> bool
     ensures { result ≡ is_owner (plain_definitions meanings.now) number (definition_kind_of kind.now) }
 {
     has_parts(kind_of(kind)) && means_itself(meanings, number, kind)
-}
-
-fn means_itself(meanings: &Meanings, number: usize, kind: &DefinitionKind) -> bool
-    ensures { result ≡ means_itself (plain_definitions meanings.now) number (main_name (definition_kind_of kind.now)) }
-{
-    match main_name(kind) {
-        None => false,
-        Some(name) => means_number(meanings, name.text.as_str(), number),
-    }
 }
 
 fn has_parts(kind: Kind) -> bool

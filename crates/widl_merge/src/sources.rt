@@ -1,22 +1,22 @@
 //! What the merged list is made from.
 
-ghost use Rattle.std.specs.Prelude.{◌≡◌, ℕ, List, ◌++◌, flat_map, map, option_map, IfOk, OnOk, true};
+ghost use Rattle.std.specs.Prelude.{◌≡◌, ℕ, ◌<◌, ◌^◌, List, length, map, option_map, IfOk, true};
 ghost use Rattle.widl_idl.specs.declared.kind.Kind.{Kind as KindType};
 ghost use Rattle.widl_idl.specs.declared.kind.Kind.TheVariants as kinds;
 ghost use Rattle.widl_idl.specs.MergedList.{parent_number};
-ghost use Rattle.widl_idl.specs.Parts.{members_in, merged_dictionary_members, merged_members};
-ghost use Rattle.widl_idl.specs.PlainTrees.{dictionary_member_of, members_of, plain_definitions};
+ghost use Rattle.widl_idl.specs.Parts.{merged_dictionary_members, merged_members};
+ghost use Rattle.widl_idl.specs.PlainTrees.{dictionary_member_of, plain_definitions};
 ghost use Rattle.widl_idl.specs.PlainTypes.{name_of};
-ghost use Rattle.widl_names.specs.PartTables.{has_parts, listed_parts};
+ghost use Rattle.widl_names.specs.PartTables.{has_parts};
 ghost use Rattle.widl_merge.specs.GrownLists.{HasParentOf, Means};
-ghost use Rattle.widl_merge.specs.PutTogether.{listed_members};
+ghost use Rattle.widl_names.specs.Listings.{listed_members};
 
 use crate::dictionary_parts::DictionaryParts;
 use std::alloc::{AllocError, Global};
 use std::marker::Model;
 use widl_idl::Kind;
-use widl_idl::tree::{DefinitionKind, DictionaryMember, Member, Name};
-use widl_names::{Meanings, Parts, Resolver, members_in};
+use widl_idl::tree::{DictionaryMember, Member, Name};
+use widl_names::{Meanings, Parts, Resolver, list_members};
 
 /// The definitions of a set of files with what their types mean, and with their parts.
 #[derive(Drop)]
@@ -51,6 +51,7 @@ impl<'m, 'd, 'a> Sources<'m, 'd, 'a> {
         alloc: Global,
         meanings: &'m Meanings<'d, 'a>,
     ) -> Result<Sources<'m, 'd, 'a>, AllocError>
+        requires { length meanings.now < 2 ^ 32 }
         ensures { IfOk result (λ sources. sources ≡ meanings.now) }
     {
         let resolver = Resolver::of(alloc, meanings)?;
@@ -107,27 +108,4 @@ impl<'m, 'd, 'a> Sources<'m, 'd, 'a> {
     {
         self.dictionaries.list(alloc, number)
     }
-}
-
-/// The members of all of these parts.
-fn list_members<'a>(
-    alloc: Global,
-    parts: &[&'a DefinitionKind],
-) -> Result<Vec<&'a Member>, AllocError>
-    ensures { IfOk result (λ list. listed_members list.items ≡ flat_map members_in (listed_parts parts.now)) }
-{
-    let mut list = Vec::new(alloc);
-    for part in parts {
-        add_members(&mut list, members_in(part))?;
-    }
-    Ok(list)
-}
-
-fn add_members<'a>(list: &mut Vec<&'a Member>, members: &'a [Member]) -> Result<(), AllocError>
-    ensures { OnOk result (listed_members list.new.items ≡ listed_members list.old.items ++ members_of members.now) }
-{
-    for member in members {
-        list.push(member)?;
-    }
-    Ok(())
 }

@@ -1,11 +1,12 @@
 -- The numbers of definitions among those of their kind, with one definition more, and what a typedef's number leads to.
-use Rattle.std.proofs.Common.{◌≡◌, ℕ, ◌+◌, ◌<◌, ◌≤◌, ◌++◌, Bool, true, false, cond, not, ◌&&◌, zero, suc, List, [], ◌∷◌, length, take, map, filter, filter_map, get_or, Option, None, Some, option_map, slice_get, arith, refl, sym, ap, subst, ◌∙◌, nat_lt, length-append}
+use Rattle.std.proofs.Common.{◌≡◌, ℕ, ◌+◌, ◌<◌, ◌≤◌, ◌^◌, ◌++◌, Bool, true, false, cond, not, ◌&&◌, zero, suc, List, [], ◌∷◌, length, take, map, filter, filter_map, get_or, Option, None, Some, option_map, slice_get, arith, refl, sym, ap, subst, ◌∙◌, nat_lt, length-append}
 use Rattle.std.specs.List.{cons_option}
 use Rattle.std.specs.Prelude.{option_and_then}
 use Rattle.widl_graph.proofs.Gets.{get_some}
 use Rattle.widl_names.proofs.NameMeanings.{meaning_below}
-use Rattle.std.proofs.lemmas.List.{take_more, take-map, map-append, length-map}
+use Rattle.std.proofs.lemmas.List.{take_more, take-map, map-append, length-map, length-take-le}
 use Rattle.std.proofs.lemmas.List.Elements.{filter-append}
+use Rattle.std.proofs.lemmas.List.Sums.{count_by-le-length, length-filter}
 use Rattle.std.proofs.lemmas.Option.{slice_get-map, slice_get_read, slice_get_within}
 use Rattle.widl_idl.specs.declared.kind.Kind.{Kind}
 use Rattle.widl_idl.specs.declared.kind.Kind.TheVariants as kinds
@@ -78,6 +79,16 @@ module _ {X : Type 0} (f : X → PlainDefinition) (xs : List X) (i : ℕ) (x : X
       one : (kind : Kind) (b : Bool) → is_main_of kind (f x) ≡ b → cond b (length (filter (is_main_of kind) (map f (take i xs))) + 1) (length (filter (is_main_of kind) (map f (take i xs)))) ≡ length (filter (is_main_of kind) (map f (take i xs))) + length (cond b (f x ∷ []) [])
       one kind true e = refl
       one kind false e = omega arith
+
+  -- 32 bits can count one definition more of each kind
+  pub counts_fit : (counts : Counts) → AreCounts (map f (take i xs)) counts → length xs < 2 ^ 32 → (kind : Kind) → count_of counts kind + 1 < 2 ^ 32
+  counts_fit counts so few kind =
+      let own = so.each kind in
+      let kept = length-filter (is_main_of kind) (map f (take i xs)) in
+      let fewer = count_by-le-length (is_main_of kind) (map f (take i xs)) in
+      let size = length-map (take i xs) f in
+      let first = length-take-le i xs (omega (arith, below)) in
+      omega (arith, own, kept, fewer, size, first, below, few)
 
   -- the number of one definition more
   pub numbers_more : (old new : List ℕ) (counts : Counts) (n : ℕ) → AreFirstNumbers (map f xs) i old → AreCounts (map f (take i xs)) counts → n ≡ count_of counts (kind_of (f x).kind) → new ≡ old ++ n ∷ [] → AreFirstNumbers (map f xs) (i + 1) new

@@ -10,5 +10,6 @@ pub mod KeptMembers
 pub mod SaidNotes
 pub mod KindNumbers
 pub mod TypeUses
+pub mod Heights
 pub mod TypedefEnds
 pub mod TypedefLinks

@@ -68,10 +68,10 @@ pub use_means : (definitions : List PlainDefinition) (u : Use) (t : PlainType) (
 use_means definitions u t annotations levels written same count x so notes said = so notes (subst (λ a. Says a notes) (sym same) said) ∙ written.same definitions notes ∙ ap (λ l. meaning_at definitions l notes t) count
 
 pub leads_here : (definitions : List PlainDefinition) (u : Use) → Leads definitions u u
-leads_here definitions u = record { same = λ notes s. (notes, s, refl) }
+leads_here definitions u = record { same = λ notes. (notes, λ s. s, refl) }
 
 pub leads_on : (definitions : List PlainDefinition) (u v w : Use) → Leads definitions u v → Leads definitions v w → Leads definitions u w
-leads_on definitions u v w l m = record { same = λ notes s. let a = l.same notes s in let b = m.same a.0 a.1 in (b.0, b.1, a.2 ∙ b.2) }
+leads_on definitions u v w l m = record { same = λ notes. let a = l.same notes in let b = m.same a.0 in (b.0, λ s. b.1 (a.1 s), a.2 ∙ b.2) }
 
 module _ (definitions : List PlainDefinition) where
   meant_at : (text : List ℕ) (kind : PlainKind) → meant definitions text ≡ Some kind → (y : ℕ) × (meaning definitions text ≡ Some y) × (option_map (λ d. d.kind) (slice_get definitions y) ≡ Some kind)

@@ -97,7 +97,7 @@ module _ (definitions : List PlainDefinition) where
   pub leads_to_end : (u next : Use) (end : ChainEnd) → IsEndOf definitions (typedef_of_form definitions (form_term u.form.now)) end → GoesTo u end next → Leads definitions u next
   leads_to_end u next end is g =
       let m = means_at_end (form_term u.form.now) end is in
-      record { same = λ notes s. (notes ++ m.notes, g.said notes m.notes s m.said, same notes) }
+      record { same = λ notes. (notes ++ m.notes, λ s. g.said notes m.notes s m.said, same notes) }
     where
       same : (notes : List Note) → meaning_of_use definitions notes u ≡ meaning_of_use definitions (notes ++ (means_at_end (form_term u.form.now) end is).notes) next
       same notes =

@@ -5,13 +5,18 @@ use Rattle.widl_idl.specs.Nodes as written
 use Rattle.widl_idl.specs.Nodes.{TypeNode, AttributeNode, LiteralNode, NameNode, MemberNode, CallbackMemberNode}
 use Rattle.widl_idl.specs.PlainTypes.{name_of, attribute_of, literal_of, type_of}
 use Rattle.widl_idl.specs.declared.tree.definitions.Definition.{Definition}
-use Rattle.widl_idl.specs.PlainTrees.{PlainDefinition, definition_of, member_kind_of}
+use Rattle.widl_idl.specs.declared.tree.members.Member.{Member}
+use Rattle.widl_idl.specs.PlainTrees.{PlainDefinition, PlainMember, definition_of, member_of, member_kind_of}
 use Rattle.widl_names.specs.declared.nodes.Node.{Node}
 use Rattle.widl_names.specs.declared.nodes.Node.TheVariants as listed
 
 -- the definitions of a list, as definitions see them
 abbrev pub listed_definitions : List (Bor Definition) → List PlainDefinition
 listed_definitions list = map (λ d. definition_of d.now) list
+
+-- the members of a list, as definitions see them
+abbrev pub listed_members : List (Bor Member) → List PlainMember
+listed_members list = map (λ m. member_of m.now) list
 
 -- a node without its place in memory
 abbrev pub node_of : Node → written.Node

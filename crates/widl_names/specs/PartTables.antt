@@ -1,5 +1,5 @@
 -- The parts of definitions by the number of the definition, as the program keeps them: of the parts only those that have members.
-use Rattle.std.specs.Prelude.{◌≡◌, ℕ, Bool, true, false, not, List, [], ◌∷◌, ◌++◌, length, map, filter, flat_map, Option, None, Some, option_map, option_to_list, if◌then◌else◌, nat_eq, slice_get, slice_index_or}
+use Rattle.std.specs.Prelude.{if◌then◌else◌, ◌≡◌, ℕ, Bool, true, false, not, List, [], ◌∷◌, ◌++◌, length, map, filter, flat_map, Option, None, Some, option_map, option_to_list, nat_eq, slice_get, slice_index_or}
 use Rattle.std.specs.Borrow.{Bor}
 use Rattle.widl_idl.specs.declared.kind.Kind.{Kind}
 use Rattle.widl_idl.specs.declared.kind.Kind.TheVariants as kinds
@@ -17,6 +17,11 @@ listed_parts parts = map (λ k. definition_kind_of k.now) parts
 -- whether a part has members
 abbrev pub has_members : PlainKind → Bool
 has_members part = not (nat_eq (length (members_in part)) 0)
+
+-- whether the name of a definition of this number means it
+abbrev pub means_itself : List PlainDefinition → ℕ → Option PlainName → Bool
+means_itself definitions number None = false
+means_itself definitions number (Some name) = is_number number (meaning definitions name.text)
 
 -- the number of the definition of the kind that a name means
 abbrev pub number_meant : List PlainDefinition → Kind → List ℕ → Option ℕ

@@ -62,7 +62,7 @@ type_in (plain_annotated at attributes inner) = inner
 
 -- a use of a type means what another one does
 pub record Leads (definitions : List PlainDefinition) (u v : Use) : Type 0 where
-  pub same : (notes : List Note) → Says u.annotations notes → (more : List Note) × Says v.annotations more × (meaning_of_use definitions notes u ≡ meaning_of_use definitions more v)
+  pub same : (notes : List Note) → (more : List Note) × (Says u.annotations notes → Says v.annotations more) × (meaning_of_use definitions notes u ≡ meaning_of_use definitions more v)
 
 -- the number of the definition that a form names, if it is a name with a meaning
 abbrev pub meaning_of_form : List PlainDefinition → PlainForm → Option ℕ

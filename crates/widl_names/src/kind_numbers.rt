@@ -1,6 +1,6 @@
 //! The numbers of definitions among those of their kind.
 
-ghost use Rattle.std.specs.Prelude.{◌≡◌, ◌+◌, List, map, length, IfOk, if◌then◌else◌};
+ghost use Rattle.std.specs.Prelude.{◌≡◌, ◌+◌, ◌<◌, ◌^◌, List, map, length, IfOk, if◌then◌else◌};
 ghost use Rattle.widl_idl.specs.declared.kind.Kind.{Kind};
 ghost use Rattle.widl_idl.specs.PlainTrees.{definition_of};
 ghost use Rattle.widl_idl.specs.WrittenTypes.{is_main_of};
@@ -40,8 +40,9 @@ pub struct KindNumbers {
 ///
 /// # Errors
 ///
-/// `AllocError` where there is no memory, also where there are more than 4,294,967,295 of a kind.
+/// `AllocError` where there is no memory.
 pub fn number_kinds(alloc: Global, definitions: &[&Definition]) -> Result<KindNumbers, AllocError>
+    requires few { length definitions.now < 2 ^ 32 }
     ensures numbers { IfOk result (λ found. AreNumbers (listed_definitions definitions.now) found.numbers.items) }
     ensures counts { IfOk result (λ found. AreCounts (listed_definitions definitions.now) found.counts) }
 {
@@ -49,7 +50,7 @@ pub fn number_kinds(alloc: Global, definitions: &[&Definition]) -> Result<KindNu
     let mut numbers = Vec::new(alloc);
     for definition in definitions {
         numbers.push(counts.count(kind_of(&definition.kind)))?;
-        counts = counts.with(definition)?;
+        counts = counts.with(definition);
     }
     Ok(KindNumbers { numbers, counts })
 }
@@ -89,22 +90,16 @@ impl Counts {
     }
 
     /// The counts with one definition more.
-    fn with(self, definition: &Definition) -> Result<Counts, AllocError>
-        ensures { IfOk result (λ counts. (kind : Kind) → count_of counts kind ≡ (if is_main_of kind (definition_of definition.now) then count_of self kind + 1 else count_of self kind)) }
+    fn with(self, definition: &Definition) -> Counts
+        requires { (kind : Kind) → count_of self kind + 1 < 2 ^ 32 }
+        ensures { (kind : Kind) → count_of result kind ≡ (if is_main_of kind (definition_of definition.now) then count_of self kind + 1 else count_of self kind) }
     {
         if is_partial(&definition.kind) {
-            Ok(self)
+            self
         } else {
-            self.with_one(kind_of(&definition.kind))
+            let kind = kind_of(&definition.kind);
+            self.with_count(kind, self.count(kind) + 1)
         }
-    }
-
-    /// The counts with one more of a kind.
-    fn with_one(self, kind: Kind) -> Result<Counts, AllocError>
-        ensures { IfOk result (λ counts. counts ≡ with_count self kind (count_of self kind + 1)) }
-    {
-        let count = one_more(self.count(kind))?;
-        Ok(self.with_count(kind, count))
     }
 
     /// The counts with another count of a kind.
@@ -149,15 +144,5 @@ impl Counts {
                 ..self
             },
         }
-    }
-}
-
-fn one_more(count: u32) -> Result<u32, AllocError>
-    ensures { IfOk result (λ more. more ≡ count + 1) }
-{
-    if count < u32::MAX {
-        Ok(count + 1)
-    } else {
-        Err(AllocError)
     }
 }

@@ -1,14 +1,15 @@
 //! Tests of what a name means.
 
 ghost use Rattle.std.specs.Prelude.{◌≡◌};
-ghost use Rattle.widl_idl.specs.Meanings.{meaning, meant_kind};
+ghost use Rattle.widl_idl.specs.Meanings.{main_name, meaning, meant_kind};
 ghost use Rattle.widl_idl.specs.MergingRules.{is_kind, is_number};
-ghost use Rattle.widl_idl.specs.PlainTrees.{plain_definitions};
-ghost use Rattle.widl_names.specs.PartTables.{number_meant};
+ghost use Rattle.widl_idl.specs.PlainTrees.{definition_kind_of, plain_definitions};
+ghost use Rattle.widl_names.specs.PartTables.{means_itself, number_meant};
 
 use crate::meanings::{Meanings, kind_at};
-use crate::names::kind_of;
+use crate::names::{kind_of, main_name};
 use widl_idl::Kind;
+use widl_idl::tree::DefinitionKind;
 
 /// Whether a name means a definition of this kind.
 pub fn means_kind(meanings: &Meanings, text: &str, kind: Kind) -> bool
@@ -27,6 +28,16 @@ pub fn means_number(meanings: &Meanings, text: &str, number: usize) -> bool
     match meanings.number(text) {
         None => false,
         Some(other) => number == other,
+    }
+}
+
+/// Whether the name of the definition of this number means it.
+pub fn means_itself(meanings: &Meanings, number: usize, kind: &DefinitionKind) -> bool
+    ensures { result ≡ means_itself (plain_definitions meanings.now) number (main_name (definition_kind_of kind.now)) }
+{
+    match main_name(kind) {
+        None => false,
+        Some(name) => means_number(meanings, name.text.as_str(), number),
     }
 }
 

@@ -4,9 +4,9 @@
 //! A chain of typedefs whose types are names of typedefs is as long as a file allows. Where it ends is
 //! kept for each typedef, so following it is one look-up. Only where fewer typedefs may still be followed
 //! than the chain has is it followed by one at a time. The recursion goes down into the parts of types
-//! alone, at most 16 levels.
+//! alone, as deep as the type that results: at most 16 levels where no rule of merging is broken.
 
-ghost use Rattle.std.specs.Prelude.{◌≡◌, ◌<◌, ◌+◌, List, [], Some, IfOk, OnOk, map};
+ghost use Rattle.std.specs.Prelude.{◌≡◌, ◌<◌, ◌+◌, ◌^◌, List, [], Some, IfOk, OnOk, length, map};
 ghost use Rattle.widl_idl.specs.Meanings.{meaning, meant_kind};
 ghost use Rattle.widl_idl.specs.declared.kind.Kind.{Kind as KindType};
 ghost use Rattle.widl_idl.specs.MergedList.{number_of_meaning};
@@ -29,7 +29,6 @@ use std::alloc::{AllocError, Global};
 use std::marker::Model;
 use widl_idl::tree::{AnnotatedType, Container, ExtendedAttribute, TypeForm, WrittenType};
 use widl_idl::{IdlType, IdlTypes, Kind};
-use widl_text::limits::MOST_TYPE_LEVELS;
 
 /// The definitions of a set of files with their numbers, by which types are resolved.
 #[derive(Drop)]
@@ -113,12 +112,12 @@ impl<'m, 'd, 'a> Resolver<'m, 'd, 'a> {
     ///
     /// # Errors
     ///
-    /// `AllocError` where there is no memory, also where there are more than 4,294,967,295 definitions
-    /// of a kind.
+    /// `AllocError` where there is no memory.
     pub fn of(
         alloc: Global,
         meanings: &'m Meanings<'d, 'a>,
     ) -> Result<Resolver<'m, 'd, 'a>, AllocError>
+        requires few { length meanings.now < 2 ^ 32 }
         ensures { IfOk result (λ resolver. resolver ≡ meanings.now) }
     {
         let kinds = number_kinds(alloc, meanings.all())?;
@@ -137,8 +136,7 @@ impl<'m, 'd, 'a> Resolver<'m, 'd, 'a> {
     ///
     /// # Errors
     ///
-    /// `AllocError` where there is no memory, also where typedefs make more types than `room` has, or where
-    /// the type nests deeper than any that the rules allow.
+    /// `AllocError` where there is no memory, also where typedefs make more types than `room` has.
     pub fn resolve(
         &self,
         alloc: Global,
@@ -149,7 +147,7 @@ impl<'m, 'd, 'a> Resolver<'m, 'd, 'a> {
         ensures { IfOk result (λ t. (notes : List Note) → Says annotations notes → type_term t ≡ meaning_of_type (plain_definitions self.now) notes (type_of ty.now)) }
     {
         let start = Use::of(ty, annotations, self.kinds.counts.count(Kind::Typedef));
-        self.use_type(alloc, room, MOST_TYPE_LEVELS, &start)
+        self.use_type(alloc, room, &start)
     }
 
     /// What a type without annotations means, as that of a result or a constant.
@@ -285,24 +283,19 @@ impl<'m, 'd, 'a> Resolver<'m, 'd, 'a> {
         KnownUse { usage, meaning }
     }
 
-    /// What a use of a type means. `levels` is how deep its parts may nest; below, `left` is how many
-    /// typedefs may still be followed.
+    /// What a use of a type means. Below, `left` is how many typedefs may still be followed.
     #[cycle(resolve)]
     fn use_type(
         &self,
         alloc: Global,
         room: &mut usize,
-        levels: usize,
         start: &Use<'a>,
     ) -> Result<IdlType, AllocError>
         ensures { IfOk result (λ t. (notes : List Note) → Says start.now.annotations notes → type_term t ≡ meaning_of_use (plain_definitions self.now) notes start.now) }
     {
-        if levels == 0 {
-            return Err(AllocError);
-        }
         let last = self.follow(start);
         self.count(room, &last.usage)?;
-        let inner = self.form_type(alloc, room, levels - 1, &last)?;
+        let inner = self.form_type(alloc, room, &last)?;
         with_questions(alloc, inner, last.usage.questions)
     }
 
@@ -325,7 +318,6 @@ impl<'m, 'd, 'a> Resolver<'m, 'd, 'a> {
         &self,
         alloc: Global,
         room: &mut usize,
-        levels: usize,
         last: &KnownUse<'a>,
     ) -> Result<IdlType, AllocError>
         requires last { IsLast (plain_definitions self.now) last.now.usage }
@@ -341,18 +333,18 @@ impl<'m, 'd, 'a> Resolver<'m, 'd, 'a> {
             TypeForm::Text(kind) => Ok(last.usage.annotations.text(*kind)),
             TypeForm::Named(_) => Ok(self.meant_type(last.meaning)),
             TypeForm::Container(container, inner) => {
-                self.container_type(alloc, room, levels, left, *container, inner)
+                self.container_type(alloc, room, left, *container, inner)
             }
             TypeForm::Record(key, inner) => {
-                let value = self.boxed_type(alloc, room, levels, left, inner)?;
+                let value = self.boxed_type(alloc, room, left, inner)?;
                 Ok(IdlType::Rec(*key, value))
             }
             TypeForm::Promise(inner) => {
-                let value = self.promised_type(alloc, room, levels, left, inner)?;
+                let value = self.promised_type(alloc, room, left, inner)?;
                 Ok(IdlType::Promise(value))
             }
             TypeForm::Union(members) => {
-                let types = self.member_types(alloc, room, levels, left, members.as_slice())?;
+                let types = self.member_types(alloc, room, left, members.as_slice())?;
                 Ok(IdlType::Union(types))
             }
             _ => Ok(IdlType::Any),
@@ -365,7 +357,6 @@ impl<'m, 'd, 'a> Resolver<'m, 'd, 'a> {
         &self,
         alloc: Global,
         room: &mut usize,
-        levels: usize,
         left: u32,
         container: Container,
         inner: &'a AnnotatedType,
@@ -374,7 +365,7 @@ impl<'m, 'd, 'a> Resolver<'m, 'd, 'a> {
     {
         match container {
             Container::Sequence => {
-                let element = self.boxed_type(alloc, room, levels, left, inner)?;
+                let element = self.boxed_type(alloc, room, left, inner)?;
                 Ok(IdlType::Seq(element))
             }
             Container::AsyncSequence | Container::FrozenArray | Container::ObservableArray => {
@@ -389,14 +380,13 @@ impl<'m, 'd, 'a> Resolver<'m, 'd, 'a> {
         &self,
         alloc: Global,
         room: &mut usize,
-        levels: usize,
         left: u32,
         ty: &'a WrittenType,
     ) -> Result<Box<IdlType>, AllocError>
         ensures { IfOk result (λ t. type_term t.value ≡ meaning_at (plain_definitions self.now) left [] (type_of ty.now)) }
     {
         let start = Use::of(ty, Annotations::none(), left);
-        let value = self.use_type(alloc, room, levels, &start)?;
+        let value = self.use_type(alloc, room, &start)?;
         Ok(Box::new(alloc, value)?)
     }
 
@@ -406,14 +396,13 @@ impl<'m, 'd, 'a> Resolver<'m, 'd, 'a> {
         &self,
         alloc: Global,
         room: &mut usize,
-        levels: usize,
         left: u32,
         ty: &'a AnnotatedType,
     ) -> Result<IdlType, AllocError>
         ensures { IfOk result (λ t. type_term t ≡ own_meaning (plain_definitions self.now) left (annotated_of ty.now)) }
     {
         let start = Use::of(&ty.ty, Annotations::of(ty.attributes.as_slice()), left);
-        self.use_type(alloc, room, levels, &start)
+        self.use_type(alloc, room, &start)
     }
 
     /// The same in memory of its own.
@@ -422,13 +411,12 @@ impl<'m, 'd, 'a> Resolver<'m, 'd, 'a> {
         &self,
         alloc: Global,
         room: &mut usize,
-        levels: usize,
         left: u32,
         ty: &'a AnnotatedType,
     ) -> Result<Box<IdlType>, AllocError>
         ensures { IfOk result (λ t. type_term t.value ≡ own_meaning (plain_definitions self.now) left (annotated_of ty.now)) }
     {
-        let value = self.annotated_type(alloc, room, levels, left, ty)?;
+        let value = self.annotated_type(alloc, room, left, ty)?;
         Ok(Box::new(alloc, value)?)
     }
 
@@ -438,7 +426,6 @@ impl<'m, 'd, 'a> Resolver<'m, 'd, 'a> {
         &self,
         alloc: Global,
         room: &mut usize,
-        levels: usize,
         left: u32,
         members: &'a [AnnotatedType],
     ) -> Result<IdlTypes, AllocError>
@@ -446,7 +433,7 @@ impl<'m, 'd, 'a> Resolver<'m, 'd, 'a> {
     {
         let mut types = IdlTypes::new(alloc);
         for member in members {
-            let ty = self.annotated_type(alloc, room, levels, left, member)?;
+            let ty = self.annotated_type(alloc, room, left, member)?;
             types.push(ty)?;
         }
         Ok(types)

@@ -15,8 +15,9 @@ use Rattle.widl_idl.specs.PlainTypes.{PlainName}
 use Rattle.widl_idl.specs.PlainTrees.{PlainMember, PlainMemberKind, PlainOperation, ConstructorMember, OperationMember, member_of}
 use Rattle.widl_idl.proofs.Order.{one_place}
 use Rattle.widl_overload.specs.MemberRules.{HasOverloadPastLimit, IsOverloadPastLimit, constructor_count, constructor_place}
-use Rattle.widl_valid.specs.MemberTables.{count_in, has_overload, is_constructor, is_overload, listed_members, violation_past_limit}
+use Rattle.widl_valid.specs.MemberTables.{count_in, has_overload, is_constructor, is_overload, violation_past_limit}
 use Rattle.widl_valid.proofs.NamedViolations.{listed_next, members_end, members_step, named_first, no_members, nowhere}
+use Rattle.widl_names.specs.Listings.{listed_members}
 
 -- what is kept for a text, with one more counted for one
 pub count_kept : {S : Type 0} (old new : IndexMap (Bor (List ℕ)) ℕ S) (text other : List ℕ) (total : ℕ) → total ≡ count_in old text + 1

@@ -13,9 +13,7 @@ pub mod OwnerViolations
 mod IndistinguishableKinds
 mod IndistinguishablePairs
 mod AnyPair
-mod Closing
 mod NestedSpans
-mod Opening
 mod PairCounts
 mod TouchingSpans
 pub mod FlatMembers

@@ -14,7 +14,8 @@ use Rattle.widl_idl.proofs.Order.{one_place}
 use Rattle.widl_names.proofs.PlainLists.{mapped_more}
 use Rattle.widl_names.proofs.Pushed.{at_one_push}
 use Rattle.widl_overload.specs.MemberRules.{HasKeptName, identifier, is_kept_name}
-use Rattle.widl_valid.specs.MemberTables.{listed_members, violation_of_name}
+use Rattle.widl_valid.specs.MemberTables.{violation_of_name}
+use Rattle.widl_names.specs.Listings.{listed_members}
 
 -- nothing breaks where no violation is
 pub nowhere : (P : Violation → Type 0) (found : Option Violation) → ((s : Violation) → P s → ⊥) → found ≡ None → FirstWhere P found

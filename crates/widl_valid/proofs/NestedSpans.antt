@@ -1,12 +1,15 @@
 -- Nested spans tell which interfaces are related.
-use Rattle.std.proofs.Common.{◌≡◌, ◌≢◌, ◌⊎◌, inl, inr, ℕ, zero, suc, ◌<◌, ◌≤◌, Bool, true, false, ◌||◌, ◌&&◌, cond, ltb, List, length, nat_eq, Option, None, Some, arith, refl, sym, ap, ◌∙◌}
+use Rattle.std.proofs.Common.{◌≡◌, ◌≢◌, ◌⊎◌, inl, inr, ℕ, zero, suc, ◌<◌, ◌≤◌, Bool, true, false, ◌||◌, ◌&&◌, cond, ltb, List, length, map, nat_eq, slice_get, Option, None, Some, option_map, arith, refl, sym, ap, ◌∙◌}
+use Rattle.std.specs.Prelude.{option_and_then}
 use Rattle.std.proofs.lemmas.Bool.{cases_lt, ltb-true, lt-ltb, eqb-true, eq-eqb}
-use Rattle.std.proofs.lemmas.Option.{same_Some}
+use Rattle.std.proofs.lemmas.List.{length-map}
+use Rattle.std.proofs.lemmas.Option.{same_Some, slice_get-map}
 use Rattle.widl_idl.specs.declared.interface.Iface.{Iface}
 use Rattle.widl_overload.specs.Inheritance.{inherits, is_among, parent_of}
+use Rattle.widl_inheritance.specs.Spans.{AreNested, parent_in, span_of}
+use Rattle.widl_inheritance.specs.declared.spans.Span.{Span}
 use Rattle.widl_valid.specs.IndistinguishablePairs.{are_related}
-use Rattle.widl_valid.specs.Lineages.{AreNested, TellRelated, span_of, touches}
-use Rattle.widl_valid.specs.declared.lineages.Span.{Span}
+use Rattle.widl_valid.specs.Lineages.{TellRelated, touches}
 use Rattle.widl_valid.proofs.AnyPair.{or_true}
 
 either_true : (a b : Bool) → (a || b) ≡ true → (a ≡ true) ⊎ (b ≡ true)
@@ -22,7 +25,20 @@ same_tests true b f g = sym (f refl)
 same_tests false true f g = g refl
 same_tests false false f g = refl
 
-module _ (ifaces : List Iface) (spans : List (Option Span)) (all : AreNested ifaces spans) where
+parent_is : (ifaces : List Iface) (n : ℕ) → parent_in (map (λ (i : Iface). i.parent) ifaces) n ≡ parent_of ifaces n
+parent_is ifaces n = ap (option_and_then (λ p. p)) (slice_get-map (λ (i : Iface). i.parent) ifaces n) ∙ go (slice_get ifaces n)
+  where
+    go : (found : Option Iface) → option_and_then (λ p. p) (option_map (λ (i : Iface). i.parent) found) ≡ option_and_then (λ (i : Iface). i.parent) found
+    go None = refl
+    go (Some i) = refl
+
+module _ (ifaces : List Iface) (spans : List (Option Span)) (all : AreNested (map (λ (i : Iface). i.parent) ifaces) spans) where
+  nested : (a p : ℕ) (s : Span) → span_of spans a ≡ Some s → parent_of ifaces a ≡ Some p → (q : Span) × (span_of spans p ≡ Some q) × (q.start < s.start) × (s.past ≤ q.past)
+  nested a p s a_is up_is = all.nested a p s a_is (parent_is ifaces a ∙ up_is)
+
+  inside : (a n : ℕ) (s t : Span) → span_of spans a ≡ Some s → span_of spans n ≡ Some t → t.start < s.start → s.start < t.past → (p : ℕ) × (q : Span) × (parent_of ifaces a ≡ Some p) × (span_of spans p ≡ Some q) × (t.start ≤ q.start)
+  inside a n s t a_is n_is low high = let w = all.inside a n s t a_is n_is low high in (w.0, w.1, sym (parent_is ifaces a) ∙ w.2, w.3, w.4)
+
   none_among : (links n : ℕ) → is_among ifaces links n None ≡ true → ⊥
   none_among zero n h = let f : false ≡ true = h in (cc)
   none_among (suc links) n h = let f : false ≡ true = h in (cc)
@@ -37,7 +53,7 @@ module _ (ifaces : List Iface) (spans : List (Option Span)) (all : AreNested ifa
       (omega (arith, ap (λ (x : Span). x.start) one), omega (arith, ap (λ (x : Span). x.past) one))
   up_or_same links a n s t false None a_is n_is e up_is h rest = absurd (none_among links n h)
   up_or_same links a n s t false (Some p) a_is n_is e up_is h rest =
-      let w = all.nested a p s a_is up_is in
+      let w = nested a p s a_is up_is in
       let r = rest p w.0 w.1 h in
       (omega (arith, w.2, r.0), omega (arith, w.3, r.1))
 
@@ -49,7 +65,7 @@ module _ (ifaces : List Iface) (spans : List (Option Span)) (all : AreNested ifa
   by_parent : (m n : ℕ) (s t : Span) (up : Option ℕ) → span_of spans m ≡ Some s → span_of spans n ≡ Some t → parent_of ifaces m ≡ up → is_among ifaces (length ifaces) n up ≡ true → (t.start ≤ s.start) × (s.past ≤ t.past)
   by_parent m n s t None m_is n_is up_is h = absurd (none_among (length ifaces) n h)
   by_parent m n s t (Some p) m_is n_is up_is h =
-      let w = all.nested m p s m_is up_is in
+      let w = nested m p s m_is up_is in
       let r = climbs (length ifaces) p n w.0 t w.1 n_is h in
       (omega (arith, w.2, r.0), omega (arith, w.3, r.1))
 
@@ -65,8 +81,8 @@ module _ (ifaces : List Iface) (spans : List (Option Span)) (all : AreNested ifa
   reaches_by links a n s t true a_is n_is e low high fuel rest = refl
   reaches_by links a n s t false a_is n_is e low high fuel rest =
       let other = differ a n s t a_is n_is e in
-      let w = all.inside a n s t a_is n_is (omega arith) high in
-      let up = all.nested a w.0 s a_is w.2 in
+      let w = inside a n s t a_is n_is (omega arith) high in
+      let up = nested a w.0 s a_is w.2 in
       let one : up.0 ≡ w.1 = same_Some up.0 w.1 (sym up.1 ∙ w.3) in
       let before : w.1.start < s.start = omega (arith, up.2, ap (λ (x : Span). x.start) one) in
       ap (is_among ifaces links n) w.2 ∙ rest w.0 w.1 w.3 (omega arith) w.4 (omega arith)
@@ -78,12 +94,13 @@ module _ (ifaces : List Iface) (spans : List (Option Span)) (all : AreNested ifa
 
   heir : (m n : ℕ) (s t : Span) → span_of spans m ≡ Some s → span_of spans n ≡ Some t → t.start < s.start → s.start < t.past → inherits ifaces m n ≡ true
   heir m n s t m_is n_is low high =
-      let w = all.inside m n s t m_is n_is low high in
-      let up = all.nested m w.0 s m_is w.2 in
+      let w = inside m n s t m_is n_is low high in
+      let up = nested m w.0 s m_is w.2 in
       let one : up.0 ≡ w.1 = same_Some up.0 w.1 (sym up.1 ∙ w.3) in
       let before : w.1.start < s.start = omega (arith, up.2, ap (λ (x : Span). x.start) one) in
       let fits = all.bounded m s m_is in
-      ap (is_among ifaces (length ifaces) n) w.2 ∙ reaches (length ifaces) w.0 n w.1 t w.3 n_is (omega (arith, fits.0, fits.1)) w.4 (omega arith)
+      let size = length-map ifaces (λ (i : Iface). i.parent) in
+      ap (is_among ifaces (length ifaces) n) w.2 ∙ reaches (length ifaces) w.0 n w.1 t w.3 n_is (omega (arith, fits.0, fits.1, size)) w.4 (omega arith)
 
   touch : (s t : Span) → t.start < s.past → s.start < t.past → touches s t ≡ true
   touch s t a b = λ j. lt-ltb t.start s.past a j && lt-ltb s.start t.past b j

@@ -15,14 +15,14 @@ use Rattle.widl_idl.specs.PlainTypes.{PlainName}
 use Rattle.widl_idl.specs.PlainTrees.{PlainDefinition, PlainKind, PlainMember, definition_of}
 use Rattle.widl_idl.proofs.Order.{first_same}
 use Rattle.widl_names.specs.Listings.{listed_definitions}
-use Rattle.widl_names.specs.PartTables.{ListsParts, has_parts}
+use Rattle.widl_names.specs.PartTables.{ListsParts, has_parts, means_itself}
 use Rattle.widl_names.proofs.KeptMembers.{merged_listed}
 use Rattle.widl_names.proofs.NamedParts.{meaning_named, meant_at}
 use Rattle.widl_names.proofs.PlainLists.{listed_more}
 use Rattle.widl_names.proofs.Pushed.{at_one_push, some_is}
 use Rattle.widl_overload.specs.MemberRules.{InOneOwner, has_members_of_its_own, is_interface_kind}
 use Rattle.widl_valid.specs.declared.owners.MemberViolations.{MemberViolations}
-use Rattle.widl_valid.specs.Owners.{AreMemberViolations, AreViolations, InDefinitions, InMembers, InOwner, InOwnerAt, is_owner, earlier_violations, means_itself, no_violations}
+use Rattle.widl_valid.specs.Owners.{AreMemberViolations, AreViolations, InDefinitions, InMembers, InOwner, InOwnerAt, is_owner, earlier_violations, no_violations}
 
 -- which owners of a kind are asked, and what breaks the rule
 abbrev pub Owned : Type 1

@@ -9,8 +9,9 @@ use Rattle.widl_idl.specs.First.{AtOne, FirstWhere, earlier}
 use Rattle.widl_idl.specs.PlainTypes.{PlainName}
 use Rattle.widl_idl.specs.PlainTrees.{PlainMember, member_of}
 use Rattle.widl_overload.specs.MemberRules.{RepeatsMember, identifier, is_named, is_operation}
-use Rattle.widl_valid.specs.MemberTables.{has_text, listed_members, violation_of_name}
+use Rattle.widl_valid.specs.MemberTables.{has_text, violation_of_name}
 use Rattle.widl_valid.proofs.NamedViolations.{any_push, listed_next, members_end, members_step, named_first, no_members}
+use Rattle.widl_names.specs.Listings.{listed_members}
 
 or_turned : (a b : Bool) → cond a true b ≡ (b || a)
 or_turned true true = refl

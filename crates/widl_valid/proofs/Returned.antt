@@ -10,9 +10,10 @@ use Rattle.widl_idl.specs.MergingRules.{both_or_none, is_static}
 use Rattle.widl_idl.specs.PlainTypes.{PlainName}
 use Rattle.widl_idl.specs.PlainTrees.{PlainDefinition, PlainMember, PlainMemberKind, PlainOperation, OperationMember, member_of}
 use Rattle.widl_overload.specs.MemberRules.{DiffersInPromise, MixesPromises, agree_on_promises, returns_promise}
-use Rattle.widl_valid.specs.MemberTables.{gives_promise, has_overload, is_overload, listed_members, violation_of_other}
+use Rattle.widl_valid.specs.MemberTables.{gives_promise, has_overload, is_overload, violation_of_other}
 use Rattle.widl_valid.proofs.Counted.{operations_push}
 use Rattle.widl_valid.proofs.NamedViolations.{any_push, listed_next, members_end, members_step, named_first, no_members, nowhere}
+use Rattle.widl_names.specs.Listings.{listed_members}
 
 -- a test, split by whether another one holds
 split_by : (t g r : Bool) → ((t && both_or_none g r) || (t && both_or_none (not g) r)) ≡ t

@@ -10,8 +10,9 @@ use Rattle.widl_idl.specs.MergedMembers.{has, is_stringifier, is_stringifier_att
 use Rattle.widl_idl.specs.PlainTrees.{PlainMember, PlainMemberKind, AttributeMember, StringifierMember, member_of}
 use Rattle.widl_idl.proofs.Order.{one_place}
 use Rattle.widl_overload.specs.MemberRules.{AtPlace, IsSecondStringifier, stringifier_place, word_of_attribute}
-use Rattle.widl_valid.specs.MemberTables.{listed_members, violation_after}
+use Rattle.widl_valid.specs.MemberTables.{violation_after}
 use Rattle.widl_valid.proofs.NamedViolations.{any_push, listed_next, members_end, members_step, no_members, nowhere}
+use Rattle.widl_names.specs.Listings.{listed_members}
 
 -- a stringifier is what has the word
 attribute_word : (kind : AttributeKind) → is_stringifier_attribute kind ≡ is_some (word_of_attribute kind)

@@ -10,8 +10,9 @@ use Rattle.std.specs.List.Sorted.{IsNonDecreasingBy, IsPermutation}
 use Rattle.widl_idl.specs.declared.interface.Iface.{Iface}
 use Rattle.widl_names.proofs.PlainLists.{mapped_more}
 use Rattle.widl_valid.specs.IndistinguishablePairs.{any_pair, are_related}
-use Rattle.widl_valid.specs.Lineages.{TellRelated, begins_within, span_of, touches}
-use Rattle.widl_valid.specs.declared.lineages.Span.{Span}
+use Rattle.widl_inheritance.specs.Spans.{span_of}
+use Rattle.widl_inheritance.specs.declared.spans.Span.{Span}
+use Rattle.widl_valid.specs.Lineages.{TellRelated, begins_within, touches}
 use Rattle.widl_valid.proofs.AnyPair.{pair_found, pair_none}
 use Rattle.widl_valid.proofs.PairCounts.{any_pair_permuted}
 

@@ -1,21 +1,16 @@
 -- For proofs alone. What the rules on the members of one owner keep of the members that stand before.
-use Rattle.std.specs.Prelude.{ℕ, Bool, true, false, ◌&&◌, ◌||◌, not, nat_eq, List, map, Option, None, Some, if◌then◌else◌, bytes_eq, unwrap_or}
+use Rattle.std.specs.Prelude.{if◌then◌else◌, ℕ, Bool, true, false, ◌&&◌, ◌||◌, not, nat_eq, List, Option, None, Some, bytes_eq, unwrap_or}
 use Rattle.std.specs.Borrow.{Bor}
 use Rattle.indexmap.specs.IndexMap.{IndexMap, get_by}
 use Rattle.indexmap.specs.IndexSet.{IndexSet, contains_by}
 use Rattle.widl_text.specs.declared.place.Place.{Place}
 use Rattle.widl_idl.specs.declared.violation.Violation.{Violation}
-use Rattle.widl_idl.specs.declared.tree.members.Member.{Member}
 use Rattle.widl_idl.specs.First.{violation_at}
 use Rattle.widl_idl.specs.MergedMembers.{operation_text}
 use Rattle.widl_idl.specs.MergingRules.{both_or_none, is_static}
 use Rattle.widl_idl.specs.PlainTypes.{PlainName}
-use Rattle.widl_idl.specs.PlainTrees.{PlainDefinition, PlainOperation, PlainMember, PlainMemberKind, ConstructorMember, OperationMember, member_of}
+use Rattle.widl_idl.specs.PlainTrees.{PlainDefinition, PlainOperation, PlainMemberKind, ConstructorMember, OperationMember}
 use Rattle.widl_overload.specs.MemberRules.{returns_promise}
-
--- members as definitions see them
-abbrev pub listed_members : List (Bor Member) → List PlainMember
-listed_members members = map (λ m. member_of m.now) members
 
 -- the place of a name whose text passes the test
 abbrev pub violation_of_name : Option PlainName → (List ℕ → Bool) → Option Violation

@@ -1,15 +1,15 @@
 -- For proofs alone. The violations at which the rules on members are broken first, of one owner and of all.
-use Rattle.std.specs.Prelude.{◌≡◌, ℕ, Bool, true, false, ◌&&◌, List, length, Option, None, Some}
+use Rattle.std.specs.Prelude.{◌≡◌, ℕ, Bool, true, ◌&&◌, List, length, None, Some}
 use Rattle.widl_idl.specs.declared.kind.Kind.{Kind}
 use Rattle.widl_idl.specs.declared.violation.Violation.{Violation}
 use Rattle.widl_idl.specs.First.{AtOne, FirstWhere, earlier}
 use Rattle.widl_idl.specs.Meanings.{kind_of, main_name, meaning}
-use Rattle.widl_idl.specs.MergingRules.{is_number}
 use Rattle.widl_idl.specs.Parts.{merged_members}
 use Rattle.widl_idl.specs.PlainTypes.{PlainName}
 use Rattle.widl_idl.specs.PlainTrees.{PlainDefinition, PlainKind, PlainMember}
 use Rattle.widl_overload.specs.MemberRules.{HasKeptName, HasOverloadPastLimit, InOneOwner, IsSecondStringifier, MixesPromises, RepeatsMember, has_members_of_its_own, is_interface_kind}
 use Rattle.widl_valid.specs.declared.owners.MemberViolations.{MemberViolations}
+use Rattle.widl_names.specs.PartTables.{means_itself}
 
 -- the violations are the first at which each of the five rules is broken, where `For` tells which owners are asked
 pub record AreViolations (For : (Kind → Bool) → (List PlainMember → PlainMember → Violation → Type 0) → Violation → Type 0) (definitions : List PlainDefinition) (violations : MemberViolations) : Type 0 where
@@ -40,11 +40,6 @@ InOwnerAt definitions asked Breaks before d s = InOwner definitions (length befo
 -- one of these definitions has members that break the rule
 abbrev pub InDefinitions : List PlainDefinition → List PlainDefinition → (Kind → Bool) → (List PlainMember → PlainMember → Violation → Type 0) → Violation → Type 0
 InDefinitions definitions some asked Breaks s = AtOne (InOwnerAt definitions asked Breaks) some s
-
--- whether the name of a definition of this number means it
-abbrev pub means_itself : List PlainDefinition → ℕ → Option PlainName → Bool
-means_itself definitions number None = false
-means_itself definitions number (Some name) = is_number number (meaning definitions name.text)
 
 -- whether a definition of this number is an interface or a namespace that its name means
 abbrev pub is_owner : List PlainDefinition → ℕ → PlainKind → Bool

@@ -7,7 +7,6 @@ ghost use Rattle.widl_idl.specs.PlainTrees.{definition_of};
 ghost use Rattle.widl_names.specs.Listings.{listed_definitions};
 ghost use Rattle.widl_valid.specs.DefinitionViolations.{AreDefinitionViolations, earlier_violations, no_violations};
 
-use crate::argument_lists::list_arguments;
 use crate::argument_rules::{
     first_after_ellipsis, first_argument_past_limit, first_repeated_argument,
     first_required_after_optional,
@@ -19,6 +18,7 @@ use crate::definition_rules::{
 use std::alloc::{AllocError, Global};
 use widl_idl::tree::Definition;
 use widl_idl::{Violation, earlier_violation};
+use widl_inheritance::arguments_in;
 
 /// Where the rules on lists of arguments and on definitions are broken first.
 #[derive(Clone, Copy)]
@@ -70,7 +70,7 @@ fn find_in_definition(
     ensures { IfOk result (AreDefinitionViolations (definition_of definition.now ∷ [])) }
 {
     let kind = &definition.kind;
-    let listed = list_arguments(alloc, kind)?;
+    let listed = arguments_in(alloc, kind)?;
     let lists = listed.as_slice();
     let repeated_argument = first_repeated_argument(alloc, lists)?;
     let repeated_value = first_repeated_value(alloc, kind)?;

@@ -6,7 +6,8 @@ ghost use Rattle.widl_idl.specs.First.{AtOne, FirstWhere};
 ghost use Rattle.widl_idl.specs.MergedMembers.{is_static_attribute};
 ghost use Rattle.widl_idl.specs.PlainTrees.{member_kind_of};
 ghost use Rattle.widl_overload.specs.MemberRules.{HasKeptName, identifier, is_constant, is_kept_name, is_static_member};
-ghost use Rattle.widl_valid.specs.MemberTables.{listed_members, violation_of_name};
+ghost use Rattle.widl_valid.specs.MemberTables.{violation_of_name};
+ghost use Rattle.widl_names.specs.Listings.{listed_members};
 
 use crate::owner_members::{identifier, is_static};
 use widl_idl::tree::{AttributeKind, Member, MemberKind};

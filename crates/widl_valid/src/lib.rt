@@ -6,7 +6,6 @@
 
 mod acceptance;
 mod annotation_rules;
-mod argument_lists;
 mod argument_rules;
 mod clamp_rules;
 mod constant_values;
@@ -19,7 +18,6 @@ mod joined_rules;
 mod kept_names;
 mod kinds_seen;
 mod known_texts;
-mod lineage_walk;
 mod lineages;
 mod member_types;
 mod nullable_rules;

@@ -1,21 +1,13 @@
 //! Which of many interfaces are related, told by two comparisons.
 
-ghost use Rattle.std.specs.Prelude.{◌≡◌, IfOk};
-ghost use Rattle.widl_valid.specs.Lineages.{AreSpansOf, TellRelated, span_of};
+ghost use Rattle.std.specs.Prelude.{◌≡◌, map, IfOk};
+ghost use Rattle.widl_idl.specs.declared.interface.Iface.{Iface as IfaceType};
+ghost use Rattle.widl_inheritance.specs.Spans.{span_of};
+ghost use Rattle.widl_valid.specs.Lineages.{AreSpansOf, TellRelated};
 
-use crate::lineage_walk::walked;
 use std::alloc::{AllocError, Global};
-use widl_idl::Defs;
-
-/// The places of an interface and of those that inherit from it, in an order in which these follow it
-/// directly.
-#[derive(Clone, Copy)]
-pub struct Span {
-    /// The place of the interface.
-    pub start: usize,
-    /// The place after the last of its heirs.
-    pub past: usize,
-}
+use widl_idl::{Defs, Iface};
+use widl_inheritance::{Span, Spans};
 
 /// The spans of interfaces, by their numbers. An interface has none where its parents lead round in a
 /// circle or to no interface.
@@ -34,9 +26,10 @@ impl Lineages {
     pub fn of(alloc: Global, defs: &Defs) -> Result<Lineages, AllocError>
         ensures { IfOk result (λ all. TellRelated defs.now.ifaces all.spans.items) }
     {
-        Ok(Lineages {
-            spans: walked(alloc, defs.ifaces.as_slice())?,
-        })
+        let parents = parents_of(alloc, defs.ifaces.as_slice())?;
+        let spans = Spans::of(alloc, parents.as_slice())?;
+        let Spans { by_node, order: _ } = spans;
+        Ok(Lineages { spans: by_node })
     }
 
     /// The span of an interface.
@@ -65,5 +58,25 @@ impl Lineages {
             }
         }
         Ok(Some(spans))
+    }
+}
+
+/// The numbers of the interfaces from which these inherit directly.
+fn parents_of(alloc: Global, ifaces: &[Iface]) -> Result<Vec<Option<usize>>, AllocError>
+    ensures { IfOk result (λ parents. parents.items ≡ map (λ (i : IfaceType). i.parent) ifaces.now) }
+{
+    let mut parents = Vec::new(alloc);
+    for iface in ifaces {
+        parents.push(parent_of(iface))?;
+    }
+    Ok(parents)
+}
+
+fn parent_of(iface: &Iface) -> Option<usize>
+    ensures { result ≡ iface.now.parent }
+{
+    match iface.parent {
+        None => None,
+        Some(parent) => Some(parent as usize),
     }
 }

@@ -2,22 +2,21 @@
 
 ghost use Rattle.std.specs.Prelude.{◌≡◌, true, Some, option_map, slice_get, IfOk};
 ghost use Rattle.widl_idl.specs.First.{FirstWhere};
-ghost use Rattle.widl_idl.specs.Meanings.{kind_of, main_name};
+ghost use Rattle.widl_idl.specs.Meanings.{kind_of};
 ghost use Rattle.widl_idl.specs.PlainTrees.{definition_kind_of, plain_definitions};
 ghost use Rattle.widl_overload.specs.MemberRules.{HasKeptName, IsSecondStringifier, has_members_of_its_own, is_interface_kind};
-ghost use Rattle.widl_valid.specs.MemberTables.{listed_members};
-ghost use Rattle.widl_valid.specs.Owners.{AreMemberViolations, AreViolations, InMembers, InOwner, is_owner, earlier_violations, means_itself, no_violations};
+ghost use Rattle.widl_names.specs.Listings.{listed_members};
+ghost use Rattle.widl_valid.specs.Owners.{AreMemberViolations, AreViolations, InMembers, InOwner, is_owner, earlier_violations, no_violations};
 
 use crate::kept_names::first_kept_name;
 use crate::overload_counts::first_overload_past_limit;
-use crate::owner_members::list_members;
 use crate::promise_overloads::first_mixing_promises;
 use crate::repeated_members::first_repeated_member;
 use crate::stringifiers::first_second_stringifier;
 use std::alloc::{AllocError, Global};
 use widl_idl::tree::{DefinitionKind, Member};
 use widl_idl::{Kind, Violation, earlier_violation};
-use widl_names::{Meanings, Parts, Resolver, kind_of, main_name, means_number};
+use widl_names::{Meanings, Parts, Resolver, kind_of, list_members, means_itself};
 
 /// Where the rules on the members of owners are broken first.
 #[derive(Clone, Copy)]
@@ -88,15 +87,6 @@ fn is_owner(meanings: &Meanings, number: usize, kind: &DefinitionKind) -> bool
     ensures { result ≡ is_owner (plain_definitions meanings.now) number (definition_kind_of kind.now) }
 {
     has_members_of_its_own(kind_of(kind)) && means_itself(meanings, number, kind)
-}
-
-fn means_itself(meanings: &Meanings, number: usize, kind: &DefinitionKind) -> bool
-    ensures { result ≡ means_itself (plain_definitions meanings.now) number (main_name (definition_kind_of kind.now)) }
-{
-    match main_name(kind) {
-        None => false,
-        Some(name) => means_number(meanings, name.text.as_str(), number),
-    }
 }
 
 fn has_members_of_its_own(kind: Kind) -> bool

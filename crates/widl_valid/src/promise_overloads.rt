@@ -6,7 +6,8 @@ ghost use Rattle.widl_idl.specs.MergingRules.{both_or_none, is_static};
 ghost use Rattle.widl_idl.specs.PlainTrees.{member_kind_of, operation_of, plain_definitions};
 ghost use Rattle.widl_idl.specs.Terms.{type_term};
 ghost use Rattle.widl_overload.specs.MemberRules.{MixesPromises, is_promise, returns_promise};
-ghost use Rattle.widl_valid.specs.MemberTables.{gives_promise, has_overload, has_returned, is_overload, listed_members, violation_of_name, violation_of_other};
+ghost use Rattle.widl_valid.specs.MemberTables.{gives_promise, has_overload, has_returned, is_overload, violation_of_name, violation_of_other};
+ghost use Rattle.widl_names.specs.Listings.{listed_members};
 
 use crate::operation_names::OperationNames;
 use crate::owner_members::is_static;

@@ -6,9 +6,10 @@ ghost use Rattle.std.specs.List.Sorted.{IsNonDecreasingBy, IsPermutation};
 ghost use Rattle.widl_valid.specs.IndistinguishablePairs.{any_pair, are_related};
 ghost use Rattle.widl_valid.specs.Lineages.{TellRelated, begins_within, touches};
 
-use crate::lineages::{Lineages, Span};
+use crate::lineages::Lineages;
 use std::alloc::{AllocError, Global};
 use widl_idl::Iface;
+use widl_inheritance::Span;
 use widl_overload::inherits;
 
 /// Whether one of the interfaces with these numbers is another one, or inherits from it. It takes the

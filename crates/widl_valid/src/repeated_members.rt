@@ -4,7 +4,8 @@ ghost use Rattle.std.specs.Prelude.{◌≡◌, ℕ, Bool, false, List, ◌&&◌,
 ghost use Rattle.widl_idl.specs.First.{AtOne, FirstWhere};
 ghost use Rattle.widl_idl.specs.PlainTrees.{member_kind_of};
 ghost use Rattle.widl_overload.specs.MemberRules.{RepeatsMember, identifier, is_named, is_operation};
-ghost use Rattle.widl_valid.specs.MemberTables.{clashes, listed_members, violation_of_name};
+ghost use Rattle.widl_valid.specs.MemberTables.{clashes, violation_of_name};
+ghost use Rattle.widl_names.specs.Listings.{listed_members};
 
 use crate::operation_names::add_text;
 use crate::owner_members::{identifier, is_operation};

@@ -4,7 +4,8 @@ ghost use Rattle.std.specs.Prelude.{◌≡◌, ◌||◌, is_some};
 ghost use Rattle.widl_idl.specs.First.{AtOne, FirstWhere};
 ghost use Rattle.widl_idl.specs.PlainTrees.{member_kind_of};
 ghost use Rattle.widl_overload.specs.MemberRules.{IsSecondStringifier, stringifier_place, word_of_attribute};
-ghost use Rattle.widl_valid.specs.MemberTables.{listed_members, violation_after};
+ghost use Rattle.widl_valid.specs.MemberTables.{violation_after};
+ghost use Rattle.widl_names.specs.Listings.{listed_members};
 
 use widl_idl::tree::{AttributeKind, Member, MemberKind};
 use widl_idl::{Violation, earlier_violation};

@@ -1,6 +1,6 @@
 use Rattle.std.proofs.Common.{sym, ap, slice_get, option_map, ◌∙◌}
 use Rattle.widl_idl.specs.PlainTrees.{PlainDefinition, plain_definitions}
-use Rattle.widl_inheritance.specs.InterfaceMembers.{listed_members}
+use Rattle.widl_names.specs.Listings.{listed_members}
 use Rattle.widl_inheritance.proofs.NumberedMembers.{none_there}
 use Rattle.widl_inheritance.proofs.interface_members.interface_members.Goals as goal
 

@@ -2,10 +2,11 @@ use Rattle.std.proofs.Common.{◌≡◌, flat_map, sym, ap, subst, ◌∙◌}
 use Rattle.std.proofs.lemmas.Result.{IfOk-weaker}
 use Rattle.widl_idl.specs.Parts.{members_in}
 use Rattle.widl_idl.specs.PlainTrees.{definition_kind_of, plain_definitions}
-use Rattle.widl_inheritance.specs.InterfaceMembers.{listed_members, members_at}
+use Rattle.widl_inheritance.specs.InterfaceMembers.{members_at}
 use Rattle.widl_inheritance.proofs.NumberedMembers.{none_meant, parts_listed}
 use Rattle.widl_names.specs.PartTables.{ListsParts, listed_parts}
 use Rattle.widl_inheritance.proofs.interface_members.members_of_kind.Goals as goal
+use Rattle.widl_names.specs.Listings.{listed_members}
 
 pub returns-in_ok-list : goal.returns-in_ok-list
 returns-in_ok-list c =

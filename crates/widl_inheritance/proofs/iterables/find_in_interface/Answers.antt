@@ -1,11 +1,12 @@
 use Rattle.std.proofs.Common.{◌≡◌, ◌||◌, false, slice_index_or, sym, ap, subst, ◌∙◌}
 use Rattle.widl_idl.specs.First.{AtOne, FirstWhere}
 use Rattle.widl_idl.specs.PlainTrees.{plain_definitions}
-use Rattle.widl_inheritance.specs.InterfaceMembers.{listed_members, members_at}
+use Rattle.widl_inheritance.specs.InterfaceMembers.{members_at}
 use Rattle.widl_inheritance.specs.Iterations.{FollowsIterable, IsHiding}
 use Rattle.widl_inheritance.proofs.IterationSteps.{none_follows, none_hiding}
 use Rattle.widl_overload.specs.IterableRules.{has_iterable}
 use Rattle.widl_inheritance.proofs.iterables.find_in_interface.Goals as goal
+use Rattle.widl_names.specs.Listings.{listed_members}
 
 pub returns-then-not-flag_at-clause-second : goal.returns-then-not-flag_at-clause-second
 returns-then-not-flag_at-clause-second c =

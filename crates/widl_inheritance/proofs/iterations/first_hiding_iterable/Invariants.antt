@@ -1,6 +1,6 @@
 use Rattle.std.proofs.Common.{take}
 use Rattle.widl_idl.specs.First.{FirstWhere, Somewhere}
-use Rattle.widl_inheritance.specs.InterfaceMembers.{listed_members}
+use Rattle.widl_names.specs.Listings.{listed_members}
 use Rattle.widl_inheritance.proofs.IterationSteps.{HidesHere}
 use Rattle.widl_inheritance.proofs.iterations.first_hiding_iterable.Given as goal
 

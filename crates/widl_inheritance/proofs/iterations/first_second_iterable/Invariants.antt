@@ -1,5 +1,5 @@
 use Rattle.std.proofs.Common.{take}
-use Rattle.widl_inheritance.specs.InterfaceMembers.{listed_members}
+use Rattle.widl_names.specs.Listings.{listed_members}
 use Rattle.widl_inheritance.proofs.IterationSteps.{Seen}
 use Rattle.widl_inheritance.proofs.iterations.first_second_iterable.Given as goal
 

@@ -13,7 +13,7 @@ pub add_definition-requires : goal.add_definition-requires
 add_definition-requires c =
     let kind = definition_kind_of c.index-definitions-number.result.now.kind in
     subst (λ ds. MeansItself (plain_definitions ds) c.loop-number.number kind) (sym c.in_ok-sources.ensures)
-    (means_itself (plain_definitions c.args.meanings.now) c.loop-number.number kind c.requires
+    (means_itself (plain_definitions c.args.meanings.now) c.loop-number.number kind c.requires.kept
     (kind_there c.all-definitions.result.now c.args.meanings.now c.loop-number.number c.index-definitions-number.result c.loop-number-test.true c.index-definitions-number.is c.all-definitions.ensures))
 
 pub loop-number-preserved : goal.loop-number-preserved

@@ -4,9 +4,10 @@ use Rattle.widl_idl.specs.Parts.{merged_members}
 use Rattle.widl_idl.specs.PlainTrees.{plain_definitions}
 use Rattle.widl_idl.specs.WrittenLiterals.{units_of}
 use Rattle.widl_merge.specs.PlainMain.{plain_namespace}
-use Rattle.widl_merge.specs.PutTogether.{ArePutTogether, listed_members}
+use Rattle.widl_merge.specs.PutTogether.{ArePutTogether}
 use Rattle.widl_merge.proofs.Made.{namespace_made}
 use Rattle.widl_merge.proofs.merged_interfaces.namespace_meant.Goals as goal
+use Rattle.widl_names.specs.Listings.{listed_members}
 
 pub returns-clause-term : goal.returns-clause-term
 returns-clause-term c =

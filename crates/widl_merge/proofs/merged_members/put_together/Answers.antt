@@ -1,9 +1,10 @@
 use Rattle.std.proofs.Common.{[], arith, subst, sym, take}
 use Rattle.std.proofs.lemmas.List.{take_all}
 use Rattle.widl_idl.specs.PlainTrees.{plain_definitions}
-use Rattle.widl_merge.specs.PutTogether.{Gathered, listed_members, number_named}
+use Rattle.widl_merge.specs.PutTogether.{Gathered, number_named}
 use Rattle.widl_merge.proofs.Gathering.{gathered_all, gathered_none, gathered_step}
 use Rattle.widl_merge.proofs.merged_members.put_together.Goals as goal
+use Rattle.widl_names.specs.Listings.{listed_members}
 
 pub loop-member-init : goal.loop-member-init
 loop-member-init c =

@@ -3,7 +3,7 @@ use Rattle.widl_idl.specs.PlainTrees.{PlainDefinition, definition_of}
 use Rattle.widl_idl.proofs.Somewhere.{somewhere_one}
 use Rattle.widl_overload.specs.ArgumentRules.{FollowsEllipsis, FollowsOptional, IsArgumentPastLimit, RepeatsArgument, lists_in_definition}
 use Rattle.widl_overload.specs.DefinitionRules.{AnnotatesNoType, HasMisformed, HasNameless, HasOtherThanOne, HasValueTwice}
-use Rattle.widl_valid.specs.WrittenLists.{listed_arguments}
+use Rattle.widl_inheritance.specs.WrittenLists.{listed_arguments}
 use Rattle.widl_valid.proofs.DefinitionViolations.{in_lists}
 use Rattle.widl_valid.proofs.definition_violations.find_in_definition.Goals as goal
 

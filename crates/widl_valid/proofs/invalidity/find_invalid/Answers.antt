@@ -1,8 +1,9 @@
-use Rattle.std.proofs.Common.{◌≡◌, refl, sym, ap, subst, ◌∙◌}
+use Rattle.std.proofs.Common.{◌≡◌, length, arith, refl, sym, ap, subst, ◌∙◌}
+use Rattle.std.proofs.lemmas.List.{length-map}
 use Rattle.widl_idl.specs.declared.defs.Defs.{Defs}
 use Rattle.widl_idl.specs.Meanings.{definitions_of}
 use Rattle.widl_idl.specs.MergingRules.{parent_links}
-use Rattle.widl_idl.specs.PlainTrees.{plain_definitions}
+use Rattle.widl_idl.specs.PlainTrees.{definition_of, plain_definitions}
 use Rattle.widl_idl.specs.declared.merging_rule.MergingRule.TheVariants as merging
 use Rattle.widl_fits.specs.Hierarchies.{IsHierarchy}
 use Rattle.widl_fits.proofs.MergedHierarchies.{merged_hierarchy}
@@ -16,6 +17,16 @@ use Rattle.widl_names.proofs.NameMeanings.{all_plain}
 use Rattle.widl_idl.proofs.Steps.{no_rules}
 use Rattle.widl_overload.specs.Validity.{BreaksValidity, validity_number}
 use Rattle.widl_valid.proofs.invalidity.find_invalid.Goals as goal
+
+pub of-requires-2 : goal.of-requires-2
+of-requires-2 c =
+    let set = c.args.merged.now in
+    let fragments = c.as_slice-fragments.ensures ∙ c.fragments.ensures.fragments in
+    let there : definitions_of set.fragments ≡ listed_definitions c.as_slice-all.result.now = sym (ap listed_definitions c.as_slice-all.ensures.value ∙ c.in_ok-definitions.ensures ∙ ap definitions_of fragments) in
+    let same = ap length there ∙ length-map c.as_slice-all.result.now (λ d. definition_of d.now) in
+    let meant = ap length c.in_ok-meanings.ensures ∙ length-map c.as_slice-all.result.now (λ d. d.now) in
+    let few = c.fragments.ensures.merged.files.definitions in
+    record { few = omega (arith, same, meant, few) }
 
 pub join_iterables-requires : goal.join_iterables-requires
 join_iterables-requires c =

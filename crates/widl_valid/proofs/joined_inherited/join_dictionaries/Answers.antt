@@ -18,6 +18,9 @@ of-requires c = subst (λ ds. AreWithin (map dict_term ds)) (sym c.as_slice-dict
 pub first_long_chain-requires-clause-hierarchy : goal.first_long_chain-requires-clause-hierarchy
 first_long_chain-requires-clause-hierarchy c = subst (λ ds. IsHierarchy (map dict_term ds)) (sym c.as_slice-dicts.ensures) c.requires.hierarchy
 
+pub first_repeated_member-requires : goal.first_repeated_member-requires
+first_repeated_member-requires c = subst (λ ds. IsHierarchy (map dict_term ds)) (sym c.as_slice-dicts.ensures) c.requires.hierarchy
+
 pub returns : goal.returns
 returns c = λ definitions set list same others earliest.
     let b = BreaksValidity set in

@@ -1,7 +1,7 @@
 use Rattle.std.proofs.Common.{arith, take}
 use Rattle.widl_idl.specs.PlainTrees.{member_of}
 use Rattle.widl_overload.specs.MemberRules.{HasKeptName}
-use Rattle.widl_valid.specs.MemberTables.{listed_members}
+use Rattle.widl_names.specs.Listings.{listed_members}
 use Rattle.widl_valid.proofs.NamedViolations.{kept_first, members_end, members_step, no_members}
 use Rattle.widl_valid.proofs.kept_names.first_kept_name.Goals as goal
 

@@ -1,7 +1,8 @@
 use Rattle.std.proofs.Common.{ℕ, ◌≤◌, Bool, List, take}
-use Rattle.widl_valid.specs.MemberTables.{listed_members, overload_count}
+use Rattle.widl_valid.specs.MemberTables.{overload_count}
 use Rattle.widl_valid.proofs.Counted.{Counted}
 use Rattle.widl_valid.proofs.overload_counts.first_overload_past_limit.Given as goal
+use Rattle.widl_names.specs.Listings.{listed_members}
 
 abbrev pub invariant-loop-member : goal.invariant-loop-member
 invariant-loop-member l =

@@ -1,6 +1,6 @@
 use Rattle.widl_idl.specs.PlainTrees.{plain_definitions}
 use Rattle.widl_overload.specs.MemberRules.{HasOverloadPastLimit, MixesPromises, RepeatsMember, has_members_of_its_own}
-use Rattle.widl_valid.specs.MemberTables.{listed_members}
+use Rattle.widl_names.specs.Listings.{listed_members}
 use Rattle.widl_valid.proofs.OwnerViolations.{asked_first}
 use Rattle.widl_valid.proofs.owners.find_in_members.Goals as goal
 

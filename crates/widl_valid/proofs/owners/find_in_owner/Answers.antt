@@ -3,7 +3,7 @@ use Rattle.std.proofs.lemmas.Result.{IfOk-weaker}
 use Rattle.widl_idl.specs.Parts.{members_in}
 use Rattle.widl_idl.specs.PlainTrees.{definition_kind_of, plain_definitions}
 use Rattle.widl_names.specs.PartTables.{ListsParts, listed_parts}
-use Rattle.widl_valid.specs.MemberTables.{listed_members}
+use Rattle.widl_names.specs.Listings.{listed_members}
 use Rattle.widl_valid.specs.Owners.{AreViolations, InMembers, InOwner}
 use Rattle.widl_valid.proofs.OwnerViolations.{owner_first}
 use Rattle.widl_valid.proofs.owners.find_in_owner.Goals as goal

@@ -1,6 +1,6 @@
 use Rattle.std.proofs.Common.{sym, ◌∙◌}
 use Rattle.widl_overload.specs.MemberRules.{IsSecondStringifier, is_interface_kind}
-use Rattle.widl_valid.specs.MemberTables.{listed_members}
+use Rattle.widl_names.specs.Listings.{listed_members}
 use Rattle.widl_valid.proofs.OwnerViolations.{asked_first}
 use Rattle.widl_valid.proofs.owners.find_stringifier.Goals as goal
 

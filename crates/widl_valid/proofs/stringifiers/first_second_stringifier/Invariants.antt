@@ -1,5 +1,5 @@
 use Rattle.std.proofs.Common.{take}
-use Rattle.widl_valid.specs.MemberTables.{listed_members}
+use Rattle.widl_names.specs.Listings.{listed_members}
 use Rattle.widl_valid.proofs.SecondStringifiers.{Seen}
 use Rattle.widl_valid.proofs.stringifiers.first_second_stringifier.Given as goal
 

@@ -6,7 +6,7 @@ use Rattle.widl_idl.specs.PlainTrees.{plain_definitions}
 use Rattle.widl_names.specs.PartTables.{ListsParts, has_parts, listed_parts}
 use Rattle.widl_names.proofs.KeptMembers.{merged_listed}
 use Rattle.widl_merge.specs.GrownLists.{Means}
-use Rattle.widl_merge.specs.PutTogether.{listed_members}
+use Rattle.widl_names.specs.Listings.{listed_members}
 use Rattle.widl_merge.proofs.sources.Sources.members.Goals as goal
 
 pub returns : goal.returns

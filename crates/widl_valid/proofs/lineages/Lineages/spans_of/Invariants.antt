@@ -1,5 +1,5 @@
 use Rattle.std.proofs.Common.{◌≡◌, take, map, Some}
-use Rattle.widl_valid.specs.Lineages.{span_of}
+use Rattle.widl_inheritance.specs.Spans.{span_of}
 use Rattle.widl_valid.proofs.lineages.Lineages.spans_of.Given as goal
 
 abbrev pub invariant-loop-number : goal.invariant-loop-number

@@ -1,7 +1,0 @@
-use Rattle.std.proofs.Common.{◌≡◌, ◌++◌, take}
-use Rattle.widl_idl.specs.PlainTrees.{members_of}
-use Rattle.widl_merge.specs.PutTogether.{listed_members}
-use Rattle.widl_merge.proofs.sources.add_members.Given as goal
-
-abbrev pub invariant-loop-member : goal.invariant-loop-member
-invariant-loop-member l = listed_members l.list.items ≡ listed_members l.initial.list.items ++ members_of (take l.member-index l.members)
