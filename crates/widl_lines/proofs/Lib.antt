@@ -12,3 +12,4 @@ pub mod Passing
 pub mod Leaving
 pub mod OneBreak
 pub mod WordBytes
+pub mod FewWords

@@ -1,5 +1,5 @@
 -- One line further in a script.
-use Rattle.std.proofs.Common.{◌≡◌, ℕ, ◌<◌, List, [], ◌∷◌, ◌++◌, length, Option, Some, None, refl, sym, ◌∙◌, ap, subst, arith, append_assoc}
+use Rattle.std.proofs.Common.{◌≡◌, ◌≤◌, ℕ, ◌<◌, List, [], ◌∷◌, ◌++◌, length, Option, Some, None, refl, sym, ◌∙◌, ap, subst, arith, append_assoc}
 use Rattle.std.specs.Prelude.{IsUtf8, Result, IfErr}
 use Rattle.std.specs.Result.{IsErrAnd}
 use Rattle.std.proofs.lemmas.Result.{err_from_is_err_and}
@@ -75,8 +75,8 @@ module _ (text : List ℕ) where
   pub all_closed : (state : State) → IsUtf8 text → IsRead text state → state.blocks ≡ [] → ScriptBreak text None
   all_closed state utf8 read none = in_lines utf8 (read.breaks None (subst (λ x. TextBreak state.last x [] None) (sym none) closed))
 
-  pub whole_script : (state : State) → IsUtf8 text → IsRead text state → state.blocks ≡ [] → IsScript state.lines
-  whole_script state utf8 read none = record { text = text; unbroken = all_closed state utf8 read none; lines_are = read.placed_are }
+  pub whole_script : (state : State) → length text ≤ 1048576 → IsUtf8 text → IsRead text state → state.blocks ≡ [] → IsScript state.lines
+  whole_script state short utf8 read none = record { text = text; short = short; unbroken = all_closed state utf8 read none; lines_are = read.placed_are }
 
   pub not_text : (at : ℕ) (place : ScriptPlace) → IsUtf8Fault text at → place ≡ utf8_place text at → ScriptBreak text (Some place)
   not_text at place fault e = subst (λ x. ScriptBreak text (Some x)) (sym e) (not_utf8 at fault)

@@ -1,5 +1,5 @@
 -- The first rule of form that a script breaks, and the lines of a script that breaks none.
-use Rattle.std.specs.Prelude.{◌≡◌, ℕ, ◌+◌, List, [], ◌∷◌, ◌++◌, length, map, get_or, Option, Some, None, IsUtf8}
+use Rattle.std.specs.Prelude.{◌≡◌, ℕ, ◌+◌, ◌≤◌, List, [], ◌∷◌, ◌++◌, length, map, get_or, Option, Some, None, IsUtf8}
 use Rattle.widl_lex.specs.Utf8.{IsUtf8Fault}
 use Rattle.widl_lines.specs.declared.blocks.Block.{Block}
 use Rattle.widl_lines.specs.declared.line_break.LineBreak.{LineBreak}
@@ -66,8 +66,14 @@ abbrev pub placed : List Block → List Line → List PlacedLine
 placed blocks [] = []
 placed blocks (line ∷ lines) = record { inside = innermost blocks; line = line } ∷ placed (blocks_after line.words blocks) lines
 
+-- how many words the lines have, and one more for each line
+abbrev pub words_and_lines : List PlacedLine → ℕ
+words_and_lines [] = 0
+words_and_lines (placed_line ∷ lines) = length placed_line.line.words + 1 + words_and_lines lines
+
 -- the lines of a script without a break
 pub record IsScript (lines : List PlacedLine) : Type 0 where
   pub text : List ℕ
+  pub short : length text ≤ 1048576
   pub unbroken : ScriptBreak text None
   pub lines_are : lines ≡ placed [] (script_lines text)

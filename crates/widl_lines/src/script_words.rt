@@ -73,7 +73,7 @@ fn read_words<'a>(alloc: Global, bytes: &'a [u8]) -> Result<ScriptWords<'a>, Scr
 impl<'a> ScriptWords<'a> {
     ghost use Rattle.std.specs.Prelude.{◌≡◌, ◌≤◌, [], Some, None, length, map, OnOk, IfOk, IfErr, IsOkUnless};
     ghost use Rattle.widl_lines.specs.declared.script_place.ScriptPlace.{ScriptPlace};
-    ghost use Rattle.widl_lines.specs.TextBreaks.{ScriptBreak, IsScript, placed, script_lines};
+    ghost use Rattle.widl_lines.specs.TextBreaks.{ScriptBreak, IsScript, placed, script_lines, words_and_lines};
     ghost use Rattle.widl_lines.specs.LineTerms.{line_of};
     ghost use Rattle.widl_lines.specs.Refusals.{IsRefusal, IsErrWith};
 
@@ -99,6 +99,7 @@ impl<'a> ScriptWords<'a> {
     pub fn lines(&self) -> &[LineWords<'a>]
         ensures lines { map line_of result.now ≡ self.now }
         ensures script { IsScript self.now }
+        ensures few { words_and_lines self.now ≤ 2097154 }
     {
         &self.lines
     }

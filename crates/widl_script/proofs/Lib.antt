@@ -20,6 +20,8 @@ mod UniqueLines
 mod UniqueSteps
 mod UniqueScripts
 pub mod Growing
+pub mod Room
+pub mod LineRoom
 pub mod Parts
 pub mod Built
 pub mod LineForms

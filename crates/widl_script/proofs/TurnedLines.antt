@@ -159,11 +159,11 @@ else_done old new frame other popped row places words to sound begins rest at pu
     go (block.Function head outer) e = none (block.Function head outer) e refl
     go (block.Steps target lines) e = none (block.Steps target lines) e refl
 
-pub else_none : (old new : Builder) (row : Row) (places : List ℕ) (words : List Lexeme) → Sound old → terminal_ahead words ≡ t.Else → IsStatementRow row places old.nodes new.nodes → old.frames.items ≡ [] → new.frames.items ≡ [] → new.places.items ≡ old.places.items → new.names ≡ old.names → IsDone old new words
+pub else_none : (old new : Builder) (row : Row) (places : List ℕ) (words : List Lexeme) → Sound old → terminal_ahead words ≡ t.Else → IsStatementRow row places old.nodes new.nodes → old.frames.items ≡ [] → new.frames.items ≡ [] → new.places.items ≡ [] → new.names ≡ old.names → IsDone old new words
 else_none old new row places words sound begins put was is same names = cant_be old new words
     (record {
       differ = subst Distinct (sym put.names) sound.differ;
-      places = subst (AllStatements new.nodes) (sym same) (statements_up old.nodes new.nodes put.grown old.places.items sound.places);
+      places = subst (AllStatements new.nodes) (sym same) (All-nil _);
       names = subst (All (IsName new.nodes)) (sym names) (names_up old.nodes new.nodes put.grown old.names sound.names);
       frames = subst (All (IsSoundFrame new.nodes)) (sym is) (All-nil _);
     })
@@ -275,13 +275,13 @@ catch_done old new mid frame other popped row number places words one to sound b
     go (block.Function head outer) e = none (block.Function head outer) e refl
     go (block.Steps target lines) e = none (block.Steps target lines) e refl
 
-pub catch_none : (old new : Builder) (mid : Tables) (row : Row) (places : List ℕ) (words : List Lexeme) → Sound old → terminal_ahead words ≡ t.Catch → Widens old.nodes mid → IsStatementRow row places mid new.nodes → old.frames.items ≡ [] → new.frames.items ≡ [] → new.places.items ≡ old.places.items → new.names ≡ old.names → IsDone old new words
+pub catch_none : (old new : Builder) (mid : Tables) (row : Row) (places : List ℕ) (words : List Lexeme) → Sound old → terminal_ahead words ≡ t.Catch → Widens old.nodes mid → IsStatementRow row places mid new.nodes → old.frames.items ≡ [] → new.frames.items ≡ [] → new.places.items ≡ [] → new.names ≡ old.names → IsDone old new words
 catch_none old new mid row places words sound begins w put was is same names =
     let grown : Grown old.nodes new.nodes = grown_then w.grown put.grown in
     cant_be old new words
     (record {
       differ = subst Distinct (sym put.names) (w.differ sound.differ);
-      places = subst (AllStatements new.nodes) (sym same) (statements_up old.nodes new.nodes grown old.places.items sound.places);
+      places = subst (AllStatements new.nodes) (sym same) (All-nil _);
       names = subst (All (IsName new.nodes)) (sym names) (names_up old.nodes new.nodes grown old.names sound.names);
       frames = subst (All (IsSoundFrame new.nodes)) (sym is) (All-nil _);
     })

@@ -26,6 +26,7 @@ pub mod Outcomes
 pub mod SpelledStatements
 pub mod OneTree
 pub mod Reading
+pub mod Room
 pub mod ReadLines
 pub mod StepReading
 pub mod OpenBlocks

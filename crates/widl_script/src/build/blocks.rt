@@ -1,6 +1,6 @@
 //! The lines of a script, one after the other, among the blocks that they leave open.
 
-ghost use Rattle.std.specs.Prelude.{◌≡◌, [], OnOk, IfOk, fold, nat_eq, map, length, All, false, true};
+ghost use Rattle.std.specs.Prelude.{◌≡◌, ◌+◌, ◌≤◌, [], OnOk, IfOk, fold, nat_eq, map, length, All, false, true};
 ghost use Rattle.indexmap.specs.IndexSet.{insert_key};
 ghost use Rattle.widl_lines.specs.declared.grammar.Terminal.TheVariants as terminal;
 ghost use Rattle.widl_lines.specs.WordTerms.{lexeme_of};
@@ -12,6 +12,7 @@ ghost use Rattle.widl_script.specs.Reading.{terminal_ahead};
 ghost use Rattle.widl_script.specs.StatementPuts.{AllStatements};
 ghost use Rattle.widl_script.specs.Building.{IsSoundFrame, LineRead, Sound, is_in_steps, stack_of};
 ghost use Rattle.widl_script.specs.BuilderSteps.{FrameClosed, IsAdded, IsClosed, IsDone, IsFunctionClosed, IsOpened, StepAdded, bound_by, else_tree, steps_tree, then_tree, tried_tree, with_catch, with_else};
+ghost use Rattle.widl_script.specs.Room.{HasLineRoom, PaysLine, entries, weight};
 
 use crate::build::forms::{BlockWord, block_word_of};
 use crate::build::frames::{Builder, Frame, OpenBlock};
@@ -74,7 +75,9 @@ impl Builder {
     fn add(&mut self, statement: Statement) -> Result<(), AllocError>
         requires lower { IsLowerStatement self.old.nodes (length self.old.nodes.statements) statement }
         requires body { IsBodyLower self.old.nodes (length self.old.nodes.statements) statement }
-        ensures { OnOk result (IsAdded statement self.old self.new) }
+        requires room { entries self.old.nodes + 1 ≤ u32.MAX }
+        ensures added { OnOk result (IsAdded statement self.old self.new) }
+        ensures paid { weight self.new ≤ weight self.old + 2 }
     {
         let place = self.nodes.put_statement(statement)?;
         self.places.push(place)?;
@@ -82,8 +85,10 @@ impl Builder {
     }
 
     /// Opens a block that has a list of statements.
+    #[tactic(auto, using(crate::proofs::Room::waiting_push))]
     fn open(&mut self, alloc: Global, block: OpenBlock) -> Result<(), AllocError>
-        ensures { OnOk result (IsOpened block self.old self.new) }
+        ensures opened { OnOk result (IsOpened block self.old self.new) }
+        ensures paid { weight self.new ≤ weight self.old }
     {
         let before = mem::replace(&mut self.places, Vec::new(alloc));
         self.frames.push(Frame { block, before })?;
@@ -118,7 +123,9 @@ impl Builder {
         requires places { AllStatements self.old.nodes self.old.places.items }
         requires body { IsLowerRow (length self.old.nodes.statements) body }
         requires name { IsName self.old.nodes name }
-        ensures { OnOk result (IsClosed (tried_tree body name self.old.places.items) before.items self.old self.new) }
+        requires room { weight self.old + length before.items + 2 ≤ u32.MAX }
+        ensures closed { OnOk result (IsClosed (tried_tree body name self.old.places.items) before.items self.old self.new) }
+        ensures paid { weight self.new ≤ weight self.old + length before.items + 2 }
     {
         let handler = self.nodes.put_statements(&self.places)?;
         self.places = before;
@@ -134,7 +141,9 @@ impl Builder {
         requires places { AllStatements self.old.nodes self.old.places.items }
         requires left { IsExpression self.old.nodes left }
         requires right { IsExpression self.old.nodes right }
-        ensures { OnOk result (IsClosed (then_tree left right self.old.places.items) before.items self.old self.new) }
+        requires room { weight self.old + length before.items + 2 ≤ u32.MAX }
+        ensures closed { OnOk result (IsClosed (then_tree left right self.old.places.items) before.items self.old self.new) }
+        ensures paid { weight self.new ≤ weight self.old + length before.items + 2 }
     {
         let then = self.nodes.put_statements(&self.places)?;
         self.places = before;
@@ -158,7 +167,9 @@ impl Builder {
         requires left { IsExpression self.old.nodes left }
         requires right { IsExpression self.old.nodes right }
         requires met { IsLowerRow (length self.old.nodes.statements) then }
-        ensures { OnOk result (IsClosed (else_tree left right then self.old.places.items) before.items self.old self.new) }
+        requires room { weight self.old + length before.items + 2 ≤ u32.MAX }
+        ensures closed { OnOk result (IsClosed (else_tree left right then self.old.places.items) before.items self.old self.new) }
+        ensures paid { weight self.new ≤ weight self.old + length before.items + 2 }
     {
         let otherwise = self.nodes.put_statements(&self.places)?;
         self.places = before;
@@ -181,7 +192,9 @@ impl Builder {
         requires name { IsName self.old.nodes head.name }
         requires params { All (IsName self.old.nodes) head.params }
         requires names { All (IsName self.old.nodes) self.old.names }
-        ensures { OnOk result (IsFunctionClosed head outer before.items self.old self.new) }
+        requires room { weight self.old + length before.items + 3 ≤ u32.MAX }
+        ensures closed { OnOk result (IsFunctionClosed head outer before.items self.old self.new) }
+        ensures paid { weight self.new ≤ weight self.old + length before.items + 3 }
     {
         let body = self.nodes.put_statements(&self.places)?;
         self.places = before;
@@ -199,7 +212,9 @@ impl Builder {
 
     /// The end of a steps block.
     fn end_steps(&mut self, target: Target, lines: StepLines) -> Result<(), AllocError>
-        ensures { OnOk result (IsClosed (steps_tree target lines) self.old.places.items self.old self.new) }
+        requires room { weight self.old + 3 ≤ u32.MAX }
+        ensures closed { OnOk result (IsClosed (steps_tree target lines) self.old.places.items self.old self.new) }
+        ensures paid { weight self.new ≤ weight self.old + 3 }
     {
         let number = self.nodes.put_steps(StepsBlock { target, lines })?;
         self.add(Statement::Steps(number))
@@ -210,7 +225,9 @@ impl Builder {
         requires sound { Sound self.old }
         requires outside { is_in_steps (stack_of self.old) ≡ false }
         requires other { is_block_word (terminal_ahead reader.old) ≡ false }
-        ensures { OnOk result (IsDone self.old self.new reader.old) }
+        requires room { HasLineRoom self.old reader.old }
+        ensures done { OnOk result (IsDone self.old self.new reader.old) }
+        ensures paid { PaysLine self.old self.new reader.old }
     {
         let statement = reader.statement_line(&mut self.nodes)?;
         self.bind(statement)?;
@@ -221,7 +238,9 @@ impl Builder {
     fn try_line(&mut self, alloc: Global, reader: &mut Reader<'_, '_>) -> Result<(), AllocError>
         requires sound { Sound self.old }
         requires begins { terminal_ahead reader.old ≡ terminal.Try }
-        ensures { OnOk result (IsDone self.old self.new reader.old) }
+        requires room { HasLineRoom self.old reader.old }
+        ensures done { OnOk result (IsDone self.old self.new reader.old) }
+        ensures paid { PaysLine self.old self.new reader.old }
     {
         reader.take();
         self.open(alloc, OpenBlock::Try)
@@ -231,7 +250,9 @@ impl Builder {
     fn if_line(&mut self, alloc: Global, reader: &mut Reader<'_, '_>) -> Result<(), AllocError>
         requires sound { Sound self.old }
         requires begins { terminal_ahead reader.old ≡ terminal.If }
-        ensures { OnOk result (IsDone self.old self.new reader.old) }
+        requires room { HasLineRoom self.old reader.old }
+        ensures done { OnOk result (IsDone self.old self.new reader.old) }
+        ensures paid { PaysLine self.old self.new reader.old }
     {
         reader.take();
         let (left, right) = reader.if_head(&mut self.nodes)?;
@@ -246,7 +267,9 @@ impl Builder {
     ) -> Result<(), AllocError>
         requires sound { Sound self.old }
         requires begins { terminal_ahead reader.old ≡ terminal.Function }
-        ensures { OnOk result (IsDone self.old self.new reader.old) }
+        requires room { HasLineRoom self.old reader.old }
+        ensures done { OnOk result (IsDone self.old self.new reader.old) }
+        ensures paid { PaysLine self.old self.new reader.old }
     {
         reader.take();
         let head = reader.function_head(&mut self.nodes)?;
@@ -256,10 +279,13 @@ impl Builder {
     }
 
     /// `steps` with its target.
+    #[tactic(auto, using(crate::proofs::Room::waiting_push))]
     fn steps_line(&mut self, alloc: Global, reader: &mut Reader<'_, '_>) -> Result<(), AllocError>
         requires sound { Sound self.old }
         requires begins { terminal_ahead reader.old ≡ terminal.Steps }
-        ensures { OnOk result (IsDone self.old self.new reader.old) }
+        requires room { HasLineRoom self.old reader.old }
+        ensures done { OnOk result (IsDone self.old self.new reader.old) }
+        ensures paid { PaysLine self.old self.new reader.old }
     {
         reader.take();
         let target = reader.target()?;
@@ -274,18 +300,21 @@ impl Builder {
     }
 
     /// `catch` with a name.
+    #[tactic(auto, using(crate::proofs::Room::waiting_push))]
     fn catch_line(&mut self, alloc: Global, reader: &mut Reader<'_, '_>) -> Result<(), AllocError>
         requires sound { Sound self.old }
         requires begins { terminal_ahead reader.old ≡ terminal.Catch }
-        ensures { OnOk result (IsDone self.old self.new reader.old) }
+        requires room { HasLineRoom self.old reader.old }
+        ensures done { OnOk result (IsDone self.old self.new reader.old) }
+        ensures paid { PaysLine self.old self.new reader.old }
     {
         reader.take();
         let name = reader.name_number(&mut self.nodes)?;
         let body = self.nodes.put_statements(&self.places)?;
+        self.places = Vec::new(alloc);
         match self.frames.pop() {
             Some(frame) => {
                 self.names.put(name)?;
-                self.places = Vec::new(alloc);
                 self.frames.push(Frame {
                     block: with_catch(frame.block, body, name),
                     before: frame.before,
@@ -297,16 +326,19 @@ impl Builder {
     }
 
     /// `else`.
+    #[tactic(auto, using(crate::proofs::Room::waiting_push))]
     fn else_line(&mut self, alloc: Global, reader: &mut Reader<'_, '_>) -> Result<(), AllocError>
         requires sound { Sound self.old }
         requires begins { terminal_ahead reader.old ≡ terminal.Else }
-        ensures { OnOk result (IsDone self.old self.new reader.old) }
+        requires room { HasLineRoom self.old reader.old }
+        ensures done { OnOk result (IsDone self.old self.new reader.old) }
+        ensures paid { PaysLine self.old self.new reader.old }
     {
         reader.take();
         let then = self.nodes.put_statements(&self.places)?;
+        self.places = Vec::new(alloc);
         match self.frames.pop() {
             Some(frame) => {
-                self.places = Vec::new(alloc);
                 self.frames.push(Frame {
                     block: with_else(frame.block, then),
                     before: frame.before,
@@ -318,11 +350,14 @@ impl Builder {
     }
 
     /// A line of the innermost steps block.
+    #[tactic(auto, using(crate::proofs::Room::waiting_push))]
     fn step_line(&mut self, reader: &mut Reader<'_, '_>) -> Result<(), AllocError>
         requires sound { Sound self.old }
         requires inside { is_in_steps (stack_of self.old) ≡ true }
         requires other { is_block_word (terminal_ahead reader.old) ≡ false }
-        ensures { OnOk result (IsDone self.old self.new reader.old) }
+        requires room { HasLineRoom self.old reader.old }
+        ensures done { OnOk result (IsDone self.old self.new reader.old) }
+        ensures paid { PaysLine self.old self.new reader.old }
     {
         let step = reader.step_line()?;
         match self.frames.pop() {
@@ -341,7 +376,9 @@ impl Builder {
     fn close(&mut self, frame: Frame) -> Result<(), AllocError>
         requires sound { Sound self.old }
         requires frame { IsSoundFrame self.old.nodes frame }
-        ensures { OnOk result (FrameClosed frame self.old self.new) }
+        requires room { weight self.old + length frame.before.items + 3 ≤ u32.MAX }
+        ensures closed { OnOk result (FrameClosed frame self.old self.new) }
+        ensures paid { weight self.new ≤ weight self.old + length frame.before.items + 3 }
     {
         let Frame { block, before } = frame;
         match block {
@@ -358,10 +395,13 @@ impl Builder {
     }
 
     /// `end`.
+    #[tactic(auto, using(crate::proofs::Room::waiting_push))]
     fn end_line(&mut self, reader: &mut Reader<'_, '_>) -> Result<(), AllocError>
         requires sound { Sound self.old }
         requires begins { terminal_ahead reader.old ≡ terminal.End }
-        ensures { OnOk result (IsDone self.old self.new reader.old) }
+        requires room { HasLineRoom self.old reader.old }
+        ensures done { OnOk result (IsDone self.old self.new reader.old) }
+        ensures paid { PaysLine self.old self.new reader.old }
     {
         reader.take();
         match self.frames.pop() {
@@ -379,7 +419,9 @@ impl Builder {
     ) -> Result<(), AllocError>
         requires sound { Sound self.old }
         requires begins { terminal_ahead reader.old ≡ block_terminal word }
-        ensures { OnOk result (IsDone self.old self.new reader.old) }
+        requires room { HasLineRoom self.old reader.old }
+        ensures done { OnOk result (IsDone self.old self.new reader.old) }
+        ensures paid { PaysLine self.old self.new reader.old }
     {
         match word {
             BlockWord::Try => self.try_line(alloc, reader),
@@ -403,9 +445,11 @@ impl Builder {
         line: &LineWords<'_>,
     ) -> Result<(), AllocError>
         requires sound { Sound self.old }
+        requires room { HasLineRoom self.old (map lexeme_of line.now.words.items) }
         ensures sound { OnOk result (Sound self.new) }
         ensures grown { OnOk result (Grown self.old.nodes self.new.nodes) }
         ensures read { OnOk result (LineRead self.old self.new (map lexeme_of line.now.words.items)) }
+        ensures paid { PaysLine self.old self.new (map lexeme_of line.now.words.items) }
     {
         let mut reader = Reader::new(alloc, &line.words);
         match block_word_of(reader.ahead()) {

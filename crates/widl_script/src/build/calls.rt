@@ -6,6 +6,7 @@ ghost use Rattle.widl_lines.specs.declared.grammar.Terminal.TheVariants as termi
 ghost use Rattle.widl_script.specs.declared.build.forms.Link.TheVariants as link;
 ghost use Rattle.widl_script.specs.SpelledExpressions.{list_signs, more_signs};
 ghost use Rattle.widl_script.specs.Reading.{Widens, part, token, terminal_ahead, Holds, Continues, link_part, Lists, HoldsRow};
+ghost use Rattle.widl_script.specs.Room.{HasRoom, Pays, Saves};
 
 use crate::build::nodes::Nodes;
 use crate::build::reader::Reader;
@@ -19,9 +20,11 @@ impl<'w, 's> Reader<'w, 's> {
     pub(crate) fn call(&mut self, nodes: &mut Nodes, callee: u32) -> Result<u32, AllocError>
         requires begins { terminal_ahead self.old ≡ terminal.OpenParen }
         requires within { callee < length nodes.old.expressions }
+        requires room { HasRoom 0 nodes.old self.old }
         ensures grown { OnOk result (Widens nodes.old nodes.new) }
         ensures tree { IfOk result (λ place. Continues (link_part link.Paren) nodes.new callee place self.old self.new) }
         ensures shorter { OnOk result (length self.new < length self.old) }
+        ensures paid { Pays 0 nodes.old self.old nodes.new self.new }
     {
         self.take();
         let args = self.list(nodes)?;
@@ -31,9 +34,11 @@ impl<'w, 's> Reader<'w, 's> {
     /// A list, and what closes it.
     #[cycle(expression)]
     fn list(&mut self, nodes: &mut Nodes) -> Result<Row, AllocError>
+        requires room { HasRoom 3 nodes.old self.old }
         ensures grown { OnOk result (Widens nodes.old nodes.new) }
         ensures row { IfOk result (λ row. HoldsRow (part rule.ExpressionList ++ token terminal.CloseParen) list_signs nodes.new row self.old self.new) }
         ensures shorter { OnOk result (length self.new ≤ length self.old) }
+        ensures paid { Pays 3 nodes.old self.old nodes.new self.new }
     {
         let places = self.items(nodes)?;
         self.take();
@@ -43,9 +48,12 @@ impl<'w, 's> Reader<'w, 's> {
     /// The items of a list.
     #[cycle(expression)]
     fn items(&mut self, nodes: &mut Nodes) -> Result<Vec<u32>, AllocError>
+        requires room { HasRoom 3 nodes.old self.old }
         ensures grown { OnOk result (Widens nodes.old nodes.new) }
         ensures lists { IfOk result (λ places. Lists (part rule.ExpressionList) [] list_signs nodes.new [] places.items self.old self.new) }
         ensures shorter { OnOk result (length self.new ≤ length self.old) }
+        ensures paid { Pays 3 nodes.old self.old nodes.new self.new }
+        ensures saved { IfOk result (λ places. Saves (length places.items) 3 nodes.old self.old nodes.new self.new) }
     {
         let mut places = Vec::new(self.alloc());
         if self.is_ahead(Terminal::CloseParen) {
@@ -60,9 +68,11 @@ impl<'w, 's> Reader<'w, 's> {
     /// Further items, with a comma before each, and what closes them.
     #[cycle(expression)]
     fn more_list(&mut self, nodes: &mut Nodes) -> Result<Row, AllocError>
+        requires room { HasRoom 0 nodes.old self.old }
         ensures grown { OnOk result (Widens nodes.old nodes.new) }
         ensures row { IfOk result (λ row. HoldsRow (part rule.MoreExpressions ++ token terminal.CloseParen) more_signs nodes.new row self.old self.new) }
         ensures shorter { OnOk result (length self.new ≤ length self.old) }
+        ensures paid { Pays 0 nodes.old self.old nodes.new self.new }
     {
         let mut places = Vec::new(self.alloc());
         self.more_items(nodes, &mut places)?;
@@ -73,9 +83,11 @@ impl<'w, 's> Reader<'w, 's> {
     /// Further items, with a comma before each.
     #[cycle(expression)]
     fn more_items(&mut self, nodes: &mut Nodes, places: &mut Vec<u32>) -> Result<(), AllocError>
+        requires room { HasRoom (length places.old.items) nodes.old self.old }
         ensures grown { OnOk result (Widens nodes.old nodes.new) }
         ensures lists { OnOk result (Lists (part rule.MoreExpressions) [] more_signs nodes.new places.old.items places.new.items self.old self.new) }
         ensures shorter { OnOk result (length self.new ≤ length self.old) }
+        ensures paid { Saves (length places.new.items) (length places.old.items) nodes.old self.old nodes.new self.new }
     {
         'items: while self.is_ahead(Terminal::Comma) {
             self.take();
@@ -89,9 +101,11 @@ impl<'w, 's> Reader<'w, 's> {
     #[cycle(expression)]
     pub(crate) fn new_object(&mut self, nodes: &mut Nodes) -> Result<u32, AllocError>
         requires begins { terminal_ahead self.old ≡ terminal.Object }
+        requires room { HasRoom 2 nodes.old self.old }
         ensures grown { OnOk result (Widens nodes.old nodes.new) }
         ensures tree { IfOk result (λ place. Holds (part rule.Primary) [] nodes.new place self.old self.new) }
         ensures shorter { OnOk result (length self.new ≤ length self.old) }
+        ensures paid { Pays 2 nodes.old self.old nodes.new self.new }
     {
         self.take();
         self.take();
@@ -108,9 +122,11 @@ impl<'w, 's> Reader<'w, 's> {
     #[cycle(expression)]
     pub(crate) fn new_array(&mut self, nodes: &mut Nodes) -> Result<u32, AllocError>
         requires begins { terminal_ahead self.old ≡ terminal.Array }
+        requires room { HasRoom 2 nodes.old self.old }
         ensures grown { OnOk result (Widens nodes.old nodes.new) }
         ensures tree { IfOk result (λ place. Holds (part rule.Primary) [] nodes.new place self.old self.new) }
         ensures shorter { OnOk result (length self.new ≤ length self.old) }
+        ensures paid { Pays 2 nodes.old self.old nodes.new self.new }
     {
         self.take();
         self.take();
@@ -122,9 +138,11 @@ impl<'w, 's> Reader<'w, 's> {
     #[cycle(expression)]
     pub(crate) fn call_with(&mut self, nodes: &mut Nodes) -> Result<u32, AllocError>
         requires begins { terminal_ahead self.old ≡ terminal.Call }
+        requires room { HasRoom 2 nodes.old self.old }
         ensures grown { OnOk result (Widens nodes.old nodes.new) }
         ensures tree { IfOk result (λ place. Holds (part rule.Primary) [] nodes.new place self.old self.new) }
         ensures shorter { OnOk result (length self.new ≤ length self.old) }
+        ensures paid { Pays 2 nodes.old self.old nodes.new self.new }
     {
         self.take();
         self.take();
@@ -139,9 +157,11 @@ impl<'w, 's> Reader<'w, 's> {
     #[cycle(expression)]
     pub(crate) fn new_of(&mut self, nodes: &mut Nodes) -> Result<u32, AllocError>
         requires begins { terminal_ahead self.old ≡ terminal.New }
+        requires room { HasRoom 2 nodes.old self.old }
         ensures grown { OnOk result (Widens nodes.old nodes.new) }
         ensures tree { IfOk result (λ place. Holds (part rule.Primary) [] nodes.new place self.old self.new) }
         ensures shorter { OnOk result (length self.new ≤ length self.old) }
+        ensures paid { Pays 2 nodes.old self.old nodes.new self.new }
     {
         self.take();
         self.take();

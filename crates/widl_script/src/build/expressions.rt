@@ -5,6 +5,7 @@ ghost use Rattle.widl_lines.specs.declared.grammar.Rule.TheVariants as rule;
 ghost use Rattle.widl_lines.specs.declared.grammar.Terminal.TheVariants as terminal;
 ghost use Rattle.widl_script.specs.declared.build.forms.Form.TheVariants as form;
 ghost use Rattle.widl_script.specs.Reading.{Widens, part, terminal_ahead, Holds, IsNameAhead, Begins, is_leaf, is_formed};
+ghost use Rattle.widl_script.specs.Room.{HasRoom, Pays};
 
 use crate::build::constants::{number_of, text_of};
 use crate::build::forms::{Form, form_of, leaf_of, link_of};
@@ -17,8 +18,10 @@ use widl_text::Units;
 impl<'w, 's> Reader<'w, 's> {
     /// The number of the name ahead.
     pub(crate) fn name_number(&mut self, nodes: &mut Nodes) -> Result<u32, AllocError>
+        requires room { HasRoom 1 nodes.old self.old }
         ensures grown { OnOk result (Widens nodes.old nodes.new) }
         ensures name { IfOk result (λ number. IsNameAhead nodes.old nodes.new number self.old self.new) }
+        ensures paid { Pays 1 nodes.old self.old nodes.new self.new }
     {
         let text = Units::of_bytes(self.alloc(), self.text())?;
         self.take();
@@ -29,9 +32,11 @@ impl<'w, 's> Reader<'w, 's> {
     fn named(&mut self, nodes: &mut Nodes) -> Result<u32, AllocError>
         requires leaf { is_leaf (terminal_ahead self.old) ≡ false }
         requires formed { is_formed (terminal_ahead self.old) ≡ false }
+        requires room { HasRoom 2 nodes.old self.old }
         ensures grown { OnOk result (Widens nodes.old nodes.new) }
         ensures tree { IfOk result (λ place. Holds (part rule.Primary) [] nodes.new place self.old self.new) }
         ensures shorter { OnOk result (length self.new ≤ length self.old) }
+        ensures paid { Pays 2 nodes.old self.old nodes.new self.new }
     {
         let number = self.name_number(nodes)?;
         nodes.put(Expression::Name(number))
@@ -40,9 +45,11 @@ impl<'w, 's> Reader<'w, 's> {
     /// An integer.
     fn integer(&mut self, nodes: &mut Nodes) -> Result<u32, AllocError>
         requires begins { Begins form.Integer (terminal_ahead self.old) }
+        requires room { HasRoom 1 nodes.old self.old }
         ensures grown { OnOk result (Widens nodes.old nodes.new) }
         ensures tree { IfOk result (λ place. Holds (part rule.Primary) [] nodes.new place self.old self.new) }
         ensures shorter { OnOk result (length self.new ≤ length self.old) }
+        ensures paid { Pays 1 nodes.old self.old nodes.new self.new }
     {
         let number = number_of(self.text());
         self.take();
@@ -52,9 +59,11 @@ impl<'w, 's> Reader<'w, 's> {
     /// A text.
     fn text_literal(&mut self, nodes: &mut Nodes) -> Result<u32, AllocError>
         requires begins { terminal_ahead self.old ≡ terminal.Text }
+        requires room { HasRoom 1 nodes.old self.old }
         ensures grown { OnOk result (Widens nodes.old nodes.new) }
         ensures tree { IfOk result (λ place. Holds (part rule.Primary) [] nodes.new place self.old self.new) }
         ensures shorter { OnOk result (length self.new ≤ length self.old) }
+        ensures paid { Pays 1 nodes.old self.old nodes.new self.new }
     {
         let text = text_of(self.alloc(), self.form(), self.text())?;
         self.take();
@@ -64,9 +73,11 @@ impl<'w, 's> Reader<'w, 's> {
     /// `symbol()`.
     fn new_symbol(&mut self, nodes: &mut Nodes) -> Result<u32, AllocError>
         requires begins { terminal_ahead self.old ≡ terminal.Symbol }
+        requires room { HasRoom 1 nodes.old self.old }
         ensures grown { OnOk result (Widens nodes.old nodes.new) }
         ensures tree { IfOk result (λ place. Holds (part rule.Primary) [] nodes.new place self.old self.new) }
         ensures shorter { OnOk result (length self.new ≤ length self.old) }
+        ensures paid { Pays 1 nodes.old self.old nodes.new self.new }
     {
         self.take();
         self.take();
@@ -77,9 +88,11 @@ impl<'w, 's> Reader<'w, 's> {
     /// An expression without the members and calls behind it.
     #[cycle(expression)]
     pub(crate) fn primary(&mut self, nodes: &mut Nodes) -> Result<u32, AllocError>
+        requires room { HasRoom 2 nodes.old self.old }
         ensures grown { OnOk result (Widens nodes.old nodes.new) }
         ensures tree { IfOk result (λ place. Holds (part rule.Primary) [] nodes.new place self.old self.new) }
         ensures shorter { OnOk result (length self.new ≤ length self.old) }
+        ensures paid { Pays 2 nodes.old self.old nodes.new self.new }
     {
         let ahead = self.ahead();
         if let Some(node) = leaf_of(ahead) {
@@ -101,9 +114,11 @@ impl<'w, 's> Reader<'w, 's> {
     /// An expression.
     #[cycle(expression)]
     pub(crate) fn expression(&mut self, nodes: &mut Nodes) -> Result<u32, AllocError>
+        requires room { HasRoom 2 nodes.old self.old }
         ensures grown { OnOk result (Widens nodes.old nodes.new) }
         ensures tree { IfOk result (λ place. Holds (part rule.Expression) [] nodes.new place self.old self.new) }
         ensures shorter { OnOk result (length self.new ≤ length self.old) }
+        ensures paid { Pays 2 nodes.old self.old nodes.new self.new }
     {
         let mut place = self.primary(nodes)?;
         'links: while let Some(link) = link_of(self.ahead()) {

@@ -1,12 +1,13 @@
 //! The tables while they are made.
 
-ghost use Rattle.std.specs.Prelude.{◌≡◌, ◌<◌, All, length, IfOk, OnOk, MatchOption, [], false};
+ghost use Rattle.std.specs.Prelude.{◌≡◌, ◌+◌, ◌<◌, ◌≤◌, All, length, IfOk, OnOk, OnErr, MatchOption, [], false};
 ghost use Rattle.widl_script_tree.specs.declared.expression.Expression.TheVariants as node;
 ghost use Rattle.widl_script_tree.specs.Parts.{IsBodyLower, IsFunction, IsLower, IsLowerStatement};
 ghost use Rattle.widl_script_tree.specs.Puts.{no_tables};
 ghost use Rattle.widl_script_tree.specs.Tables.{expression_at};
 ghost use Rattle.widl_script.specs.StatementPuts.{AllStatements, IsBlockPut, IsFunctionPut, IsStatementPut, IsStatementRow};
 ghost use Rattle.widl_script.specs.Reading.{Widens, is_member, IsPut, IsNamed, IsRow};
+ghost use Rattle.widl_script.specs.Room.{entries};
 
 use std::alloc::{AllocError, Global};
 use std::marker::Model;
@@ -40,34 +41,31 @@ impl Nodes {
     /// Puts an expression, and answers its place.
     #[inline(always)]
     pub(crate) fn put(&mut self, node: Expression) -> Result<u32, AllocError>
-        requires { IsLower self.old (length self.old.expressions) node }
-        ensures { IfOk result (λ place. IsPut node place self.old self.new) }
+        requires lower { IsLower self.old (length self.old.expressions) node }
+        requires room { entries self.old + 1 ≤ u32.MAX }
+        ensures put { IfOk result (λ place. IsPut node place self.old self.new) }
+        ensures one { entries self.new ≤ entries self.old + 1 }
     {
-        if self.tables.expression_count() == u32::MAX {
-            return Err(AllocError);
-        }
         self.tables.put_expression(node)
     }
 
     /// Puts a row of the expressions at these places.
     pub(crate) fn put_row(&mut self, places: &[u32]) -> Result<Row, AllocError>
-        requires { All (λ place. place < length self.old.expressions) places.now }
+        requires lower { All (λ place. place < length self.old.expressions) places.now }
+        requires room { entries self.old + length places.now ≤ u32.MAX }
         ensures grown { OnOk result (Widens self.old self.new) }
         ensures row { IfOk result (λ row. IsRow self.new row places.now) }
+        ensures each { entries self.new ≤ entries self.old + length places.now }
     {
-        if places.len() > (u32::MAX - self.tables.expression_count()) as usize {
-            return Err(AllocError);
-        }
         self.tables.put_row(places)
     }
 
     /// The number of a name.
     pub(crate) fn name(&mut self, text: Units) -> Result<u32, AllocError>
-        ensures { IfOk result (λ number. IsNamed text number self.old self.new) }
+        requires room { entries self.old + 1 ≤ u32.MAX }
+        ensures named { IfOk result (λ number. IsNamed text number self.old self.new) }
+        ensures one { entries self.new ≤ entries self.old + 1 }
     {
-        if self.tables.name_count() == u32::MAX {
-            return Err(AllocError);
-        }
         self.tables.put_name(text)
     }
 
@@ -85,43 +83,40 @@ impl Nodes {
     pub(crate) fn put_statement(&mut self, node: Statement) -> Result<u32, AllocError>
         requires lower { IsLowerStatement self.old (length self.old.statements) node }
         requires body { IsBodyLower self.old (length self.old.statements) node }
-        ensures { IfOk result (λ place. IsStatementPut node place self.old self.new) }
+        requires room { entries self.old + 1 ≤ u32.MAX }
+        ensures put { IfOk result (λ place. IsStatementPut node place self.old self.new) }
+        ensures one { entries self.new ≤ entries self.old + 1 }
     {
-        if self.tables.statement_count() == u32::MAX {
-            return Err(AllocError);
-        }
         self.tables.put_statement(node)
     }
 
     /// Puts a row of the statements at these places.
     pub(crate) fn put_statements(&mut self, places: &[u32]) -> Result<Row, AllocError>
         requires lower { AllStatements self.old places.now }
-        ensures { IfOk result (λ row. IsStatementRow row places.now self.old self.new) }
+        requires room { entries self.old + length places.now ≤ u32.MAX }
+        ensures row { IfOk result (λ row. IsStatementRow row places.now self.old self.new) }
+        ensures each { OnOk result (entries self.new ≤ entries self.old + length places.now) }
+        ensures none { OnErr result (entries self.new ≤ entries self.old) }
     {
-        if places.len() > (u32::MAX - self.tables.statement_count()) as usize {
-            return Err(AllocError);
-        }
         self.tables.put_statement_row(places)
     }
 
     /// Puts a function, and answers its number.
     pub(crate) fn put_function(&mut self, function: Function) -> Result<u32, AllocError>
         requires parts { IsFunction self.old function }
-        ensures { IfOk result (λ number. IsFunctionPut function number self.old self.new) }
+        requires room { entries self.old + 1 ≤ u32.MAX }
+        ensures put { IfOk result (λ number. IsFunctionPut function number self.old self.new) }
+        ensures one { entries self.new ≤ entries self.old + 1 }
     {
-        if self.tables.function_count() == u32::MAX {
-            return Err(AllocError);
-        }
         self.tables.put_function(function)
     }
 
     /// Puts a steps block, and answers its number.
     pub(crate) fn put_steps(&mut self, block: StepsBlock) -> Result<u32, AllocError>
-        ensures { IfOk result (λ number. IsBlockPut block number self.old self.new) }
+        requires room { entries self.old + 1 ≤ u32.MAX }
+        ensures put { IfOk result (λ number. IsBlockPut block number self.old self.new) }
+        ensures one { entries self.new ≤ entries self.old + 1 }
     {
-        if self.tables.steps_count() == u32::MAX {
-            return Err(AllocError);
-        }
         self.tables.put_steps(block)
     }
 }

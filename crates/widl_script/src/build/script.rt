@@ -1,6 +1,6 @@
 //! The tables of a whole script.
 
-ghost use Rattle.std.specs.Prelude.{IfOk, List, length, ℕ};
+ghost use Rattle.std.specs.Prelude.{◌≤◌, IfOk, List, length, ℕ};
 ghost use Rattle.widl_idl.specs.declared.callee.Owner.{Owner};
 ghost use Rattle.widl_lines.specs.LineTerms.{line_of};
 ghost use Rattle.widl_script_tree.specs.Parts.{IsLowerRow};
@@ -8,6 +8,7 @@ ghost use Rattle.widl_script_tree.specs.Puts.{finished};
 ghost use Rattle.widl_script_tree.specs.Tables.{CalleeOverload, script_tree};
 ghost use Rattle.widl_script.specs.Building.{Sound};
 ghost use Rattle.widl_script.specs.ReadScript.{EndsAs, ReadTo};
+ghost use Rattle.widl_script.specs.Room.{weight};
 ghost use Rattle.widl_script.specs.SpelledStatements.{IsTreeOf, words_of};
 
 use crate::build::frames::Builder;
@@ -28,7 +29,8 @@ pub struct Built {
 
 /// The builder's tables with the statements outside functions.
 fn finish(builder: Builder) -> Result<Built, AllocError>
-    requires { Sound builder }
+    requires sound { Sound builder }
+    requires room { weight builder ≤ u32.MAX }
     ensures { IfOk result (λ built. EndsAs builder built.tables built.top) }
 {
     let mut builder = builder;

@@ -5,6 +5,7 @@ ghost use Rattle.widl_lines.specs.declared.grammar.Terminal.TheVariants as termi
 ghost use Rattle.widl_script.specs.Reading.{Widens, terminal_ahead};
 ghost use Rattle.widl_script.specs.StepReading.{is_block_word};
 ghost use Rattle.widl_script.specs.ReadLines.{any_member, is_head, HoldsLine, HoldsAssigned, HoldsAccessor, HoldsIf};
+ghost use Rattle.widl_script.specs.Room.{HasRoom, Pays};
 
 use crate::build::forms::{Head, head_of};
 use crate::build::nodes::Nodes;
@@ -30,8 +31,10 @@ impl<'w, 's> Reader<'w, 's> {
     /// `let` with a name and a value.
     fn let_line(&mut self, nodes: &mut Nodes) -> Result<Statement, AllocError>
         requires begins { terminal_ahead self.old ≡ terminal.Let }
+        requires room { HasRoom 2 nodes.old self.old }
         ensures grown { OnOk result (Widens nodes.old nodes.new) }
         ensures tree { IfOk result (λ statement. HoldsLine nodes.new statement self.old self.new) }
+        ensures paid { Pays 2 nodes.old self.old nodes.new self.new }
     {
         self.take();
         let name = self.name_number(nodes)?;
@@ -43,8 +46,10 @@ impl<'w, 's> Reader<'w, 's> {
     /// `do` with an expression.
     fn do_line(&mut self, nodes: &mut Nodes) -> Result<Statement, AllocError>
         requires begins { terminal_ahead self.old ≡ terminal.Do }
+        requires room { HasRoom 2 nodes.old self.old }
         ensures grown { OnOk result (Widens nodes.old nodes.new) }
         ensures tree { IfOk result (λ statement. HoldsLine nodes.new statement self.old self.new) }
+        ensures paid { Pays 2 nodes.old self.old nodes.new self.new }
     {
         self.take();
         Ok(Statement::Do(self.expression(nodes)?))
@@ -53,8 +58,10 @@ impl<'w, 's> Reader<'w, 's> {
     /// `return` with an expression.
     fn return_line(&mut self, nodes: &mut Nodes) -> Result<Statement, AllocError>
         requires begins { terminal_ahead self.old ≡ terminal.Return }
+        requires room { HasRoom 2 nodes.old self.old }
         ensures grown { OnOk result (Widens nodes.old nodes.new) }
         ensures tree { IfOk result (λ statement. HoldsLine nodes.new statement self.old self.new) }
+        ensures paid { Pays 2 nodes.old self.old nodes.new self.new }
     {
         self.take();
         Ok(Statement::Return(self.expression(nodes)?))
@@ -63,8 +70,10 @@ impl<'w, 's> Reader<'w, 's> {
     /// `throw` with an expression.
     fn throw_line(&mut self, nodes: &mut Nodes) -> Result<Statement, AllocError>
         requires begins { terminal_ahead self.old ≡ terminal.Throw }
+        requires room { HasRoom 2 nodes.old self.old }
         ensures grown { OnOk result (Widens nodes.old nodes.new) }
         ensures tree { IfOk result (λ statement. HoldsLine nodes.new statement self.old self.new) }
+        ensures paid { Pays 2 nodes.old self.old nodes.new self.new }
     {
         self.take();
         Ok(Statement::Throw(self.expression(nodes)?))
@@ -73,8 +82,10 @@ impl<'w, 's> Reader<'w, 's> {
     /// `show` with an expression.
     fn show_line(&mut self, nodes: &mut Nodes) -> Result<Statement, AllocError>
         requires begins { terminal_ahead self.old ≡ terminal.Show }
+        requires room { HasRoom 2 nodes.old self.old }
         ensures grown { OnOk result (Widens nodes.old nodes.new) }
         ensures tree { IfOk result (λ statement. HoldsLine nodes.new statement self.old self.new) }
+        ensures paid { Pays 2 nodes.old self.old nodes.new self.new }
     {
         self.take();
         Ok(Statement::Show(self.expression(nodes)?))
@@ -83,8 +94,10 @@ impl<'w, 's> Reader<'w, 's> {
     /// `set` with a member and a value.
     fn set_line(&mut self, nodes: &mut Nodes) -> Result<Statement, AllocError>
         requires begins { terminal_ahead self.old ≡ terminal.Set }
+        requires room { HasRoom 2 nodes.old self.old }
         ensures grown { OnOk result (Widens nodes.old nodes.new) }
         ensures tree { IfOk result (λ statement. HoldsLine nodes.new statement self.old self.new) }
+        ensures paid { Pays 2 nodes.old self.old nodes.new self.new }
     {
         self.take();
         let member = member_or_any(self.member(nodes)?);
@@ -95,8 +108,10 @@ impl<'w, 's> Reader<'w, 's> {
     /// `delete` with a member.
     fn delete_line(&mut self, nodes: &mut Nodes) -> Result<Statement, AllocError>
         requires begins { terminal_ahead self.old ≡ terminal.Delete }
+        requires room { HasRoom 2 nodes.old self.old }
         ensures grown { OnOk result (Widens nodes.old nodes.new) }
         ensures tree { IfOk result (λ statement. HoldsLine nodes.new statement self.old self.new) }
+        ensures paid { Pays 2 nodes.old self.old nodes.new self.new }
     {
         self.take();
         let member = member_or_any(self.member(nodes)?);
@@ -106,8 +121,10 @@ impl<'w, 's> Reader<'w, 's> {
     /// `define` with a member and what becomes of it.
     fn define_line(&mut self, nodes: &mut Nodes) -> Result<Statement, AllocError>
         requires begins { terminal_ahead self.old ≡ terminal.Define }
+        requires room { HasRoom 2 nodes.old self.old }
         ensures grown { OnOk result (Widens nodes.old nodes.new) }
         ensures tree { IfOk result (λ statement. HoldsLine nodes.new statement self.old self.new) }
+        ensures paid { Pays 2 nodes.old self.old nodes.new self.new }
     {
         self.take();
         if self.is_ahead(Terminal::Hidden) {
@@ -139,8 +156,10 @@ impl<'w, 's> Reader<'w, 's> {
 
     /// `=` with a value.
     fn assigned(&mut self, nodes: &mut Nodes) -> Result<u32, AllocError>
+        requires room { HasRoom 2 nodes.old self.old }
         ensures grown { OnOk result (Widens nodes.old nodes.new) }
         ensures tree { IfOk result (λ value. HoldsAssigned nodes.new value self.old self.new) }
+        ensures paid { Pays 2 nodes.old self.old nodes.new self.new }
     {
         self.take();
         self.expression(nodes)
@@ -149,8 +168,10 @@ impl<'w, 's> Reader<'w, 's> {
     /// `get` with a getter, and perhaps `set` with a setter.
     fn accessor(&mut self, nodes: &mut Nodes) -> Result<(u32, Option<u32>), AllocError>
         requires begins { terminal_ahead self.old ≡ terminal.Get }
+        requires room { HasRoom 2 nodes.old self.old }
         ensures grown { OnOk result (Widens nodes.old nodes.new) }
         ensures tree { IfOk result (λ parts. HoldsAccessor nodes.new parts.0 parts.1 self.old self.new) }
+        ensures paid { Pays 2 nodes.old self.old nodes.new self.new }
     {
         self.take();
         let getter = self.expression(nodes)?;
@@ -166,8 +187,10 @@ impl<'w, 's> Reader<'w, 's> {
     fn no_line(&mut self, nodes: &mut Nodes) -> Result<Statement, AllocError>
         requires head { is_head (terminal_ahead self.old) ≡ false }
         requires other { is_block_word (terminal_ahead self.old) ≡ false }
+        requires room { HasRoom 2 nodes.old self.old }
         ensures grown { OnOk result (Widens nodes.old nodes.new) }
         ensures tree { IfOk result (λ statement. HoldsLine nodes.new statement self.old self.new) }
+        ensures paid { Pays 2 nodes.old self.old nodes.new self.new }
     {
         Ok(Statement::Do(self.expression(nodes)?))
     }
@@ -175,8 +198,10 @@ impl<'w, 's> Reader<'w, 's> {
     /// A statement of one line.
     pub(crate) fn statement_line(&mut self, nodes: &mut Nodes) -> Result<Statement, AllocError>
         requires other { is_block_word (terminal_ahead self.old) ≡ false }
+        requires room { HasRoom 2 nodes.old self.old }
         ensures grown { OnOk result (Widens nodes.old nodes.new) }
         ensures tree { IfOk result (λ statement. HoldsLine nodes.new statement self.old self.new) }
+        ensures paid { Pays 2 nodes.old self.old nodes.new self.new }
     {
         match head_of(self.ahead()) {
             Some(Head::Let) => self.let_line(nodes),
@@ -193,8 +218,10 @@ impl<'w, 's> Reader<'w, 's> {
 
     /// The two expressions after `if`.
     pub(crate) fn if_head(&mut self, nodes: &mut Nodes) -> Result<(u32, u32), AllocError>
+        requires room { HasRoom 4 nodes.old self.old }
         ensures grown { OnOk result (Widens nodes.old nodes.new) }
         ensures tree { IfOk result (λ parts. HoldsIf nodes.new parts.0 parts.1 self.old self.new) }
+        ensures paid { Pays 4 nodes.old self.old nodes.new self.new }
     {
         let left = self.expression(nodes)?;
         self.take();

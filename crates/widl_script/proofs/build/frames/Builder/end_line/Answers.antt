@@ -3,8 +3,8 @@ use Rattle.widl_script.proofs.Parts.{on_more}
 use Rattle.widl_script.proofs.ClosedLines.{end_done, no_end_done, none_there}
 use Rattle.widl_script.proofs.build.frames.Builder.end_line.Goals as goal
 
-pub returns-in-Some : goal.returns-in-Some
-returns-in-Some c = on_more c.close.result _ _ (λ d. end_done _ _ _ c.in-Some.frame _ c.requires.begins c.in-Some.ensures.items refl refl refl d) c.close.ensures
+pub returns-in-Some-clause-done : goal.returns-in-Some-clause-done
+returns-in-Some-clause-done c = on_more c.close.result _ _ (λ d. end_done _ _ _ c.in-Some.frame _ c.requires.begins c.in-Some.ensures.items refl refl refl d) c.close.ensures.closed
 
-pub returns-in-None : goal.returns-in-None
-returns-in-None c = no_end_done _ _ _ c.requires.sound c.requires.begins c.in-None.ensures.items (none_there _ _ _ c.in-None.ensures.items c.in-None.ensures.rest c.in-None.ensures.cases.0) refl refl refl
+pub returns-in-None-clause-done : goal.returns-in-None-clause-done
+returns-in-None-clause-done c = no_end_done _ _ _ c.requires.sound c.requires.begins c.in-None.ensures.items (none_there _ _ _ c.in-None.ensures.items c.in-None.ensures.rest c.in-None.ensures.cases.0) refl refl refl

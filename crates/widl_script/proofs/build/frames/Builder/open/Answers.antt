@@ -1,8 +1,8 @@
 use Rattle.std.proofs.Common.{refl, ap, ◌∙◌}
 use Rattle.widl_script.proofs.build.frames.Builder.open.Goals as goal
 
-pub returns : goal.returns
-returns c = record {
+pub returns-clause-opened : goal.returns-clause-opened
+returns-clause-opened c = record {
   frame = record { block = c.args.block; before = c.replace-before.result };
   block_is = refl;
   before_is = ap (λ v. v.items) c.replace-before.ensures.value;

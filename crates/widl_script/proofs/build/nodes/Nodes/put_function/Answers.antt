@@ -1,11 +1,22 @@
-use Rattle.std.proofs.Common.{IfOk, subst}
+use Rattle.std.proofs.Common.{IfOk, subst, ◌+◌, ◌≤◌, arith, sym}
 use Rattle.widl_script_tree.specs.Tables.{Tables}
 use Rattle.widl_script.specs.StatementPuts.{IsFunctionPut}
 use Rattle.widl_script.proofs.Parts.{in_both}
 use Rattle.widl_script.proofs.Putting.{function_put}
+use Rattle.widl_script_tree.specs.Rows.{most_nodes}
+use Rattle.widl_script.specs.Room.{entries}
+use Rattle.widl_script.proofs.Room.{puts_at_most, functions_fit, function_entries}
 use Rattle.widl_script.proofs.build.nodes.Nodes.put_function.Goals as goal
 
-pub returns : goal.returns
-returns c =
+pub returns-clause-put : goal.returns-clause-put
+returns-clause-put c =
     let Put : Tables → Type 0 = λ t. IfOk c.put_function.result (λ number. IsFunctionPut c.args.function number t c.put_function.new.self) in
     subst Put c.self.view_is (in_both c.put_function.result _ _ _ (λ number at is. function_put c.args.function number _ _ at is) c.put_function.ensures.number c.put_function.ensures.tables)
+
+pub put_function-requires-clause-room : goal.put_function-requires-clause-room
+put_function-requires-clause-room c =
+    let fits = functions_fit _ (1) (subst (λ (t : Tables). entries t + 1 ≤ most_nodes) (sym c.self.view_is) c.requires.room) in
+    omega (arith, fits)
+
+pub returns-clause-one : goal.returns-clause-one
+returns-clause-one c = subst (λ (t : Tables). entries c.put_function.new.self ≤ entries t + 1) c.self.view_is (puts_at_most c.put_function.result (1) _ _ _ (function_entries _ _) c.put_function.ensures.tables c.put_function.ensures.err)

@@ -2,6 +2,7 @@ use Rattle.std.proofs.Common.{◌+◌, ◌*◌, ◌≤◌, length}
 use Rattle.widl_lines.specs.declared.grammar.Rule.TheVariants as rule
 use Rattle.widl_script.specs.SpelledExpressions.{more_signs}
 use Rattle.widl_script.specs.Reading.{Widens, part, Holds, Lists}
+use Rattle.widl_script.specs.Room.{Pays, Saves}
 use Rattle.widl_script.proofs.build.reader.Reader.+expression.Given as goal
 
 abbrev pub decreases-more_items : goal.decreases-more_items
@@ -48,6 +49,7 @@ invariant-expression-links l = record {
   shorter : length l.self ≤ length l.fn.self;
   grown : Widens l.fn.nodes l.nodes;
   tree : Holds (part rule.Expression) (part rule.Postfix) l.nodes l.place l.fn.self l.self;
+  paid : Pays 2 l.fn.nodes l.fn.self l.nodes l.self;
 }
 
 abbrev pub decreases-expression-links : goal.decreases-expression-links
@@ -58,6 +60,7 @@ invariant-more_items-items l = record {
   shorter : length l.self ≤ length l.fn.self;
   grown : Widens l.fn.nodes l.nodes;
   lists : Lists (part rule.MoreExpressions) (part rule.MoreExpressions) more_signs l.nodes l.fn.places.items l.places.items l.fn.self l.self;
+  paid : Saves (length l.places.items) (length l.fn.places.items) l.fn.nodes l.fn.self l.nodes l.self;
 }
 
 abbrev pub decreases-more_items-items : goal.decreases-more_items-items

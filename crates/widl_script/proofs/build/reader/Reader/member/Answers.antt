@@ -6,7 +6,7 @@ use Rattle.widl_script.proofs.Built.{member_begun, member_goes_on, member_over, 
 use Rattle.widl_script.proofs.build.reader.Reader.member.Goals as goal
 
 pub links-init : goal.links-init
-links-init c = record { is = λ e. absurd (let bad : false ≡ true = e in cc); shorter = c.in_ok-place.ensures.shorter; grown = c.in_ok-place.ensures.grown; tree = member_begun _ _ _ _ c.in_ok-place.ensures.tree }
+links-init c = record { is = λ e. absurd (let bad : false ≡ true = e in cc); shorter = c.in_ok-place.ensures.shorter; grown = c.in_ok-place.ensures.grown; tree = member_begun _ _ _ _ c.in_ok-place.ensures.tree; paid = c.in_ok-place.ensures.paid }
 
 pub links-preserved : goal.links-preserved
 links-preserved c = record {
@@ -14,6 +14,7 @@ links-preserved c = record {
   is = λ e. c.in_ok-place-2.ensures.member (sym c.ends_member-ended.ensures ∙ e);
   grown = widens_then c.links.invariant.grown c.in_ok-place-2.ensures.grown;
   tree = member_goes_on c.links.ended c.ends_member-ended.result c.in-Some.link _ _ _ _ _ _ _ c.ends_member-ended.ensures (sym c.ahead.ensures ∙ c.in-Some.ensures) c.links.invariant.tree c.in_ok-place-2.ensures.grown.grown c.in_ok-place-2.ensures.tree;
+  paid = omega (arith, c.links.invariant.paid, c.in_ok-place-2.ensures.paid);
 }
 
 pub returns-then-ended-clause-tree : goal.returns-then-ended-clause-tree
