@@ -51,7 +51,7 @@ def hostile():
     included = "".join(f"interface A{number}{{}};A{number} includes M;" for number in range(998))
     wide = "".join(f"undefined f{number}(" + ",".join(numbered("long a{this}", 24)) + ");" for number in range(1000))
     long_name, longer_name = "T" * 100_000, "o" * 400_000
-    doubled = "typedef long T0;" + "".join(numbered("typedef (sequence<T{this}> or record<DOMString,T{this}>) T{next};", 7))
+    doubled = "typedef long Twice0;" + "".join(numbered("typedef (sequence<Twice{this}> or record<DOMString,Twice{this}>) Twice{next};", 7))
     return {
         "3,000,000 definitions": pack(numbered("typedef long T{this};", 3_000_000)),
         "60,000 interfaces in one chain": pack(numbered("interface A{this}:A{next}{{}};", 60_000) + ["interface A60000{};"]),
@@ -75,7 +75,7 @@ def hostile():
             [f"typedef long {long_name};typedef {long_name} T;namespace N{{" + "".join(numbered("undefined f{this}(T a);", 5_000)) + "};"]),
         "a union of 20,000 interfaces and a text, with a default of 80,000 bytes": pack(
             ["".join(numbered("interface A{this}{{}};", 20_000)) + "dictionary D{(" + " or ".join(numbered("A{this}", 20_000)) + ' or DOMString) a="' + "x" * 80_000 + '";};']),
-        "7 typedefs that double, in 4,000 arguments": pack([doubled + "namespace N{" + "".join(numbered("undefined f{this}(T7 a);", 4_000)) + "};"]),
+        "7 typedefs that double, in 4,000 arguments": pack([doubled + "namespace N{" + "".join(numbered("undefined f{this}(Twice7 a);", 4_000)) + "};"]),
         "a mixin with a name of 400,000 bytes in 16,000 interfaces": pack(
             [f"interface mixin M{{undefined {longer_name}();}};" + "".join(numbered("interface A{this}{{}};A{this} includes M;", 16_000))]),
         "a mixin of 1,000 operations in 8,001 interfaces": pack([f"interface mixin M{{{operations}}};" + "".join(numbered("interface A{this}{{}};A{this} includes M;", 8_001))]),
