@@ -1,10 +1,10 @@
 #!/usr/bin/env python3
-"""Compares docs/RULES.md and README.md with the program and with the sources.
+"""Compares docs/RULES.md, README.md and docs/EXAMPLES.md with the program and with the sources.
 
     python3 tools/rules.py [PROGRAM]
 
 Run at the top of the repository, after the program is built (crates/widl_cli/out/widl_cli, if none is named). Each
-example of RULES.md is given to `check`, and each command of README.md is run; what is written must be what stands there.
+example of RULES.md is given to `check`, and each command of the other two is run; what is written must be what stands there.
 Each rule's identifier must be a variant with the rule's number, and its predicate's file must name the rule. Nothing is
 proved by this: it keeps the documents from telling what isn't so.
 """
@@ -19,6 +19,7 @@ import tempfile
 TOP = os.path.dirname(os.path.dirname(os.path.abspath(__file__)))
 PROGRAM = os.path.join(TOP, "crates", "widl_cli", "out", "widl_cli")
 SECONDS = 120
+PAGES = ["README.md", "docs/EXAMPLES.md"]
 ENUMS = {
     "Finding": "crates/widl_front/src/finding.rt",
     "ProfileRule": "crates/widl_idl/src/profile_rule.rt",
@@ -116,12 +117,12 @@ def commands(text):
     return found
 
 
-def run_readme(program, faults):
-    """Runs each `./widl` of README.md beside the examples and the files that `cat` shows. The number of runs."""
+def run_page(page, program, faults):
+    """Runs each `./widl` of a page beside the examples and the files that `cat` shows. The number of runs."""
     count = 0
     with tempfile.TemporaryDirectory() as folder:
         shutil.copytree(os.path.join(TOP, "examples"), os.path.join(folder, "examples"))
-        for words, lines in commands(read("README.md")):
+        for words, lines in commands(read(page)):
             shown = "\n".join(lines)
             if words[0] == "cat":
                 name = os.path.join(folder, words[1])
@@ -136,7 +137,7 @@ def run_readme(program, faults):
                 continue
             count += 1
             if written != shown:
-                faults.append(f"README.md: '{' '.join(words)}' gives\n{written}\nand README.md says\n{shown}")
+                faults.append(f"{page}: '{' '.join(words)}' gives\n{written}\nand the page says\n{shown}")
     return count
 
 
@@ -192,7 +193,7 @@ def main():
     if not os.access(program, os.X_OK):
         sys.exit(f"rules: there is no program {program}; `rt run` in crates/widl_cli builds it")
     faults = []
-    examples = run_rules(program, faults) + run_readme(program, faults)
+    examples = run_rules(program, faults) + sum(run_page(page, program, faults) for page in PAGES)
     identifiers = compare_names(faults)
     for fault in faults:
         print(f"rules: {fault}")
