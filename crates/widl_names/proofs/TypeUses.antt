@@ -1,6 +1,7 @@
 -- Uses of types, and where they lead.
 use Rattle.std.proofs.Common.{◌≡◌, ℕ, ◌+◌, ◌++◌, false, zero, suc, List, [], ◌∷◌, map, Option, None, Some, option_map, slice_get, arith, refl, sym, ap, subst, ◌∙◌}
 use Rattle.std.specs.Prelude.{option_and_then}
+use Rattle.std.proofs.lemmas.List.{append-nil}
 use Rattle.widl_text.specs.declared.place.Place.{Place}
 use Rattle.widl_idl.specs.declared.kind.Kind.{Kind}
 use Rattle.widl_idl.specs.declared.kind.Kind.TheVariants as kinds
@@ -18,7 +19,7 @@ use Rattle.widl_idl.specs.WrittenTypes.{named_type, nullable_if, type_of_meaning
 use Rattle.widl_names.specs.declared.annotations.Annotations.{Annotations}
 use Rattle.widl_names.specs.declared.resolver.Use.{Use}
 use Rattle.widl_names.specs.SaidNotes.{Says}
-use Rattle.widl_names.specs.TypeUses.{Leads, MeansWritten, capped, container_meaning, form_meaning, is_followed, meaning_at, meaning_of_form, meaning_of_use, notes_in, own_meaning, question_count, questioned, type_in, typedef_of_form, typedef_type, without_parts}
+use Rattle.widl_names.specs.TypeUses.{Leads, MeansWritten, capped, container_meaning, form_in, form_meaning, is_followed, meaning_at, meaning_of_form, meaning_of_use, notes_from, notes_in, notes_of_typedef, own_meaning, question_count, questioned, type_in, typedef_of_form, typedef_type, without_parts}
 use Rattle.widl_names.proofs.KindNumbers.{typedef_numbered}
 
 -- a third `?` adds nothing
@@ -68,10 +69,10 @@ pub use_means : (definitions : List PlainDefinition) (u : Use) (t : PlainType) (
 use_means definitions u t annotations levels written same count x so notes said = so notes (subst (λ a. Says a notes) (sym same) said) ∙ written.same definitions notes ∙ ap (λ l. meaning_at definitions l notes t) count
 
 pub leads_here : (definitions : List PlainDefinition) (u : Use) → Leads definitions u u
-leads_here definitions u = record { same = λ notes. (notes, λ s. s, refl) }
+leads_here definitions u = record { same = λ notes. (notes, λ s. s, refl, refl) }
 
 pub leads_on : (definitions : List PlainDefinition) (u v w : Use) → Leads definitions u v → Leads definitions v w → Leads definitions u w
-leads_on definitions u v w l m = record { same = λ notes. let a = l.same notes in let b = m.same a.0 in (b.0, λ s. b.1 (a.1 s), a.2 ∙ b.2) }
+leads_on definitions u v w l m = record { same = λ notes. let a = l.same notes in let b = m.same a.0 in (b.0, λ s. b.1 (a.1 s), a.2 ∙ b.2, a.3 ∙ b.3) }
 
 module _ (definitions : List PlainDefinition) where
   meant_at : (text : List ℕ) (kind : PlainKind) → meant definitions text ≡ Some kind → (y : ℕ) × (meaning definitions text ≡ Some y) × (option_map (λ d. d.kind) (slice_get definitions y) ≡ Some kind)
@@ -124,6 +125,24 @@ module _ (definitions : List PlainDefinition) where
   pub named_last : (levels : ℕ) (notes : List Note) (name : PlainName) → is_followed definitions levels (PlainNamed name) ≡ false → form_meaning definitions levels notes (PlainNamed name) ≡ without_parts (named_type definitions name)
   named_last zero notes name e = at_no_level notes (meaning definitions name.text) (meant_kind definitions name.text)
   named_last (suc levels) notes name e = at_level levels notes (meaning definitions name.text) (meant_kind definitions name.text) e
+
+  -- a form that is not followed leads to no annotations
+  pub last_notes : (levels : ℕ) (form : PlainForm) → is_followed definitions levels form ≡ false → notes_from definitions levels form ≡ []
+  last_notes zero form e = refl
+  last_notes (suc levels) (PlainNamed name) e = by_kind (meant definitions name.text) e
+    where
+      by_kind : (kind : Option PlainKind) → is_kind kinds.Typedef (option_map kind_of kind) ≡ false → notes_of_typedef (notes_from definitions levels) (typedef_type kind) ≡ []
+      by_kind (Some (TypedefDefinition t)) f = absurd (cc)
+      by_kind kind f = refl
+  last_notes (suc levels) form e = refl
+
+  -- the annotations that a use of a type leads to are said where it ends
+  pub gathered_last : (u v : Use) (annotations : Annotations) (t : PlainType) (levels : ℕ) → Leads definitions u v → is_followed definitions v.typedefs (form_term v.form.now) ≡ false → u.annotations ≡ annotations → form_term u.form.now ≡ form_in t → u.typedefs ≡ levels → (notes : List Note) → Says annotations notes → Says v.annotations (notes ++ notes_from definitions levels (form_in t))
+  gathered_last u v annotations t levels leads last before form count notes said =
+      let m = leads.same notes in
+      subst (Says v.annotations)
+      (sym (ap (λ f. notes ++ notes_from definitions levels f) (sym form) ∙ ap (λ n. notes ++ notes_from definitions n (form_term u.form.now)) (sym count) ∙ m.3 ∙ ap (λ l. m.0 ++ l) (last_notes v.typedefs (form_term v.form.now) last) ∙ append-nil m.0))
+      (m.1 (subst (λ a. Says a notes) (sym before) said))
 
   pub container_means : (levels : ℕ) (notes : List Note) (kind : Container) (inner : PlainAnnotated) → form_meaning definitions levels notes (PlainContainer kind inner) ≡ container_meaning definitions levels kind inner
   container_means levels notes container.Sequence (plain_annotated at attributes inner) = refl

@@ -13,7 +13,7 @@ use Rattle.widl_names.specs.declared.resolver.Use.{Use}
 use Rattle.widl_names.specs.declared.typedef_ends.ChainEnd.{ChainEnd}
 use Rattle.widl_names.specs.SaidNotes.{Says}
 use Rattle.widl_names.specs.TypedefEnds.{AreEnds, EndsAt, GoesTo, IsEndOf}
-use Rattle.widl_names.specs.TypeUses.{Leads, capped, form_meaning, meaning_at, meaning_of_use, notes_in, question_count, questioned, type_in, typedef_at, typedef_of_form, typedef_type}
+use Rattle.widl_names.specs.TypeUses.{Leads, capped, form_in, form_meaning, meaning_at, meaning_of_use, notes_from, notes_in, notes_of_typedef, question_count, questioned, type_in, typedef_at, typedef_of_form, typedef_type}
 use Rattle.widl_names.proofs.TypeUses.{nullable_written, questioned_sum, typedef_means, typedef_of}
 
 none_kept : (n number : ℕ) (end : ChainEnd) → slice_get (replicate n None) number ≡ Some (Some end) → ⊥
@@ -38,6 +38,7 @@ record MeansAtEnd (definitions : List PlainDefinition) (form : PlainForm) (end :
   notes : List Note
   said : Says end.annotations notes
   same : (levels : ℕ) (before : List Note) → form_meaning definitions (levels + end.passed + 1) before form ≡ questioned end.questions (form_meaning definitions levels (before ++ notes) (form_term end.form.now))
+  gathered : (levels : ℕ) → notes_from definitions (levels + end.passed + 1) form ≡ notes ++ notes_from definitions levels (form_term end.form.now)
 
 module _ (definitions : List PlainDefinition) where
   -- the chain that is a type alone
@@ -51,6 +52,9 @@ module _ (definitions : List PlainDefinition) where
         ∙ ap (λ a. meaning_at definitions levels (before ++ notes_in a) (type_in a)) is
         ∙ nullable_written (typedef_in (typedefs definitions) levels) (before ++ notes_of attributes) question (written_form definitions (form_term end.form.now))
         ∙ ap (λ n. questioned n (form_meaning definitions levels (before ++ notes_of attributes) (form_term end.form.now))) (sym count);
+    gathered = λ levels.
+        let here : levels + end.passed ≡ levels = omega arith in
+        ap (λ n. notes_in t ++ notes_from definitions n (form_in (type_in t))) here ∙ ap (λ a. notes_in a ++ notes_from definitions levels (form_in (type_in a))) is;
   }
 
   means_at_end : (form : PlainForm) (end : ChainEnd) → IsEndOf definitions (typedef_of_form definitions form) end → MeansAtEnd definitions form end
@@ -69,6 +73,9 @@ module _ (definitions : List PlainDefinition) where
                 ∙ typedef_means definitions (levels + end.passed) before name t.0 t.1
                 ∙ ap (λ a. meaning_at definitions (levels + end.passed) (before ++ notes_in a) (type_in a)) t.2
                 ∙ h.same levels before;
+            gathered = λ levels.
+                let fewer : levels + end.passed + 1 ≡ suc (levels + end.passed) = omega arith in
+                ap (λ n. notes_from definitions n (PlainNamed name)) fewer ∙ ap (notes_of_typedef (notes_from definitions (levels + end.passed))) is ∙ h.gathered levels;
           }
   means_at_end form end e = absurd e
 
@@ -91,14 +98,29 @@ module _ (definitions : List PlainDefinition) where
             ∙ ap (λ n. questioned n (form_meaning definitions levels (own ++ m.notes) (form_term next.form.now))) (sym count)
             ∙ ap (λ f. questioned end.questions (form_meaning definitions levels (own ++ m.notes) (form_term f.now))) (sym form_is)
             ∙ ap (λ notes. questioned end.questions (form_meaning definitions levels notes (form_term end.form.now))) (append_assoc before (notes_of attributes) m.notes);
+        gathered = λ levels.
+            let fewer : levels + end.passed ≡ levels + next.passed + 1 = omega arith in
+            ap (λ n. notes_in t ++ notes_from definitions n (form_in (type_in t))) fewer
+            ∙ ap (λ a. notes_in a ++ notes_from definitions (levels + next.passed + 1) (form_in (type_in a))) is
+            ∙ ap (λ l. notes_of attributes ++ l) (m.gathered levels)
+            ∙ sym (append_assoc (notes_of attributes) m.notes (notes_from definitions levels (form_term next.form.now)))
+            ∙ ap (λ f. (notes_of attributes ++ m.notes) ++ notes_from definitions levels (form_term f.now)) (sym form_is);
       }
 
   -- a use of a typedef's name leads to the end of the typedef's chain
   pub leads_to_end : (u next : Use) (end : ChainEnd) → IsEndOf definitions (typedef_of_form definitions (form_term u.form.now)) end → GoesTo u end next → Leads definitions u next
   leads_to_end u next end is g =
       let m = means_at_end (form_term u.form.now) end is in
-      record { same = λ notes. (notes ++ m.notes, λ s. g.said notes m.notes s m.said, same notes) }
+      record { same = λ notes. (notes ++ m.notes, λ s. g.said notes m.notes s m.said, same notes, gathered notes) }
     where
+      gathered : (notes : List Note) → notes ++ notes_from definitions u.typedefs (form_term u.form.now) ≡ (notes ++ (means_at_end (form_term u.form.now) end is).notes) ++ notes_from definitions next.typedefs (form_term next.form.now)
+      gathered notes =
+          let m = means_at_end (form_term u.form.now) end is in
+          ap (λ n. notes ++ notes_from definitions n (form_term u.form.now)) g.fewer
+          ∙ ap (λ l. notes ++ l) (m.gathered next.typedefs)
+          ∙ sym (append_assoc notes m.notes (notes_from definitions next.typedefs (form_term end.form.now)))
+          ∙ ap (λ f. (notes ++ m.notes) ++ notes_from definitions next.typedefs (form_term f.now)) (sym g.form)
+
       same : (notes : List Note) → meaning_of_use definitions notes u ≡ meaning_of_use definitions (notes ++ (means_at_end (form_term u.form.now) end is).notes) next
       same notes =
           let m = means_at_end (form_term u.form.now) end is in

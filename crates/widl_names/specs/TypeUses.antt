@@ -1,5 +1,5 @@
 -- Uses of types: what is left of a type where its typedefs are followed.
-use Rattle.std.specs.Prelude.{◌≡◌, ℕ, ◌<◌, zero, suc, Bool, false, List, Option, None, Some, option_map, option_and_then, slice_get, min}
+use Rattle.std.specs.Prelude.{◌≡◌, ℕ, ◌<◌, zero, suc, Bool, false, List, [], ◌++◌, length, Option, None, Some, option_map, option_and_then, slice_get, min}
 use Rattle.widl_text.specs.declared.place.Place.{Place}
 use Rattle.widl_idl.specs.declared.kind.Kind.{Kind}
 use Rattle.widl_idl.specs.declared.kind.Kind.TheVariants as kinds
@@ -8,7 +8,7 @@ use Rattle.widl_idl.specs.declared.tree.types.Container.TheVariants as container
 use Rattle.widl_idl.specs.Meanings.{kind_of, meaning, meant, meant_kind}
 use Rattle.widl_idl.specs.MergingRules.{is_kind}
 use Rattle.widl_idl.specs.PlainTrees.{PlainDefinition, PlainKind, TypedefDefinition}
-use Rattle.widl_idl.specs.PlainTypes.{PlainForm, PlainType, PlainAnnotated, PlainNamed, plain_annotated, form_term}
+use Rattle.widl_idl.specs.PlainTypes.{PlainForm, PlainType, PlainAnnotated, PlainNamed, plain_annotated, plain_type, form_term}
 use Rattle.widl_idl.specs.Resolution.{Note, WrittenType, WithoutParts, nullable_of, resolved, typedef_in}
 use Rattle.widl_idl.specs.Terms.{TypeTerm, AnyType, SequenceType}
 use Rattle.widl_idl.specs.WrittenTypes.{notes_of, typedefs, written_form, written_type}
@@ -60,9 +60,8 @@ notes_in (plain_annotated at attributes inner) = notes_of attributes
 abbrev pub type_in : PlainAnnotated → PlainType
 type_in (plain_annotated at attributes inner) = inner
 
--- a use of a type means what another one does
-pub record Leads (definitions : List PlainDefinition) (u v : Use) : Type 0 where
-  pub same : (notes : List Note) → (more : List Note) × (Says u.annotations notes → Says v.annotations more) × (meaning_of_use definitions notes u ≡ meaning_of_use definitions more v)
+abbrev pub form_in : PlainType → PlainForm
+form_in (plain_type at form question) = form
 
 -- the number of the definition that a form names, if it is a name with a meaning
 abbrev pub meaning_of_form : List PlainDefinition → PlainForm → Option ℕ
@@ -90,11 +89,6 @@ is_followed definitions levels form = false
 abbrev pub IsLast : List PlainDefinition → Use → Type 0
 IsLast definitions u = is_followed definitions u.typedefs (form_term u.form.now) ≡ false
 
--- where a use of a type leads, with fewer typedefs left, or none where it is the last
-abbrev pub After : List PlainDefinition → Use → Option Use → Type 0
-After definitions u None = IsLast definitions u
-After definitions u (Some next) = Leads definitions u next × (next.typedefs < u.typedefs)
-
 -- the type of a typedef
 abbrev pub typedef_type : Option PlainKind → Option PlainAnnotated
 typedef_type (Some (TypedefDefinition t)) = Some t.ty
@@ -108,6 +102,29 @@ typedef_at definitions number = typedef_type (option_map (λ d. d.kind) (slice_g
 abbrev pub typedef_of_form : List PlainDefinition → PlainForm → Option PlainAnnotated
 typedef_of_form definitions (PlainNamed name) = typedef_type (meant definitions name.text)
 typedef_of_form definitions form = None
+
+-- the annotations of a typedef's type, and those that its form leads to
+abbrev pub notes_of_typedef : (PlainForm → List Note) → Option PlainAnnotated → List Note
+notes_of_typedef inner None = []
+notes_of_typedef inner (Some t) = notes_in t ++ inner (form_in (type_in t))
+
+-- the annotations of the typedefs that a form leads to, at most so many levels down
+abbrev pub notes_from : List PlainDefinition → ℕ → PlainForm → List Note
+notes_from definitions zero form = []
+notes_from definitions (suc levels) form = notes_of_typedef (notes_from definitions levels) (typedef_of_form definitions form)
+
+-- the annotations of all typedefs that a type leads to
+abbrev pub typedef_notes : List PlainDefinition → PlainType → List Note
+typedef_notes definitions t = notes_from definitions (length (typedefs definitions)) (form_in t)
+
+-- a use of a type leads to another one: it means the same with the annotations on the way, which are those that it leads to first
+pub record Leads (definitions : List PlainDefinition) (u v : Use) : Type 0 where
+  pub same : (notes : List Note) → (more : List Note) × (Says u.annotations notes → Says v.annotations more) × (meaning_of_use definitions notes u ≡ meaning_of_use definitions more v) × (notes ++ notes_from definitions u.typedefs (form_term u.form.now) ≡ more ++ notes_from definitions v.typedefs (form_term v.form.now))
+
+-- where a use of a type leads, with fewer typedefs left, or none where it is the last
+abbrev pub After : List PlainDefinition → Use → Option Use → Type 0
+After definitions u None = IsLast definitions u
+After definitions u (Some next) = Leads definitions u next × (next.typedefs < u.typedefs)
 
 -- what a container means: only a sequence is a type
 abbrev pub container_meaning : List PlainDefinition → ℕ → Container → PlainAnnotated → TypeTerm

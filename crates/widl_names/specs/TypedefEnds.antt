@@ -6,13 +6,14 @@ use Rattle.widl_idl.specs.Resolution.{Note}
 use Rattle.widl_names.specs.declared.resolver.Use.{Use}
 use Rattle.widl_names.specs.declared.typedef_ends.ChainEnd.{ChainEnd}
 use Rattle.widl_names.specs.SaidNotes.{Says}
-use Rattle.widl_names.specs.TypeUses.{capped, form_meaning, meaning_at, notes_in, questioned, type_in, typedef_at}
+use Rattle.widl_names.specs.TypeUses.{capped, form_in, form_meaning, meaning_at, notes_from, notes_in, questioned, type_in, typedef_at}
 
--- a type means what the end of its chain does, with the annotations and the `?`s of the chain, where typedefs lead fewer levels down by those that are passed
+-- a type means what the end of its chain does, with the annotations and the `?`s of the chain, where typedefs lead fewer levels down by those that are passed; the annotations of the typedefs are those of the chain, and then those that its end leads to
 pub record EndsAt (definitions : List PlainDefinition) (t : PlainAnnotated) (end : ChainEnd) : Type 0 where
   pub notes : List Note
   pub said : Says end.annotations notes
   pub same : (levels : ℕ) (before : List Note) → meaning_at definitions (levels + end.passed) (before ++ notes_in t) (type_in t) ≡ questioned end.questions (form_meaning definitions levels (before ++ notes) (form_term end.form.now))
+  pub gathered : (levels : ℕ) → notes_in t ++ notes_from definitions (levels + end.passed) (form_in (type_in t)) ≡ notes ++ notes_from definitions levels (form_term end.form.now)
 
 -- the end of the chain that begins with the type, if there is one
 abbrev pub IsEndOf : List PlainDefinition → Option PlainAnnotated → ChainEnd → Type 0

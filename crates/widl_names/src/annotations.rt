@@ -1,13 +1,13 @@
 //! What the annotations before a type say of it.
 
-ghost use Rattle.std.specs.Prelude.{◌≡◌, ◌++◌, List, [], map, option_to_list, false, Some};
-ghost use Rattle.widl_idl.specs.First.{is_before};
+ghost use Rattle.std.specs.Prelude.{◌≡◌, ◌++◌, List, [], map, option_map, false};
+ghost use Rattle.widl_idl.specs.First.{earlier, is_before, violation_at};
 ghost use Rattle.widl_idl.specs.PlainTypes.{attribute_of};
 ghost use Rattle.widl_idl.specs.Resolution.{Note, annotated, earlier_mode, mode_or_wrap, takes_null_to_empty};
 ghost use Rattle.widl_idl.specs.Terms.{type_term, IntegerType, StringType};
 ghost use Rattle.widl_idl.specs.declared.int_kind.Mode.TheVariants as modes;
-ghost use Rattle.widl_idl.specs.WrittenTypes.{note_of, notes_of};
-ghost use Rattle.widl_names.specs.SaidNotes.{Says, mode_said};
+ghost use Rattle.widl_idl.specs.WrittenTypes.{annotation_of, notes_of};
+ghost use Rattle.widl_names.specs.SaidNotes.{Says, mode_said, said_by};
 
 use widl_idl::tree::ExtendedAttribute;
 use widl_idl::{IdlType, IntKind, Mode, TextKind};
@@ -27,6 +27,10 @@ pub struct ModeAnnotation {
 pub struct Annotations {
     /// Of those that set a mode, the one whose name comes first.
     pub mode: Option<ModeAnnotation>,
+    /// Where the name of the first `[Clamp]` stands.
+    pub clamp: Option<Place>,
+    /// Where the name of the first `[EnforceRange]` stands.
+    pub enforce: Option<Place>,
     /// Whether `[LegacyNullToEmptyString]` is among them.
     pub null_to_empty: bool,
 }
@@ -38,6 +42,8 @@ impl Annotations {
     {
         Annotations {
             mode: None,
+            clamp: None,
+            enforce: None,
             null_to_empty: false,
         }
     }
@@ -59,6 +65,8 @@ impl Annotations {
     {
         Annotations {
             mode: earlier_mode(self.mode, others.mode),
+            clamp: earlier_place(self.clamp, others.clamp),
+            enforce: earlier_place(self.enforce, others.enforce),
             null_to_empty: self.null_to_empty || others.null_to_empty,
         }
     }
@@ -82,28 +90,37 @@ impl Annotations {
 
     /// What one extended attribute says.
     fn of_one(attribute: &ExtendedAttribute) -> Annotations
-        ensures { Says result (option_to_list (note_of (attribute_of attribute.now))) }
+        ensures { result ≡ said_by (annotation_of (attribute_of attribute.now).name.text) (attribute_of attribute.now).name.at }
     {
         let name = attribute.name.text.as_str();
+        let at = attribute.name.at;
         if name == "Clamp" {
-            Annotations::with_mode(Mode::Clamp, attribute.name.at)
+            Annotations {
+                mode: Some(ModeAnnotation {
+                    mode: Mode::Clamp,
+                    at,
+                }),
+                clamp: Some(at),
+                enforce: None,
+                null_to_empty: false,
+            }
         } else if name == "EnforceRange" {
-            Annotations::with_mode(Mode::Enforce, attribute.name.at)
+            Annotations {
+                mode: Some(ModeAnnotation {
+                    mode: Mode::Enforce,
+                    at,
+                }),
+                clamp: None,
+                enforce: Some(at),
+                null_to_empty: false,
+            }
         } else {
             Annotations {
                 mode: None,
+                clamp: None,
+                enforce: None,
                 null_to_empty: name == "LegacyNullToEmptyString",
             }
-        }
-    }
-
-    /// What an annotation that sets a mode says.
-    fn with_mode(mode: Mode, at: Place) -> Annotations
-        ensures { result ≡ record { mode = Some (record { mode = mode; at = at }); null_to_empty = false } }
-    {
-        Annotations {
-            mode: Some(ModeAnnotation { mode, at }),
-            null_to_empty: false,
         }
     }
 }
@@ -123,6 +140,17 @@ fn earlier_mode(
         } else {
             first
         },
+    }
+}
+
+/// Of two places the one that comes first.
+fn earlier_place(first: Option<Place>, second: Option<Place>) -> Option<Place>
+    ensures { option_map violation_at result ≡ earlier (option_map violation_at first) (option_map violation_at second) }
+{
+    match (first, second) {
+        (None, _) => second,
+        (Some(_), None) => first,
+        (Some(p), Some(q)) => if stands_before(q, p) { second } else { first },
     }
 }
 

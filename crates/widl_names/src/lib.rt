@@ -33,5 +33,4 @@ pub use nodes::Node;
 pub use part_members::list_members;
 pub use parts::{Parts, group_at, members_in, no_groups, put_in_group};
 pub use resolver::Resolver;
-pub use typedef_links::{number_named, typedef_at, typedef_order};
 pub use written_values::{default_meant, value_meant};

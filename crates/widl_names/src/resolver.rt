@@ -6,7 +6,7 @@
 //! than the chain has is it followed by one at a time. The recursion goes down into the parts of types
 //! alone, as deep as the type that results: at most 16 levels where no rule of merging is broken.
 
-ghost use Rattle.std.specs.Prelude.{◌≡◌, ◌<◌, ◌+◌, ◌^◌, List, [], Some, IfOk, OnOk, length, map};
+ghost use Rattle.std.specs.Prelude.{◌≡◌, ◌<◌, ◌+◌, ◌^◌, ◌++◌, List, [], Some, IfOk, OnOk, length, map};
 ghost use Rattle.widl_idl.specs.Meanings.{meaning, meant_kind};
 ghost use Rattle.widl_idl.specs.declared.kind.Kind.{Kind as KindType};
 ghost use Rattle.widl_idl.specs.MergedList.{number_of_meaning};
@@ -17,7 +17,7 @@ ghost use Rattle.widl_idl.specs.Terms.{packed, type_term, type_terms};
 ghost use Rattle.widl_idl.specs.WrittenTypes.{meaning_alone, meaning_of_type, meaning_with, type_of_kind, type_of_meaning, typedefs, written_members};
 ghost use Rattle.widl_names.specs.SaidNotes.{Says};
 ghost use Rattle.widl_names.specs.TypedefEnds.{GoesTo, IsNext};
-ghost use Rattle.widl_names.specs.TypeUses.{After, IsKnown, IsLast, Leads, MeansWritten, container_meaning, form_meaning, meaning_at, meaning_of_use, numbered_kind, own_meaning, questioned, typedef_at, without_parts};
+ghost use Rattle.widl_names.specs.TypeUses.{After, IsKnown, IsLast, Leads, MeansWritten, container_meaning, form_in, form_meaning, meaning_at, meaning_of_use, numbered_kind, own_meaning, questioned, typedef_at, typedef_notes, without_parts};
 
 use crate::annotations::Annotations;
 use crate::kind_numbers::{KindNumbers, number_kinds};
@@ -75,6 +75,7 @@ impl<'t> Use<'t> {
     fn of(ty: &'t WrittenType, annotations: Annotations, typedefs: u32) -> Use<'t>
         ensures annotations { result.annotations ≡ annotations }
         ensures same { MeansWritten result (type_of ty.now) }
+        ensures form { form_term result.form.now ≡ form_in (type_of ty.now) }
         ensures count { result.typedefs ≡ typedefs }
     {
         Use {
@@ -184,6 +185,14 @@ impl<'m, 'd, 'a> Resolver<'m, 'd, 'a> {
         let before = Annotations::of(attributes);
         let own = Annotations::of(ty.attributes.as_slice());
         self.resolve(alloc, room, before.followed_by(own), &ty.ty)
+    }
+
+    /// What the annotations of a type say: these, and then those of the typedefs that it leads to.
+    pub fn all_annotations(&self, before: Annotations, ty: &'a WrittenType) -> Annotations
+        ensures { (notes : List Note) → Says before notes → Says result (notes ++ typedef_notes (plain_definitions self.now) (type_of ty.now)) }
+    {
+        let start = Use::of(ty, before, self.kinds.counts.count(Kind::Typedef));
+        self.follow(&start).usage.annotations
     }
 
     /// The number of the definition that a name means among the main ones of its kind, which is this

@@ -17,9 +17,8 @@ mod NestedSpans
 mod PairCounts
 mod TouchingSpans
 pub mod FlatMembers
-pub mod EarliestNotes
+pub mod LaterAnnotations
 pub mod TypedefNotes
-pub mod RangeEnds
 pub mod SameSets
 pub mod Valid
 pub mod TypeViolations

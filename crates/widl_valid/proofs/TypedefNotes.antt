@@ -1,36 +1,32 @@
 -- The annotations of the typedefs that a type leads to.
-use Rattle.std.proofs.Common.{◌≡◌, ℕ, ◌-◌, ◌<◌, ◌++◌, false, List, [], map, zero, suc, Option, None, Some, option_map, slice_get, arith, refl, sym, ap, subst, ◌∙◌, Bor}
+use Rattle.std.proofs.Common.{◌≡◌, ℕ, ◌++◌, false, List, [], length, zero, suc, Option, None, Some, option_map, slice_get, refl, sym, ap, ◌∙◌}
 use Rattle.std.specs.Prelude.{option_and_then}
-use Rattle.std.proofs.lemmas.List.{append_assoc, append-nil}
 use Rattle.std.proofs.lemmas.List.Elements.{filter_map-append}
 use Rattle.widl_text.specs.declared.place.Place.{Place}
 use Rattle.widl_idl.specs.declared.kind.Kind.{Kind}
 use Rattle.widl_idl.specs.declared.kind.Kind.TheVariants as kinds
-use Rattle.widl_idl.specs.declared.tree.types.AnnotatedType.{AnnotatedType}
 use Rattle.widl_idl.specs.declared.tree.types.Container.{Container}
 use Rattle.widl_idl.specs.declared.tree.types.Container.TheVariants as container
 use Rattle.widl_idl.specs.Meanings.{kind_of, meaning, meant, meant_kind, same_kind}
 use Rattle.widl_idl.specs.PlainTrees.{PlainDefinition, PlainKind, PlainTypedef, TypedefDefinition}
-use Rattle.widl_idl.specs.PlainTypes.{PlainAttribute, PlainForm, PlainType, PlainAnnotated, PlainName, PlainNamed, PlainContainer, PlainRecord, plain_type, plain_annotated, annotated_of, attribute_of, form_term}
+use Rattle.widl_idl.specs.PlainTypes.{PlainAttribute, PlainForm, PlainType, PlainAnnotated, PlainName, PlainNamed, PlainContainer, PlainRecord, plain_type, plain_annotated}
 use Rattle.widl_idl.specs.Resolution.{Note, WrittenType, TypedefName, NullableOf}
 use Rattle.widl_idl.specs.WrittenTypes.{container_of, note_of, notes_of, nullable_if, type_of_kind, type_of_meaning, typedef_in_tree, typedefs, written_form, written_type}
-use Rattle.widl_names.specs.TypeUses.{notes_in as own_notes, type_in, typedef_of_form, typedef_type}
+use Rattle.widl_names.specs.TypeUses.{form_in, notes_from, notes_in as own_notes, notes_of_typedef as notes_of_typed, type_in, typedef_notes, typedef_of_form, typedef_type}
 use Rattle.widl_names.proofs.KindNumbers.{typedef_numbered}
 use Rattle.widl_overload.specs.TypeRules.{notes_after, notes_in, notes_of_typedef}
-use Rattle.widl_valid.specs.declared.range_annotations.RangeAnnotations.{RangeAnnotations}
-use Rattle.widl_valid.specs.EarliestNotes.{AreEarliest, Gathered, notes_from}
 
 some_is : {A : Type 0} {a b : A} → Some a ≡ Some b → a ≡ b
 some_is e = (cc)
 
 -- where no level is left nothing is gathered
-pub none_at_zero : (definitions : List PlainDefinition) (w : WrittenType) → notes_in (notes_after (typedefs definitions) zero) w ≡ []
+none_at_zero : (definitions : List PlainDefinition) (w : WrittenType) → notes_in (notes_after (typedefs definitions) zero) w ≡ []
 none_at_zero definitions (TypedefName n) = refl
 none_at_zero definitions (NullableOf t) = none_at_zero definitions t
 none_at_zero definitions w = refl
 
 -- a `?` changes nothing
-pub notes_under : (inner : ℕ → List Note) (question : Option Place) (w : WrittenType) → notes_in inner (nullable_if question w) ≡ notes_in inner w
+notes_under : (inner : ℕ → List Note) (question : Option Place) (w : WrittenType) → notes_in inner (nullable_if question w) ≡ notes_in inner w
 notes_under inner None w = refl
 notes_under inner (Some p) w = refl
 
@@ -56,7 +52,7 @@ module _ (definitions : List PlainDefinition) (levels : ℕ) where
   of_container kind notes w = refl
 
   -- a form that names no typedef leads to no annotations
-  pub no_notes : (form : PlainForm) → typedef_of_form definitions form ≡ None → notes_from definitions levels form ≡ []
+  no_notes : (form : PlainForm) → typedef_of_form definitions form ≡ None → notes_in inner (written_form definitions form) ≡ []
   no_notes (PlainNamed name) none = of_meaning (meaning definitions name.text) (meant definitions name.text) none
   no_notes (PlainContainer kind (plain_annotated at attributes t)) none = of_container kind (notes_of attributes) (written_type definitions t)
   no_notes (PlainRecord key (plain_annotated at attributes t)) none = refl
@@ -78,7 +74,7 @@ module _ (definitions : List PlainDefinition) (levels : ℕ) where
   in_tree f (plain_annotated at attributes t) = refl
 
   -- the name of a typedef leads to its annotations, and to those after it
-  named_notes : (name : PlainName) (ty : PlainAnnotated) → typedef_type (meant definitions name.text) ≡ Some ty → notes_from definitions (suc levels) (PlainNamed name) ≡ own_notes ty ++ notes_in (notes_after (typedefs definitions) levels) (written_type definitions (type_in ty))
+  named_notes : (name : PlainName) (ty : PlainAnnotated) → typedef_type (meant definitions name.text) ≡ Some ty → notes_in (notes_after (typedefs definitions) (suc levels)) (written_form definitions (PlainNamed name)) ≡ own_notes ty ++ notes_in (notes_after (typedefs definitions) levels) (written_type definitions (type_in ty))
   named_notes name ty is =
       let t = typedef_of (meant definitions name.text) ty is in
       let a = meant_at name.text (TypedefDefinition t.0) t.1 in
@@ -89,29 +85,25 @@ module _ (definitions : List PlainDefinition) (levels : ℕ) where
       ∙ in_tree f t.0.ty
       ∙ ap (λ a. own_notes a ++ notes_in f (written_type definitions (type_in a))) t.2
 
-  pub typed_notes : (form : PlainForm) (ty : PlainAnnotated) → typedef_of_form definitions form ≡ Some ty → notes_from definitions (suc levels) form ≡ own_notes ty ++ notes_in (notes_after (typedefs definitions) levels) (written_type definitions (type_in ty))
+  typed_notes : (form : PlainForm) (ty : PlainAnnotated) → typedef_of_form definitions form ≡ Some ty → notes_in (notes_after (typedefs definitions) (suc levels)) (written_form definitions form) ≡ own_notes ty ++ notes_in (notes_after (typedefs definitions) levels) (written_type definitions (type_in ty))
   typed_notes (PlainNamed name) ty is = named_notes name ty is
   typed_notes form ty is = absurd (cc)
 
--- nothing is gathered yet
-pub gathered_start : (whole : List Note) (said : RangeAnnotations) → AreEarliest said [] → Gathered whole said whole
-gathered_start whole said none = record { seen = []; earliest = none; parts = refl }
+module _ (definitions : List PlainDefinition) where
+  after_question : (levels : ℕ) (t : PlainType) → notes_in (notes_after (typedefs definitions) levels) (written_form definitions (form_in t)) ≡ notes_in (notes_after (typedefs definitions) levels) (written_type definitions t)
+  after_question levels (plain_type at form question) = sym (notes_under (notes_after (typedefs definitions) levels) question (written_form definitions form))
 
--- one typedef more
-pub gathered_more : (whole rest left more : List Note) (said own both : RangeAnnotations) → Gathered whole said rest → rest ≡ more ++ left → AreEarliest own more → ((notes more : List Note) → AreEarliest said notes → AreEarliest own more → AreEarliest both (notes ++ more)) → Gathered whole both left
-gathered_more whole rest left more said own both g is earliest joined = record {
-  seen = g.seen ++ more;
-  earliest = joined g.seen more g.earliest earliest;
-  parts = g.parts ∙ ap (λ l. g.seen ++ l) is ∙ sym (append_assoc g.seen more left);
-}
+  -- the annotations that a form leads to by the names of typedefs are those that it leads to by their numbers
+  by_number : (levels : ℕ) (form : PlainForm) → notes_from definitions levels form ≡ notes_in (notes_after (typedefs definitions) levels) (written_form definitions form)
+  by_number zero form = sym (none_at_zero definitions (written_form definitions form))
+  by_number (suc levels) form = by_typedef (typedef_of_form definitions form) refl (by_number levels)
+    where
+      by_typedef : (found : Option PlainAnnotated) → typedef_of_form definitions form ≡ found → ((inner : PlainForm) → notes_from definitions levels inner ≡ notes_in (notes_after (typedefs definitions) levels) (written_form definitions inner)) → notes_of_typed (notes_from definitions levels) found ≡ notes_in (notes_after (typedefs definitions) (suc levels)) (written_form definitions form)
+      by_typedef None is same = sym (no_notes definitions (suc levels) form is)
+      by_typedef (Some ty) is same = ap (λ l. own_notes ty ++ l) (same (form_in (type_in ty)) ∙ after_question levels (type_in ty)) ∙ sym (typed_notes definitions levels form ty is)
 
--- all are gathered
-pub gathered_all : (whole rest : List Note) (said : RangeAnnotations) → Gathered whole said rest → rest ≡ [] → AreEarliest said whole
-gathered_all whole rest said g none = subst (AreEarliest said) (sym (g.parts ∙ ap (λ l. g.seen ++ l) none ∙ append-nil g.seen)) g.earliest
-
--- the annotations of a type
-pub whole_notes : (definitions : List PlainDefinition) (levels : ℕ) (outer own : List PlainAttribute) (t : PlainType) (form : PlainForm) (at : Place) (question : Option Place) → t ≡ plain_type at form question
-    → (notes_of outer ++ notes_of own) ++ notes_from definitions levels form ≡ notes_of (outer ++ own) ++ notes_in (notes_after (typedefs definitions) levels) (written_type definitions t)
-whole_notes definitions levels outer own t form at question is =
-    ap (λ l. l ++ notes_from definitions levels form) (sym (filter_map-append note_of outer own))
-    ∙ ap (λ l. notes_of (outer ++ own) ++ l) (sym (notes_under (notes_after (typedefs definitions) levels) question (written_form definitions form)) ∙ ap (λ u. notes_in (notes_after (typedefs definitions) levels) (written_type definitions u)) (sym is))
+  -- all annotations of a type
+  pub all_written : (outer own : List PlainAttribute) (t : PlainType) → (notes_of outer ++ notes_of own) ++ typedef_notes definitions t ≡ notes_of (outer ++ own) ++ notes_in (notes_after (typedefs definitions) (length (typedefs definitions))) (written_type definitions t)
+  all_written outer own t =
+      ap (λ l. l ++ typedef_notes definitions t) (sym (filter_map-append note_of outer own))
+      ∙ ap (λ l. notes_of (outer ++ own) ++ l) (by_number (length (typedefs definitions)) (form_in t) ∙ after_question (length (typedefs definitions)) t)

@@ -10,7 +10,5 @@ pub mod IndistinguishableKinds
 pub mod IndistinguishablePairs
 pub mod Lineages
 pub mod MemberTypes
-pub mod EarliestNotes
-pub mod RangeEnds
 pub mod TypeViolations
 pub mod DefinitionViolations

@@ -26,8 +26,6 @@ mod overload_counts;
 mod owner_members;
 mod owners;
 mod promise_overloads;
-mod range_annotations;
-mod range_ends;
 mod related_interfaces;
 mod repeated_members;
 mod resolved_uses;

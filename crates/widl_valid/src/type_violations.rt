@@ -6,11 +6,10 @@
 ghost use Rattle.std.specs.Prelude.{◌≡◌, map, IfOk};
 ghost use Rattle.widl_idl.specs.PlainTrees.{plain_definitions};
 ghost use Rattle.widl_valid.specs.Lineages.{TellRelated};
-ghost use Rattle.widl_valid.specs.RangeEnds.{AreChains};
 ghost use Rattle.widl_valid.specs.TypeViolations.{AreTypeViolations, earlier_violations, no_violations};
 ghost use Rattle.widl_valid.specs.UsesListed.{all_uses, resolved_use};
 
-use crate::clamp_rules::{TypedefChains, first_clamp_and_enforce};
+use crate::clamp_rules::first_clamp_and_enforce;
 use crate::lineages::Lineages;
 use crate::resolved_uses::{ResolvedUse, resolve_uses};
 use crate::type_rules::{
@@ -65,13 +64,12 @@ pub fn find_in_types<'a>(
     ensures { IfOk result (AreTypeViolations defs.now.ifaces (plain_definitions meanings.now) (all_uses (plain_definitions meanings.now))) }
 {
     let lineages = Lineages::of(alloc, defs)?;
-    let chains = TypedefChains::of(alloc, meanings)?;
     let mut best = TypeViolations::none();
     let definitions = meanings.all();
     for definition in definitions {
         let resolved = resolve_uses(alloc, resolver, &definition.kind)?;
         let uses = resolved.as_slice();
-        let found = find_in_uses(alloc, defs, &lineages, meanings, &chains, uses)?;
+        let found = find_in_uses(alloc, defs, &lineages, resolver, uses)?;
         best = earlier_violations(best, found);
     }
     Ok(best)
@@ -82,13 +80,11 @@ fn find_in_uses<'a>(
     alloc: Global,
     defs: &Defs,
     lineages: &Lineages,
-    meanings: &Meanings<'_, 'a>,
-    chains: &TypedefChains<'a>,
+    resolver: &Resolver<'_, '_, 'a>,
     uses: &[ResolvedUse<'a>],
 ) -> Result<TypeViolations, AllocError>
-    requires lineages { TellRelated defs.now.ifaces lineages.now.spans.items }
-    requires chains { AreChains (plain_definitions meanings.now) chains.now.ends.items chains.now.levels }
-    ensures { IfOk result (AreTypeViolations defs.now.ifaces (plain_definitions meanings.now) (map resolved_use uses.now)) }
+    requires { TellRelated defs.now.ifaces lineages.now.spans.items }
+    ensures { IfOk result (AreTypeViolations defs.now.ifaces (plain_definitions resolver.now) (map resolved_use uses.now)) }
 {
     let indistinguishable_union = first_indistinguishable_union(alloc, defs, lineages, uses)?;
     Ok(TypeViolations {
@@ -101,7 +97,7 @@ fn find_in_uses<'a>(
         annotated_member: first_annotated_member(uses),
         nullable_dictionary: first_nullable_dictionary(uses),
         misplaced_annotation: first_misplaced_annotation(uses),
-        clamp_and_enforce: first_clamp_and_enforce(meanings, chains, uses),
+        clamp_and_enforce: first_clamp_and_enforce(resolver, uses),
         indistinguishable_union,
     })
 }

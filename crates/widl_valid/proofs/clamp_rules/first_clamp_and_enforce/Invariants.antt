@@ -6,4 +6,4 @@ use Rattle.widl_valid.specs.UsesListed.{UseTerm, resolved_use}
 use Rattle.widl_valid.proofs.clamp_rules.first_clamp_and_enforce.Given as goal
 
 abbrev pub invariant-loop-ty : goal.invariant-loop-ty
-invariant-loop-ty l = FirstWhere (Somewhere (λ (r : UseTerm). HasClampAndEnforceRange (plain_definitions l.fn.meanings) r.written) (take l.ty-index (map resolved_use l.uses))) l.best
+invariant-loop-ty l = FirstWhere (Somewhere (λ (r : UseTerm). HasClampAndEnforceRange (plain_definitions l.fn.resolver) r.written) (take l.ty-index (map resolved_use l.uses))) l.best

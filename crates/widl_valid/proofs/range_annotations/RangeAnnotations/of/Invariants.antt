@@ -1,8 +1,0 @@
-use Rattle.std.proofs.Common.{take, map}
-use Rattle.widl_idl.specs.PlainTypes.{attribute_of}
-use Rattle.widl_idl.specs.WrittenTypes.{notes_of}
-use Rattle.widl_valid.specs.EarliestNotes.{AreEarliest}
-use Rattle.widl_valid.proofs.range_annotations.RangeAnnotations.of.Given as goal
-
-abbrev pub invariant-loop-attribute : goal.invariant-loop-attribute
-invariant-loop-attribute l = AreEarliest l.said (notes_of (map attribute_of (take l.attribute-index l.attributes)))

@@ -1,6 +1,0 @@
-use Rattle.widl_idl.specs.PlainTrees.{plain_definitions}
-use Rattle.widl_valid.specs.RangeEnds.{AreEnds}
-use Rattle.widl_valid.proofs.range_ends.range_ends.Given as goal
-
-abbrev pub invariant-loop-number : goal.invariant-loop-number
-invariant-loop-number l = AreEnds (plain_definitions l.meanings) l.ends.items
