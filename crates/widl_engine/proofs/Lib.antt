@@ -22,3 +22,4 @@ pub mod RunnableTables
 pub mod WholeRuns
 pub mod TraceEnds
 pub mod ValuesAtOnce
+pub mod FewBindings

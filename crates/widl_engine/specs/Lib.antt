@@ -14,3 +14,4 @@ pub mod Output
 pub mod Stepping
 pub mod Outcomes
 pub mod Stops
+pub mod Bound

@@ -22,6 +22,7 @@ mod errors;
 mod expressions;
 mod frames;
 mod globals;
+mod indexed_bindings;
 mod jobs;
 mod looks;
 mod machine;
