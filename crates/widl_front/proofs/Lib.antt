@@ -3,5 +3,10 @@ mod OneFinding
 mod OneText
 mod OneVerdict
 mod TokenCounts
+mod WrittenTokens
 mod DefinitionCounts
 mod Trees
+mod Ways
+mod NodeParts
+mod KnownDepths
+mod MeantLevels

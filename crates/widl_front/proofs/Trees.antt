@@ -15,6 +15,7 @@ use Rattle.widl_idl.specs.MergedSets.{AreFiles, IsMerged, MergedSet}
 use Rattle.widl_idl.specs.MergingRules.{BreaksMerging}
 use Rattle.widl_idl.specs.PlainTrees.{PlainDefinition}
 use Rattle.widl_idl.specs.Profile.{BreaksProfile}
+use Rattle.widl_merge.specs.Countable.{IsCountable}
 use Rattle.widl_merge.specs.Refusals.{IsRefusal}
 use Rattle.widl_overload.specs.Validity.{IsValid}
 use Rattle.widl_valid.specs.Invalidity.{IsInvalidity}
@@ -27,7 +28,7 @@ use Rattle.widl_front.specs.declared.verdict.Verdict.{Verdict}
 use Rattle.widl_front.specs.declared.verdict.Verdict.TheVariants.{Fault, Broken, Accepted}
 use Rattle.widl_front.proofs.Found.{size_before}
 use Rattle.widl_front.proofs.TokenCounts.{tokens_fit}
-use Rattle.widl_front.proofs.DefinitionCounts.{definitions_fit}
+use Rattle.widl_front.proofs.DefinitionCounts.{definitions_fit, written_fits}
 
 no_finding : {X : Type 0} {x : X} → ◌≡◌ {A = Option X} (Some x) None → ⊥
 no_finding e = (cc)
@@ -93,6 +94,11 @@ found_files texts trees None few short is so = record {
   definitions = definitions_fit texts trees few short so;
 }
 found_files texts trees (Some finding) few short is so = absurd (no_finding is)
+
+-- and 32 bits can count what is written in them
+pub found_countable : (texts : List (List ℕ)) (trees : List Fragment) (found : Option Finding) → length texts ≤ most_files → AreShort texts → found ≡ None → TreesUnless texts trees found → IsCountable (definitions_of trees)
+found_countable texts trees None few short is so = written_fits texts trees few short so
+found_countable texts trees (Some finding) few short is so = absurd (no_finding is)
 
 rules_found : (texts : List (List ℕ)) (trees : List Fragment) (found : Option Finding) (refusal : Option Refusal) → found ≡ None → IsFoundIn texts found → TreesUnless texts trees found → IsTreeRefusal trees refusal → FindsRefusal texts refusal
 rules_found texts trees None refusal is formed so kept = record { formed = formed; trees = trees; trees_are = so; refusal_is = kept }

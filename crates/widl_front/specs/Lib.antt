@@ -2,3 +2,4 @@ pub mod Findings
 pub mod Steps
 pub mod Texts
 pub mod Verdicts
+pub mod TypeLevels

@@ -5,7 +5,9 @@ ghost use Rattle.widl_front.specs.Findings.{IsFileFinding, IsFoundIn};
 ghost use Rattle.widl_front.specs.Steps.{AddsTree, BreaksEncoding, IsTreeVerdict, KeepsEncoding, TreesUnless};
 ghost use Rattle.widl_front.specs.Texts.{AreShort};
 ghost use Rattle.widl_front.specs.Verdicts.{IsVerdict};
+ghost use Rattle.widl_idl.specs.Meanings.{definitions_of};
 ghost use Rattle.widl_idl.specs.MergedSets.{AreFiles, IsMerged};
+ghost use Rattle.widl_merge.specs.Countable.{IsCountable};
 ghost use Rattle.widl_text.specs.Limits.{most_files};
 
 use crate::finding::Finding;
@@ -24,8 +26,8 @@ use widl_valid::{ValidFault, validate};
 ///
 /// # Errors
 ///
-/// `AllocError` where there is no memory, also where the work on types takes more steps, or the merged list
-/// more numbers, than `merge` and `validate` allow.
+/// `AllocError` where there is no memory, also where the work on types takes more steps than `merge` and
+/// `validate` allow.
 pub fn judge(alloc: Global, texts: &Texts) -> Result<Verdict, AllocError>
     requires few { length texts.now ≤ most_files }
     requires short { AreShort texts.now }
@@ -44,7 +46,8 @@ pub fn judge(alloc: Global, texts: &Texts) -> Result<Verdict, AllocError>
 ///
 /// `AllocError` as for [`judge`].
 fn judge_trees(alloc: Global, trees: Fragments) -> Result<Verdict, AllocError>
-    requires { AreFiles trees }
+    requires files { AreFiles trees }
+    requires countable { IsCountable (definitions_of trees) }
     ensures { IfOk result (λ verdict. IsTreeVerdict trees verdict) }
 {
     match merge(alloc, trees) {

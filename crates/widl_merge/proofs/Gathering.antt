@@ -1,10 +1,9 @@
 -- The members of an interface or a namespace, gathered a member at a time.
-use Rattle.std.proofs.Common.{◌≡◌, ◌⊎◌, inl, inr, ℕ, ◌+◌, ◌<◌, ◌++◌, Bool, true, false, cond, ◌&&◌, bytes_eq, List, [], ◌∷◌, length, take, map, get_or, Option, None, Some, is_some, option_map, arith, refl, sym, ap, subst, ◌∙◌, append_assoc, Bor}
-use Rattle.std.specs.List.{All}
+use Rattle.std.proofs.Common.{◌≡◌, ◌⊎◌, inl, inr, ℕ, ◌+◌, ◌<◌, ◌≤◌, ◌^◌, ◌++◌, Bool, true, false, cond, ◌&&◌, bytes_eq, List, [], ◌∷◌, length, take, map, get_or, Option, None, Some, is_some, option_map, arith, refl, sym, ap, subst, ◌∙◌, append_assoc, Bor}
 use Rattle.std.specs.Cmp.Lexicographic.{bytes_decides}
 use Rattle.std.specs.Option.{option_or}
 use Rattle.std.proofs.lemmas.List.{append-nil, length-map, map-append}
-use Rattle.std.proofs.lemmas.List.Elements.{All-push}
+use Rattle.std.proofs.lemmas.Option.{slice_get_within}
 use Rattle.widl_text.specs.declared.place.Place.{Place}
 use Rattle.widl_idl.specs.declared.attribute.Attr.{Attr}
 use Rattle.widl_idl.specs.declared.constant.Constant.{Constant}
@@ -21,35 +20,28 @@ use Rattle.widl_idl.specs.declared.tree.iterables.Setlike.{Setlike}
 use Rattle.widl_idl.specs.declared.tree.members.Member.{Member}
 use Rattle.widl_idl.specs.declared.tree.members.MemberKind.{MemberKind}
 use Rattle.widl_idl.specs.declared.tree.members.MemberKind.TheVariants as member_kind
-use Rattle.widl_idl.specs.Counts.{AnyItem, NumberedAttr, NumberedConstant, NumberedOp, NumberedPairs, NumberedSig}
 use Rattle.widl_idl.specs.DefinitionTerms.{attr_term, constant_term, op_name_term, pair_term, sig_term}
-use Rattle.widl_idl.specs.MergedMembers.{attr_of, attribute_in, attributes_in, constant_in, constant_of, constants_in, constructor_in, constructors_of, firsts_after, has, is_pair, is_pair_iterable, is_stringifier_attribute, op_names_of, operation_in, operation_text, operations_in, pair_in, pair_of, pairs_of, sig_of_operation, slots_after, slots_of_kind, slots_of_stringifier, stringifier_from, stringify_kind}
+use Rattle.widl_idl.specs.MergedMembers.{attr_of, attribute_in, attributes_in, constant_in, constant_of, constants_in, constructor_in, constructors_of, firsts_after, has, is_pair, is_pair_iterable, is_stringifier_attribute, op_name_of, op_names_of, operation_in, operation_text, operations_in, pair_in, pair_of, pairs_of, sig_of_operation, slots_after, slots_of_kind, slots_of_stringifier, stringifier_from, stringify_kind}
 use Rattle.widl_idl.specs.MergingRules.{both_or_none, is_static}
 use Rattle.widl_idl.specs.PlainTypes.{PlainAnnotated, PlainAttribute, attribute_of}
 use Rattle.widl_idl.specs.PlainTrees.{PlainAttributeMember, PlainConstant, PlainConstructor, PlainDefinition, PlainIterable, PlainMember, PlainMemberKind, PlainOperation, ConstantMember, AttributeMember, OperationMember, ConstructorMember, StringifierMember, IterableMember, AsyncIterableMember, MaplikeMember, SetlikeMember, member_kind_of, member_of}
 use Rattle.widl_idl.specs.WrittenLiterals.{units_of}
 use Rattle.widl_names.proofs.PlainLists.{mapped_more}
 use Rattle.widl_merge.specs.declared.merged_members.MergedMembers.{MergedMembers}
-use Rattle.widl_merge.specs.PutTogether.{AreNumbers, ArePutTogether, Gathered, GetsStringifier, HasName, HasOverload, Means, first_stringifier, is_named, stringifier_slots, this_slot}
+use Rattle.widl_merge.specs.PutTogether.{AreNumbers, ArePutTogether, Gathered, GetsStringifier, HasName, HasOverload, HasRoom, first_stringifier, is_named, stringifier_slots}
+use Rattle.widl_merge.proofs.NumberedMembers.{few_firsts}
+use Rattle.widl_merge.proofs.WrittenParts.{found_few}
 use Rattle.widl_merge.proofs.FirstOperations.{numbers_known, numbers_new, seen}
 use Rattle.widl_merge.proofs.OperationTerms.{known_means, new_means}
 use Rattle.widl_merge.proofs.MemberSteps.{has_pairs, none_more, one_more, pairs_push, slots_push, stringifier_push, stringifier_slot}
 use Rattle.widl_names.specs.Listings.{listed_members}
 
-this_all : (l : List Slot) → map this_slot l ≡ l
-this_all [] = refl
-this_all (x ∷ l) = ap (λ r. x ∷ r) (this_all l)
-
--- the same terms
-means_same : {X T : Type 0} (term : X → T) (P : X → Type 0) (xs : List X) (ts us : List T) → ts ≡ us → Means term P xs ts → Means term P xs us
-means_same term P xs ts us e m = record { terms = m.terms ∙ e; numbered = m.numbered }
-
 -- an item more
-means_more : {X T : Type 0} (term : X → T) (P : X → Type 0) (xs new : List X) (x : X) (ts : List T) (t : T) → new ≡ xs ++ x ∷ [] → length new < 4294967296 → term x ≡ t → P x → Means term P xs ts → Means term P new (ts ++ t ∷ [])
-means_more term P xs new x ts t grown few is p m = record {
-  terms = ap (map term) grown ∙ map-append term xs (x ∷ []) ∙ ap (λ l. l ++ term x ∷ []) m.terms ∙ ap (λ u. ts ++ u ∷ []) is;
-  numbered = record { few = few; each = subst (All P) (sym grown) (All-push P xs x m.numbered.each p) };
-}
+terms_more : {X T : Type 0} (term : X → T) (xs new : List X) (x : X) (ts : List T) (t : T) → new ≡ xs ++ x ∷ [] → term x ≡ t → map term xs ≡ ts → map term new ≡ ts ++ t ∷ []
+terms_more term xs new x ts t grown is so = ap (map term) grown ∙ map-append term xs (x ∷ []) ∙ ap (λ l. l ++ term x ∷ []) so ∙ ap (λ u. ts ++ u ∷ []) is
+
+slots_more : (xs new : List Slot) (x : Slot) (ts : List Slot) (t : Slot) → new ≡ xs ++ x ∷ [] → x ≡ t → xs ≡ ts → new ≡ ts ++ t ∷ []
+slots_more xs new x ts t grown is so = grown ∙ ap (λ l. l ++ x ∷ []) so ∙ ap (λ u. ts ++ u ∷ []) is
 
 module _ (definitions : List PlainDefinition) (members : List PlainMember) (m : PlainMember) where
   abbrev grown : List PlainMember
@@ -99,14 +91,13 @@ pub nothing_more : (definitions : List PlainDefinition) (members : List PlainMem
     → stringify_kind (length (attributes_in members)) m.kind stringify.No stringify.No ≡ stringify.No → slots_of_kind members m.kind ≡ []
     → Gathered definitions members old number → Gathered definitions (members ++ m ∷ []) old number
 nothing_more definitions members m old number o a k c p s l g = record {
-  ctors = means_same sig_term NumberedSig old.ctors _ _ (constructors_same definitions members m c) g.ctors;
-  ops = means_same op_name_term NumberedOp old.ops _ _ (ap (op_names_of definitions) (operations_same definitions members m o)) g.ops;
-  attrs = means_same attr_term NumberedAttr old.attrs _ _ (attributes_same definitions members m a) g.attrs;
-  consts = means_same constant_term NumberedConstant old.consts _ _ (constants_same definitions members m k) g.consts;
-  order = means_same this_slot AnyItem old.order _ _ (order_same definitions members m l) g.order;
+  ctors = g.ctors ∙ constructors_same definitions members m c;
+  ops = g.ops ∙ ap (op_names_of definitions) (operations_same definitions members m o);
+  attrs = g.attrs ∙ attributes_same definitions members m a;
+  consts = g.consts ∙ constants_same definitions members m k;
+  order = g.order ∙ order_same definitions members m l;
   text = g.text ∙ text_same definitions members m s;
   pairs = g.pairs ∙ p;
-  numbered_pairs = g.numbered_pairs;
   numbers = subst (λ os. AreNumbers os number) (operations_same definitions members m o) g.numbers;
 }
 
@@ -114,63 +105,56 @@ module _ (definitions : List PlainDefinition) (members : List PlainMember) (attr
   abbrev with_kind : PlainMemberKind → PlainMember
   with_kind kind = record { attributes = attributes; kind = kind }
 
-  pub constructor_more : (c : PlainConstructor) (sig : Sig) (ctors : List Sig) → ctors ≡ old.ctors ++ sig ∷ [] → length ctors < 4294967296 → Some (sig_term sig) ≡ constructor_in definitions (ConstructorMember c) → NumberedSig sig
+  pub constructor_more : (c : PlainConstructor) (sig : Sig) (ctors : List Sig) → ctors ≡ old.ctors ++ sig ∷ [] → Some (sig_term sig) ≡ constructor_in definitions (ConstructorMember c)
       → Gathered definitions (members ++ with_kind (ConstructorMember c) ∷ []) (record { ctors = ctors; ops = old.ops; attrs = old.attrs; consts = old.consts; text = old.text; pairs = old.pairs; order = old.order }) number
-  constructor_more c sig ctors e few is numbered = let m = with_kind (ConstructorMember c) in record {
-    ctors = means_same sig_term NumberedSig ctors _ _ (sym (one_more (λ (x : PlainMember). constructor_in definitions x.kind) members m (sig_term sig) (sym is))) (means_more sig_term NumberedSig old.ctors ctors sig _ (sig_term sig) e few refl numbered g.ctors);
-    ops = means_same op_name_term NumberedOp old.ops _ _ (ap (op_names_of definitions) (operations_same definitions members m refl)) g.ops;
-    attrs = means_same attr_term NumberedAttr old.attrs _ _ (attributes_same definitions members m refl) g.attrs;
-    consts = means_same constant_term NumberedConstant old.consts _ _ (constants_same definitions members m refl) g.consts;
-    order = means_same this_slot AnyItem old.order _ _ (order_same definitions members m refl) g.order;
+  constructor_more c sig ctors e is = let m = with_kind (ConstructorMember c) in record {
+    ctors = terms_more sig_term old.ctors ctors sig _ (sig_term sig) e refl g.ctors ∙ sym (one_more (λ (x : PlainMember). constructor_in definitions x.kind) members m (sig_term sig) (sym is));
+    ops = g.ops ∙ ap (op_names_of definitions) (operations_same definitions members m refl);
+    attrs = g.attrs ∙ attributes_same definitions members m refl;
+    consts = g.consts ∙ constants_same definitions members m refl;
+    order = g.order ∙ order_same definitions members m refl;
     text = g.text ∙ text_same definitions members m refl;
     pairs = g.pairs ∙ pairs_same definitions members m refl;
-    numbered_pairs = g.numbered_pairs;
     numbers = subst (λ os. AreNumbers os number) (operations_same definitions members m refl) g.numbers;
   }
 
   -- how many there are
   constant_count : length old.consts ≡ length (constants_in members)
-  constant_count = sym (length-map old.consts constant_term) ∙ ap length g.consts.terms ∙ length-map (constants_in members) (constant_of definitions)
+  constant_count = sym (length-map old.consts constant_term) ∙ ap length g.consts ∙ length-map (constants_in members) (constant_of definitions)
 
   attribute_count : length old.attrs ≡ length (attributes_in members)
-  attribute_count = sym (length-map old.attrs attr_term) ∙ ap length g.attrs.terms ∙ length-map (attributes_in members) (attr_of definitions)
+  attribute_count = sym (length-map old.attrs attr_term) ∙ ap length g.attrs ∙ length-map (attributes_in members) (attr_of definitions)
 
   operation_count : length old.ops ≡ length (firsts_after [] (operations_in members))
-  operation_count = sym (length-map old.ops op_name_term) ∙ ap length g.ops.terms ∙ length-map (firsts_after [] (operations_in members)) _
+  operation_count = sym (length-map old.ops op_name_term) ∙ ap length g.ops ∙ length-map (firsts_after [] (operations_in members)) _
 
-  pub constant_more : (k : PlainConstant) (constant : Constant) (consts : List Constant) (order : List Slot) (place : ℕ) → consts ≡ old.consts ++ constant ∷ [] → length consts < 4294967296 → constant_term constant ≡ constant_of definitions k → NumberedConstant constant
-      → place ≡ length old.consts → order ≡ old.order ++ slot.Constant place ∷ [] → length order < 4294967296
+  pub constant_more : (k : PlainConstant) (constant : Constant) (consts : List Constant) (order : List Slot) (place : ℕ) → consts ≡ old.consts ++ constant ∷ [] → constant_term constant ≡ constant_of definitions k
+      → place ≡ length old.consts → order ≡ old.order ++ slot.Constant place ∷ []
       → Gathered definitions (members ++ with_kind (ConstantMember k) ∷ []) (record { ctors = old.ctors; ops = old.ops; attrs = old.attrs; consts = consts; text = old.text; pairs = old.pairs; order = order }) number
-  constant_more k constant consts order place e few is numbered at f few_slots = let m = with_kind (ConstantMember k) in record {
-    ctors = means_same sig_term NumberedSig old.ctors _ _ (constructors_same definitions members m refl) g.ctors;
-    ops = means_same op_name_term NumberedOp old.ops _ _ (ap (op_names_of definitions) (operations_same definitions members m refl)) g.ops;
-    attrs = means_same attr_term NumberedAttr old.attrs _ _ (attributes_same definitions members m refl) g.attrs;
-    consts = means_same constant_term NumberedConstant consts _ _
-        (sym (ap (map (constant_of definitions)) (one_more (λ (x : PlainMember). constant_in x.kind) members m k refl) ∙ map-append (constant_of definitions) (constants_in members) (k ∷ [])))
-        (means_more constant_term NumberedConstant old.consts consts constant _ (constant_of definitions k) e few is numbered g.consts);
-    order = means_same this_slot AnyItem order _ _ (sym (slots_push members m)) (means_more this_slot AnyItem old.order order (slot.Constant place) _ (slot.Constant (length (constants_in members))) f few_slots (ap slot.Constant (at ∙ constant_count)) tt g.order);
+  constant_more k constant consts order place e is at f = let m = with_kind (ConstantMember k) in record {
+    ctors = g.ctors ∙ constructors_same definitions members m refl;
+    ops = g.ops ∙ ap (op_names_of definitions) (operations_same definitions members m refl);
+    attrs = g.attrs ∙ attributes_same definitions members m refl;
+    consts = terms_more constant_term old.consts consts constant _ (constant_of definitions k) e is g.consts ∙ sym (ap (map (constant_of definitions)) (one_more (λ (x : PlainMember). constant_in x.kind) members m k refl) ∙ map-append (constant_of definitions) (constants_in members) (k ∷ []));
+    order = slots_more old.order order (slot.Constant place) _ (slot.Constant (length (constants_in members))) f (ap slot.Constant (at ∙ constant_count)) g.order ∙ sym (slots_push members m);
     text = g.text ∙ text_same definitions members m refl;
     pairs = g.pairs ∙ pairs_same definitions members m refl;
-    numbered_pairs = g.numbered_pairs;
     numbers = subst (λ os. AreNumbers os number) (operations_same definitions members m refl) g.numbers;
   }
 
   -- of an attribute that is no stringifier, and of one that is
-  pub attribute_more : (a : PlainAttributeMember) (attr : Attr) (attrs : List Attr) (order slots : List Slot) (text : Stringify) (place : ℕ) → attrs ≡ old.attrs ++ attr ∷ [] → length attrs < 4294967296
-      → attr_term attr ≡ attr_of definitions (record { attributes = attributes; attribute = a }) → NumberedAttr attr → place ≡ length old.attrs → slots ≡ old.order ++ slot.Attr place ∷ [] → length slots < 4294967296
-      → (b : Bool) → is_stringifier_attribute a.kind ≡ b → text ≡ first_stringifier old.text (cond b (stringify.Attr place) stringify.No) → order ≡ slots ++ cond b (stringifier_slots old.text) [] → length order < 4294967296
+  pub attribute_more : (a : PlainAttributeMember) (attr : Attr) (attrs : List Attr) (order slots : List Slot) (text : Stringify) (place : ℕ) → attrs ≡ old.attrs ++ attr ∷ []
+      → attr_term attr ≡ attr_of definitions (record { attributes = attributes; attribute = a }) → place ≡ length old.attrs → slots ≡ old.order ++ slot.Attr place ∷ []
+      → (b : Bool) → is_stringifier_attribute a.kind ≡ b → text ≡ first_stringifier old.text (cond b (stringify.Attr place) stringify.No) → order ≡ slots ++ cond b (stringifier_slots old.text) []
       → Gathered definitions (members ++ with_kind (AttributeMember a) ∷ []) (record { ctors = old.ctors; ops = old.ops; attrs = attrs; consts = old.consts; text = text; pairs = old.pairs; order = order }) number
-  attribute_more a attr attrs order slots text place e few is numbered at f few_slots b kind said rest few_order = record {
-    ctors = means_same sig_term NumberedSig old.ctors _ _ (constructors_same definitions members m refl) g.ctors;
-    ops = means_same op_name_term NumberedOp old.ops _ _ (ap (op_names_of definitions) (operations_same definitions members m refl)) g.ops;
-    attrs = means_same attr_term NumberedAttr attrs _ _
-        (sym (ap (map (attr_of definitions)) (one_more (λ (x : PlainMember). attribute_in x.attributes x.kind) members m (record { attributes = attributes; attribute = a }) refl) ∙ map-append (attr_of definitions) (attributes_in members) (record { attributes = attributes; attribute = a } ∷ [])))
-        (means_more attr_term NumberedAttr old.attrs attrs attr _ (attr_of definitions (record { attributes = attributes; attribute = a })) e few is numbered g.attrs);
-    consts = means_same constant_term NumberedConstant old.consts _ _ (constants_same definitions members m refl) g.consts;
-    order = record { terms = slots_are; numbered = record { few = few_order; each = λ j d below. tt } };
+  attribute_more a attr attrs order slots text place e is at f b kind said rest = record {
+    ctors = g.ctors ∙ constructors_same definitions members m refl;
+    ops = g.ops ∙ ap (op_names_of definitions) (operations_same definitions members m refl);
+    attrs = terms_more attr_term old.attrs attrs attr _ (attr_of definitions (record { attributes = attributes; attribute = a })) e is g.attrs ∙ sym (ap (map (attr_of definitions)) (one_more (λ (x : PlainMember). attribute_in x.attributes x.kind) members m (record { attributes = attributes; attribute = a }) refl) ∙ map-append (attr_of definitions) (attributes_in members) (record { attributes = attributes; attribute = a } ∷ []));
+    consts = g.consts ∙ constants_same definitions members m refl;
+    order = slots_are;
     text = text_is;
     pairs = g.pairs ∙ pairs_same definitions members m refl;
-    numbered_pairs = g.numbered_pairs;
     numbers = subst (λ os. AreNumbers os number) (operations_same definitions members m refl) g.numbers;
   }
     where
@@ -188,46 +172,40 @@ module _ (definitions : List PlainDefinition) (members : List PlainMember) (attr
       stringifier_slots_are true = ap stringifier_slots g.text ∙ stringifier_slot members
       stringifier_slots_are false = refl
 
-      slots_are : map this_slot order ≡ slots_after [] (members ++ m ∷ [])
+      slots_are : order ≡ slots_after [] (members ++ m ∷ [])
       slots_are =
-          this_all order ∙ rest ∙ ap (λ l. l ++ cond b (stringifier_slots old.text) []) (f ∙ ap (λ n. old.order ++ slot.Attr n ∷ []) (at ∙ attribute_count))
+          rest ∙ ap (λ l. l ++ cond b (stringifier_slots old.text) []) (f ∙ ap (λ n. old.order ++ slot.Attr n ∷ []) (at ∙ attribute_count))
           ∙ ap (λ c. (old.order ++ slot.Attr (length (attributes_in members)) ∷ []) ++ cond c (stringifier_slots old.text) []) (sym kind)
           ∙ ap (λ l. (old.order ++ slot.Attr (length (attributes_in members)) ∷ []) ++ l) (stringifier_slots_are (is_stringifier_attribute a.kind))
           ∙ (append_assoc old.order (slot.Attr (length (attributes_in members)) ∷ []) (slots_of_stringifier members (is_stringifier_attribute a.kind)))
-          ∙ ap (λ l. l ++ slot.Attr (length (attributes_in members)) ∷ slots_of_stringifier members (is_stringifier_attribute a.kind)) (sym (this_all old.order) ∙ g.order.terms)
+          ∙ ap (λ l. l ++ slot.Attr (length (attributes_in members)) ∷ slots_of_stringifier members (is_stringifier_attribute a.kind)) g.order
           ∙ sym (slots_push members m)
 
   -- an attribute that is no stringifier
-  pub plain_attribute : (a : PlainAttributeMember) (attr : Attr) (attrs : List Attr) (order : List Slot) (place : ℕ) → attrs ≡ old.attrs ++ attr ∷ [] → length attrs < 4294967296
-      → attr_term attr ≡ attr_of definitions (record { attributes = attributes; attribute = a }) → NumberedAttr attr → place ≡ length old.attrs → order ≡ old.order ++ slot.Attr place ∷ [] → length order < 4294967296 → is_stringifier_attribute a.kind ≡ false
+  pub plain_attribute : (a : PlainAttributeMember) (attr : Attr) (attrs : List Attr) (order : List Slot) (place : ℕ) → attrs ≡ old.attrs ++ attr ∷ []
+      → attr_term attr ≡ attr_of definitions (record { attributes = attributes; attribute = a }) → place ≡ length old.attrs → order ≡ old.order ++ slot.Attr place ∷ [] → is_stringifier_attribute a.kind ≡ false
       → Gathered definitions (members ++ with_kind (AttributeMember a) ∷ []) (record { ctors = old.ctors; ops = old.ops; attrs = attrs; consts = old.consts; text = old.text; pairs = old.pairs; order = order }) number
-  plain_attribute a attr attrs order place e few is numbered at f few_slots kind =
-      attribute_more a attr attrs order order old.text place e few is numbered at f few_slots false kind (sym (first_stays definitions members (with_kind (AttributeMember a)) old.text)) (sym (append-nil order)) few_slots
+  plain_attribute a attr attrs order place e is at f kind =
+      attribute_more a attr attrs order order old.text place e is at f false kind (sym (first_stays definitions members (with_kind (AttributeMember a)) old.text)) (sym (append-nil order))
 
   -- and one that is
-  pub text_attribute : (a : PlainAttributeMember) (attr : Attr) (attrs : List Attr) (slots : List Slot) (place : ℕ) (new : MergedMembers) → attrs ≡ old.attrs ++ attr ∷ [] → length attrs < 4294967296
-      → attr_term attr ≡ attr_of definitions (record { attributes = attributes; attribute = a }) → NumberedAttr attr → place ≡ length old.attrs → slots ≡ old.order ++ slot.Attr place ∷ [] → length slots < 4294967296 → is_stringifier_attribute a.kind ≡ true
+  pub text_attribute : (a : PlainAttributeMember) (attr : Attr) (attrs : List Attr) (slots : List Slot) (place : ℕ) (new : MergedMembers) → attrs ≡ old.attrs ++ attr ∷ []
+      → attr_term attr ≡ attr_of definitions (record { attributes = attributes; attribute = a }) → place ≡ length old.attrs → slots ≡ old.order ++ slot.Attr place ∷ [] → is_stringifier_attribute a.kind ≡ true
       → GetsStringifier (record { ctors = old.ctors; ops = old.ops; attrs = attrs; consts = old.consts; text = old.text; pairs = old.pairs; order = slots }) new (stringify.Attr place)
       → Gathered definitions (members ++ with_kind (AttributeMember a) ∷ []) new number
-  text_attribute a attr attrs slots place new e few is numbered at f few_slots kind gets = subst (λ n. Gathered definitions (members ++ with_kind (AttributeMember a) ∷ []) n number) (sym gets.members)
-      (attribute_more a attr attrs (slots ++ stringifier_slots old.text) slots (first_stringifier old.text (stringify.Attr place)) place e few is numbered at f few_slots true kind refl refl
-      (subst (λ n. length n.order < 4294967296) gets.members (gets.few few_slots)))
+  text_attribute a attr attrs slots place new e is at f kind gets = subst (λ n. Gathered definitions (members ++ with_kind (AttributeMember a) ∷ []) n number) (sym gets)
+      (attribute_more a attr attrs (slots ++ stringifier_slots old.text) slots (first_stringifier old.text (stringify.Attr place)) place e is at f true kind refl refl)
 
   -- a stringifier without an attribute
   pub stringifier_more : (place : Place) (new : MergedMembers) → GetsStringifier old new stringify.Plain → Gathered definitions (members ++ with_kind (StringifierMember place) ∷ []) new number
-  stringifier_more place new gets = let m = with_kind (StringifierMember place) in subst (λ n. Gathered definitions (members ++ m ∷ []) n number) (sym gets.members) (record {
-    ctors = means_same sig_term NumberedSig old.ctors _ _ (constructors_same definitions members m refl) g.ctors;
-    ops = means_same op_name_term NumberedOp old.ops _ _ (ap (op_names_of definitions) (operations_same definitions members m refl)) g.ops;
-    attrs = means_same attr_term NumberedAttr old.attrs _ _ (attributes_same definitions members m refl) g.attrs;
-    consts = means_same constant_term NumberedConstant old.consts _ _ (constants_same definitions members m refl) g.consts;
-    order = record {
-      terms = this_all (old.order ++ stringifier_slots old.text) ∙ ap (λ l. old.order ++ l) (ap stringifier_slots g.text ∙ stringifier_slot members)
-          ∙ ap (λ l. l ++ slots_of_stringifier members true) (sym (this_all old.order) ∙ g.order.terms) ∙ sym (slots_push members m);
-      numbered = record { few = subst (λ n. length n.order < 4294967296) gets.members (gets.few g.order.numbered.few); each = λ j d below. tt };
-    };
+  stringifier_more place new gets = let m = with_kind (StringifierMember place) in subst (λ n. Gathered definitions (members ++ m ∷ []) n number) (sym gets) (record {
+    ctors = g.ctors ∙ constructors_same definitions members m refl;
+    ops = g.ops ∙ ap (op_names_of definitions) (operations_same definitions members m refl);
+    attrs = g.attrs ∙ attributes_same definitions members m refl;
+    consts = g.consts ∙ constants_same definitions members m refl;
+    order = ap (λ l. old.order ++ l) (ap stringifier_slots g.text ∙ stringifier_slot members) ∙ ap (λ l. l ++ slots_of_stringifier members true) g.order ∙ sym (slots_push members m);
     text = ap (λ s. first_stringifier s stringify.Plain) g.text ∙ sym (stringifier_push members m);
     pairs = g.pairs ∙ pairs_same definitions members m refl;
-    numbered_pairs = g.numbered_pairs;
     numbers = subst (λ os. AreNumbers os number) (operations_same definitions members m refl) g.numbers;
   })
 
@@ -264,20 +242,17 @@ module _ (definitions : List PlainDefinition) (members : List PlainMember) (attr
       (ap (λ b. cond b (cond (has is_pair_iterable members) [] (slot.Pairs ∷ [])) []) (pair_second i.first i.second ∙ ap is_some (sym none))) g
 
   -- the first pair iterable
-  pub first_iterable : (i : PlainIterable) (pair : Pair) (order : List Slot) → old.pairs ≡ None → Some (pair_term pair) ≡ pair_of definitions i.first i.second → NumberedPairs (Some pair) → order ≡ old.order ++ slot.Pairs ∷ [] → length order < 4294967296
+  pub first_iterable : (i : PlainIterable) (pair : Pair) (order : List Slot) → old.pairs ≡ None → Some (pair_term pair) ≡ pair_of definitions i.first i.second → order ≡ old.order ++ slot.Pairs ∷ []
       → Gathered definitions (members ++ with_kind (IterableMember i) ∷ []) (record { ctors = old.ctors; ops = old.ops; attrs = old.attrs; consts = old.consts; text = old.text; pairs = Some pair; order = order }) number
-  first_iterable i pair order none is numbered e few = let m = with_kind (IterableMember i) in record {
-    ctors = means_same sig_term NumberedSig old.ctors _ _ (constructors_same definitions members m refl) g.ctors;
-    ops = means_same op_name_term NumberedOp old.ops _ _ (ap (op_names_of definitions) (operations_same definitions members m refl)) g.ops;
-    attrs = means_same attr_term NumberedAttr old.attrs _ _ (attributes_same definitions members m refl) g.attrs;
-    consts = means_same constant_term NumberedConstant old.consts _ _ (constants_same definitions members m refl) g.consts;
-    order = means_same this_slot AnyItem order _ _
-        (sym (slots_push members m ∙ ap (λ b. slots_after [] members ++ cond b (cond (has is_pair_iterable members) [] (slot.Pairs ∷ [])) []) (pair_second i.first i.second ∙ ap is_some (sym is))
-        ∙ ap (λ b. slots_after [] members ++ cond b [] (slot.Pairs ∷ [])) (has_then ∙ ap is_some none)))
-        (means_more this_slot AnyItem old.order order slot.Pairs _ slot.Pairs e few refl tt g.order);
+  first_iterable i pair order none is e = let m = with_kind (IterableMember i) in record {
+    ctors = g.ctors ∙ constructors_same definitions members m refl;
+    ops = g.ops ∙ ap (op_names_of definitions) (operations_same definitions members m refl);
+    attrs = g.attrs ∙ attributes_same definitions members m refl;
+    consts = g.consts ∙ constants_same definitions members m refl;
+    order = slots_more old.order order slot.Pairs _ slot.Pairs e refl g.order ∙ sym (slots_push members m ∙ ap (λ b. slots_after [] members ++ cond b (cond (has is_pair_iterable members) [] (slot.Pairs ∷ [])) []) (pair_second i.first i.second ∙ ap is_some (sym is))
+        ∙ ap (λ b. slots_after [] members ++ cond b [] (slot.Pairs ∷ [])) (has_then ∙ ap is_some none));
     text = g.text ∙ text_same definitions members m refl;
     pairs = is ∙ ap (λ o. option_or o (pair_of definitions i.first i.second)) (sym (sym g.pairs ∙ ap (option_map pair_term) none)) ∙ sym (pairs_push definitions members m);
-    numbered_pairs = numbered;
     numbers = subst (λ os. AreNumbers os number) (operations_same definitions members m refl) g.numbers;
   }
 
@@ -285,17 +260,16 @@ module _ (definitions : List PlainDefinition) (members : List PlainMember) (attr
   operations_more o = sym (one_more (λ (x : PlainMember). operation_in x.kind) members (with_kind (OperationMember o)) o refl)
 
   -- an operation of a name that is known
-  pub overload_more : (o : PlainOperation) (sig : Sig) (ops : List OpName) (k : ℕ) → number (operation_text o.name) (is_static o.kind) ≡ Some k → HasOverload old.ops ops k sig → sig_term sig ≡ sig_of_operation definitions o → NumberedSig sig
+  pub overload_more : (o : PlainOperation) (sig : Sig) (ops : List OpName) (k : ℕ) → number (operation_text o.name) (is_static o.kind) ≡ Some k → HasOverload old.ops ops k sig → sig_term sig ≡ sig_of_operation definitions o
       → Gathered definitions (members ++ with_kind (OperationMember o) ∷ []) (record { ctors = old.ctors; ops = ops; attrs = old.attrs; consts = old.consts; text = old.text; pairs = old.pairs; order = old.order }) number
-  overload_more o sig ops k known more is numbered = let m = with_kind (OperationMember o) in record {
-    ctors = means_same sig_term NumberedSig old.ctors _ _ (constructors_same definitions members m refl) g.ctors;
-    ops = means_same op_name_term NumberedOp ops _ _ (ap (op_names_of definitions) (operations_more o)) (known_means definitions (operations_in members) o number g.numbers old.ops ops sig g.ops is numbered k known more);
-    attrs = means_same attr_term NumberedAttr old.attrs _ _ (attributes_same definitions members m refl) g.attrs;
-    consts = means_same constant_term NumberedConstant old.consts _ _ (constants_same definitions members m refl) g.consts;
-    order = means_same this_slot AnyItem old.order _ _ (order_same definitions members m (ap (λ b. cond b [] (slot.Op (length (firsts_after [] (operations_in members))) ∷ [])) (seen (operations_in members) o number g.numbers (Some k) known))) g.order;
+  overload_more o sig ops k known more is = let m = with_kind (OperationMember o) in record {
+    ctors = g.ctors ∙ constructors_same definitions members m refl;
+    ops = known_means definitions (operations_in members) o number g.numbers old.ops ops sig g.ops is k known more ∙ ap (op_names_of definitions) (operations_more o);
+    attrs = g.attrs ∙ attributes_same definitions members m refl;
+    consts = g.consts ∙ constants_same definitions members m refl;
+    order = g.order ∙ order_same definitions members m (ap (λ b. cond b [] (slot.Op (length (firsts_after [] (operations_in members))) ∷ [])) (seen (operations_in members) o number g.numbers (Some k) known));
     text = g.text ∙ text_same definitions members m refl;
     pairs = g.pairs ∙ pairs_same definitions members m refl;
-    numbered_pairs = g.numbered_pairs;
     numbers = subst (λ os. AreNumbers os number) (operations_more o) (numbers_known (operations_in members) o number g.numbers k known);
   }
 
@@ -310,20 +284,17 @@ module _ (definitions : List PlainDefinition) (members : List PlainMember) (attr
 
   -- the first operation of a name
   pub name_more : (o : PlainOperation) (sig : Sig) (ops : List OpName) (order : List Slot) (text : List ℕ) (fixed : Bool) (place : ℕ) (now : List ℕ → Bool → Option ℕ) → text ≡ operation_text o.name → fixed ≡ is_static o.kind → number text fixed ≡ None
-      → HasName old.ops ops (units_of text) fixed sig → length ops < 4294967296 → place ≡ length old.ops → sig_term sig ≡ sig_of_operation definitions o → NumberedSig sig
-      → ((other : List ℕ) (static : Bool) → now other static ≡ cond (bytes_eq text other && both_or_none static fixed) (Some place) (number other static)) → order ≡ old.order ++ slot.Op place ∷ [] → length order < 4294967296
+      → HasName old.ops ops (units_of text) fixed sig → place ≡ length old.ops → sig_term sig ≡ sig_of_operation definitions o
+      → ((other : List ℕ) (static : Bool) → now other static ≡ cond (bytes_eq text other && both_or_none static fixed) (Some place) (number other static)) → order ≡ old.order ++ slot.Op place ∷ []
       → Gathered definitions (members ++ with_kind (OperationMember o) ∷ []) (record { ctors = old.ctors; ops = ops; attrs = old.attrs; consts = old.consts; text = old.text; pairs = old.pairs; order = order }) now
-  name_more o sig ops order text fixed place now is_text is_fixed none more few at is numbered keeps e few_slots = let m = with_kind (OperationMember o) in record {
-    ctors = means_same sig_term NumberedSig old.ctors _ _ (constructors_same definitions members m refl) g.ctors;
-    ops = means_same op_name_term NumberedOp ops _ _ (ap (op_names_of definitions) (operations_more o)) (new_means definitions (operations_in members) o number g.numbers old.ops ops sig g.ops is numbered unknown text fixed is_text is_fixed more few);
-    attrs = means_same attr_term NumberedAttr old.attrs _ _ (attributes_same definitions members m refl) g.attrs;
-    consts = means_same constant_term NumberedConstant old.consts _ _ (constants_same definitions members m refl) g.consts;
-    order = means_same this_slot AnyItem order _ _
-        (sym (slots_push members m ∙ ap (λ b. slots_after [] members ++ cond b [] (slot.Op (length (firsts_after [] (operations_in members))) ∷ [])) (seen (operations_in members) o number g.numbers None unknown)))
-        (means_more this_slot AnyItem old.order order (slot.Op place) _ (slot.Op (length (firsts_after [] (operations_in members)))) e few_slots (ap slot.Op counted) tt g.order);
+  name_more o sig ops order text fixed place now is_text is_fixed none more at is keeps e = let m = with_kind (OperationMember o) in record {
+    ctors = g.ctors ∙ constructors_same definitions members m refl;
+    ops = new_means definitions (operations_in members) o number g.numbers old.ops ops sig g.ops is unknown text fixed is_text is_fixed more ∙ ap (op_names_of definitions) (operations_more o);
+    attrs = g.attrs ∙ attributes_same definitions members m refl;
+    consts = g.consts ∙ constants_same definitions members m refl;
+    order = slots_more old.order order (slot.Op place) _ (slot.Op (length (firsts_after [] (operations_in members)))) e (ap slot.Op counted) g.order ∙ sym (slots_push members m ∙ ap (λ b. slots_after [] members ++ cond b [] (slot.Op (length (firsts_after [] (operations_in members))) ∷ [])) (seen (operations_in members) o number g.numbers None unknown));
     text = g.text ∙ text_same definitions members m refl;
     pairs = g.pairs ∙ pairs_same definitions members m refl;
-    numbered_pairs = g.numbered_pairs;
     numbers = subst (λ os. AreNumbers os now) (operations_more o) (numbers_new (operations_in members) o number g.numbers unknown now kept);
   }
     where
@@ -343,14 +314,13 @@ module _ (definitions : List PlainDefinition) (members : List PlainMember) (attr
 -- no members
 pub gathered_none : (definitions : List PlainDefinition) (number : List ℕ → Bool → Option ℕ) → ((text : List ℕ) (static : Bool) → number text static ≡ None) → Gathered definitions [] (record { ctors = []; ops = []; attrs = []; consts = []; text = stringify.No; pairs = None; order = [] }) number
 gathered_none definitions number none = record {
-  ctors = record { terms = refl; numbered = record { few = omega arith; each = λ k d below. absurd (omega arith) } };
-  ops = record { terms = refl; numbered = record { few = omega arith; each = λ k d below. absurd (omega arith) } };
-  attrs = record { terms = refl; numbered = record { few = omega arith; each = λ k d below. absurd (omega arith) } };
-  consts = record { terms = refl; numbered = record { few = omega arith; each = λ k d below. absurd (omega arith) } };
-  order = record { terms = refl; numbered = record { few = omega arith; each = λ k d below. tt } };
+  ctors = refl;
+  ops = refl;
+  attrs = refl;
+  consts = refl;
+  order = refl;
   text = refl;
   pairs = refl;
-  numbered_pairs = tt;
   numbers = record {
     known = λ text static. ap is_some (none text static);
     there = λ text static k e. let f = none text static in absurd (cc);
@@ -366,19 +336,13 @@ gathered_step definitions members i m new number below is = subst (λ l. Gathere
 -- all members
 pub gathered_all : (definitions : List PlainDefinition) (members : List PlainMember) (m : MergedMembers) (number : List ℕ → Bool → Option ℕ) → Gathered definitions members m number → ArePutTogether definitions members m
 gathered_all definitions members m number g = record {
-  terms = sym (ap (λ l. record { ops = l; attrs = map attr_term m.attrs; consts = map constant_term m.consts; order = m.order }) g.ops.terms
-      ∙ ap (λ l. record { ops = op_names_of definitions (operations_in members); attrs = l; consts = map constant_term m.consts; order = m.order }) g.attrs.terms
-      ∙ ap (λ l. record { ops = op_names_of definitions (operations_in members); attrs = map (attr_of definitions) (attributes_in members); consts = l; order = m.order }) g.consts.terms
-      ∙ ap (λ l. record { ops = op_names_of definitions (operations_in members); attrs = map (attr_of definitions) (attributes_in members); consts = map (constant_of definitions) (constants_in members); order = l }) (sym (this_all m.order) ∙ g.order.terms));
-  ctors = g.ctors.terms;
+  terms = sym (ap (λ l. record { ops = l; attrs = map attr_term m.attrs; consts = map constant_term m.consts; order = m.order }) g.ops
+      ∙ ap (λ l. record { ops = op_names_of definitions (operations_in members); attrs = l; consts = map constant_term m.consts; order = m.order }) g.attrs
+      ∙ ap (λ l. record { ops = op_names_of definitions (operations_in members); attrs = map (attr_of definitions) (attributes_in members); consts = l; order = m.order }) g.consts
+      ∙ ap (λ l. record { ops = op_names_of definitions (operations_in members); attrs = map (attr_of definitions) (attributes_in members); consts = map (constant_of definitions) (constants_in members); order = l }) g.order);
+  ctors = g.ctors;
   text = g.text;
   pairs = g.pairs;
-  numbered_ctors = g.ctors.numbered;
-  numbered_ops = g.ops.numbered;
-  numbered_attrs = g.attrs.numbered;
-  numbered_consts = g.consts.numbered;
-  numbered_pairs = g.numbered_pairs;
-  numbered_order = g.order.numbered;
 }
 
 -- a member of this kind
@@ -409,3 +373,30 @@ pub unsupported_more : (definitions : List PlainDefinition) (members : List Plai
 unsupported_more definitions members m old number (inl p) g = of_kind definitions members m (member_kind.AsyncIterable p.0) old number p.1 (no_more definitions members (map attribute_of m.attributes) (member_kind_of (member_kind.AsyncIterable p.0)) old number refl g)
 unsupported_more definitions members m old number (inr (inl p)) g = of_kind definitions members m (member_kind.Maplike p.0) old number p.1 (no_more definitions members (map attribute_of m.attributes) (member_kind_of (member_kind.Maplike p.0)) old number refl g)
 unsupported_more definitions members m old number (inr (inr p)) g = of_kind definitions members m (member_kind.Setlike p.0) old number p.1 (no_more definitions members (map attribute_of m.attributes) (member_kind_of (member_kind.Setlike p.0)) old number refl g)
+
+-- the numbers of members that are no more than 32 bits can count, and those that are kept for names
+pub gathered_room : (definitions : List PlainDefinition) (members : List PlainMember) (m : MergedMembers) (number : List ℕ → Bool → Option ℕ) → Gathered definitions members m number → length members < 2 ^ 32 → HasRoom m number
+gathered_room definitions members m number g few = record {
+  ops = (let less = names_few in omega (arith, names, less, few));
+  attrs =
+      let same = sym (length-map m.attrs attr_term) ∙ ap length g.attrs ∙ length-map (attributes_in members) (attr_of definitions) in
+      let found = found_few (λ (x : PlainMember). attribute_in x.attributes x.kind) members in
+      omega (arith, same, found, few);
+  consts =
+      let same = sym (length-map m.consts constant_term) ∙ ap length g.consts ∙ length-map (constants_in members) (constant_of definitions) in
+      let found = found_few (λ (x : PlainMember). constant_in x.kind) members in
+      omega (arith, same, found, few);
+  named = λ text static k e.
+      let first = g.numbers.there text static k e in
+      let within = slice_get_within (firsts_after [] (operations_in members)) k first.first first.at in
+      omega (arith, names, within);
+}
+  where
+    names : length m.ops ≡ length (firsts_after [] (operations_in members))
+    names = sym (length-map m.ops op_name_term) ∙ ap length g.ops ∙ length-map (firsts_after [] (operations_in members)) (op_name_of definitions (operations_in members))
+
+    names_few : length (firsts_after [] (operations_in members)) ≤ length members
+    names_few =
+        let firsts = few_firsts [] (operations_in members) in
+        let found = found_few (λ (x : PlainMember). operation_in x.kind) members in
+        omega (arith, firsts, found)

@@ -8,9 +8,9 @@ pub mod TwoParts
 pub mod ComingBack
 pub mod LinkGraphs
 pub mod CappedDepths
+pub mod TypedefLinks
 pub mod SteadyDepths
 pub mod TableDepths
-pub mod UnionMembers
 pub mod WrittenArguments
 pub mod ExtendedDictionaries
 pub mod FirstOperations
@@ -20,3 +20,8 @@ pub mod Gathering
 pub mod Growing
 pub mod Unbroken
 pub mod Made
+pub mod NumberedMeanings
+pub mod WrittenParts
+pub mod MemberTotals
+pub mod NumberedMembers
+pub mod NumberedLists

@@ -1,30 +1,24 @@
 -- The terms of operations by their names, with one operation more.
-use Rattle.std.proofs.Common.{◌≡◌, ℕ, ◌<◌, ◌++◌, Bool, true, false, List, [], ◌∷◌, length, map, slice_get, get_or, Option, None, Some, option_map, arith, refl, sym, ap, subst, ◌∙◌}
-use Rattle.std.proofs.Math.ListN.{set, length-set}
+use Rattle.std.proofs.Common.{◌≡◌, ℕ, ◌++◌, Bool, true, false, List, [], ◌∷◌, map, slice_get, Option, None, Some, option_map, refl, sym, ap, ◌∙◌}
+use Rattle.std.proofs.Math.ListN.{set}
 use Rattle.std.proofs.lemmas.List.{map-append, map-set}
-use Rattle.std.proofs.lemmas.List.Elements.{All-push, All-set, All-get_or}
-use Rattle.std.proofs.lemmas.Option.{slice_get-map, slice_get_within, get_or_from_slice_get}
+use Rattle.std.proofs.lemmas.Option.{slice_get-map}
 use Rattle.widl_idl.specs.declared.operation.OpName.{OpName}
 use Rattle.widl_idl.specs.declared.signature.Sig.{Sig}
-use Rattle.widl_idl.specs.Counts.{IsNumbered, NumberedOp, NumberedSig}
 use Rattle.widl_idl.specs.DefinitionTerms.{OpNameTerm, SigTerm, op_name_term, sig_term}
 use Rattle.widl_idl.specs.MergedMembers.{are_overloads, firsts_after, op_name_of, op_names_of, operation_text, sig_of_operation}
 use Rattle.widl_idl.specs.MergingRules.{is_static}
 use Rattle.widl_idl.specs.PlainTrees.{PlainDefinition, PlainOperation}
 use Rattle.widl_idl.specs.WrittenLiterals.{units_of}
 use Rattle.widl_names.proofs.Pushed.{some_is}
-use Rattle.widl_merge.specs.PutTogether.{AreNumbers, HasName, HasOverload, IsFirstAt, Means, is_named}
+use Rattle.widl_merge.specs.PutTogether.{AreNumbers, HasName, HasOverload, IsFirstAt, is_named}
 use Rattle.widl_merge.proofs.FirstOperations.{at_number, filter_none, firsts_more, map_one, map_same, other_name, overloads_itself, same_firsts, seen, term_other, term_this}
 
 abbrev with_signature : OpNameTerm → SigTerm → OpNameTerm
 with_signature t s = record { name = t.name; fixed = t.fixed; sigs = t.sigs ++ s ∷ [] }
 
--- the only item of a list that has a property
-all_one : {X : Type 0} (P : X → Type 0) (x : X) → P x → (k : ℕ) (d : X) → k < 1 → P (get_or (x ∷ []) k d)
-all_one P x p k d below = let first : k ≡ 0 = omega arith in subst (λ j. P (get_or (x ∷ []) j d)) (sym first) p
-
 module _ (definitions : List PlainDefinition) (operations : List PlainOperation) (o : PlainOperation) (number : List ℕ → Bool → Option ℕ) (so : AreNumbers operations number) (old new : List OpName) (sig : Sig)
-    (means : Means op_name_term NumberedOp old (op_names_of definitions operations)) (is : sig_term sig ≡ sig_of_operation definitions o) (numbered : NumberedSig sig) where
+    (means : map op_name_term old ≡ op_names_of definitions operations) (is : sig_term sig ≡ sig_of_operation definitions o) where
   abbrev before : PlainOperation → OpNameTerm
   before = op_name_of definitions operations
 
@@ -47,7 +41,7 @@ module _ (definitions : List PlainDefinition) (operations : List PlainOperation)
     other j y at ne false e = refl
 
     term_there : op_name_term more.op ≡ before here.first
-    term_there = some_is (sym (ap (option_map op_name_term) more.at) ∙ sym (slice_get-map op_name_term old k) ∙ ap (λ l. slice_get l k) means.terms ∙ slice_get-map before all_firsts k ∙ ap (option_map before) here.at)
+    term_there = some_is (sym (ap (option_map op_name_term) more.at) ∙ sym (slice_get-map op_name_term old k) ∙ ap (λ l. slice_get l k) means ∙ slice_get-map before all_firsts k ∙ ap (option_map before) here.at)
 
     abbrev longer : OpName
     longer = record { name = more.op.name; fixed = more.op.fixed; sigs = more.op.sigs ++ sig ∷ [] }
@@ -58,29 +52,14 @@ module _ (definitions : List PlainDefinition) (operations : List PlainOperation)
         ∙ ap (λ t. with_signature t (sig_term sig)) term_there ∙ ap (with_signature (before here.first)) is
         ∙ sym (term_this operations o number so definitions here.first of_name)
 
-    terms_known : map op_name_term new ≡ op_names_of definitions (operations ++ o ∷ [])
-    terms_known =
-        ap (map op_name_term) more.becomes ∙ map-set op_name_term old k longer ∙ ap (λ l. set l k (op_name_term longer)) means.terms ∙ ap (set (map before all_firsts) k) term_longer
+    pub known_means : map op_name_term new ≡ op_names_of definitions (operations ++ o ∷ [])
+    known_means =
+        ap (map op_name_term) more.becomes ∙ map-set op_name_term old k longer ∙ ap (λ l. set l k (op_name_term longer)) means ∙ ap (set (map before all_firsts) k) term_longer
         ∙ sym (map_one before after all_firsts k here.first here.at (λ j y at ne. term_other operations o number so definitions y (other j y at ne (are_overloads y o) refl)))
         ∙ ap (map after) (sym (same_firsts operations o number so k known))
 
-    within : k < length old
-    within = slice_get_within old k more.op more.at
-
-    op_numbered : NumberedOp more.op
-    op_numbered = subst NumberedOp (get_or_from_slice_get old k more.op more.op more.at) (All-get_or NumberedOp old k more.op within means.numbered.each)
-
-    pub known_means : Means op_name_term NumberedOp new (op_names_of definitions (operations ++ o ∷ []))
-    known_means = record {
-      terms = terms_known;
-      numbered = subst (IsNumbered NumberedOp) (sym more.becomes) (record {
-        few = let few = means.numbered.few in omega (arith, length-set old k longer);
-        each = All-set NumberedOp old k longer (record { few = more.few; each = All-push NumberedSig more.op.sigs sig op_numbered.each numbered }) means.numbered.each;
-      });
-    }
-
   -- a name that is new
-  module _ (unknown : number (operation_text o.name) (is_static o.kind) ≡ None) (text : List ℕ) (fixed : Bool) (is_text : text ≡ operation_text o.name) (is_fixed : fixed ≡ is_static o.kind) (more : HasName old new (units_of text) fixed sig) (few : length new < 4294967296) where
+  module _ (unknown : number (operation_text o.name) (is_static o.kind) ≡ None) (text : List ℕ) (fixed : Bool) (is_text : text ≡ operation_text o.name) (is_fixed : fixed ≡ is_static o.kind) (more : HasName old new (units_of text) fixed sig) where
     abbrev single : OpName
     single = record { name = units_of text; fixed = fixed; sigs = sig ∷ [] }
 
@@ -91,17 +70,8 @@ module _ (definitions : List PlainDefinition) (operations : List PlainOperation)
         ∙ ap (λ l. record { name = units_of (operation_text o.name); fixed = is_static o.kind; sigs = map (sig_of_operation definitions) l ++ sig_of_operation definitions o ∷ [] }) (sym (filter_none (are_overloads o) operations (seen operations o number so None unknown)))
         ∙ sym (term_this operations o number so definitions o (overloads_itself o))
 
-    terms_new : map op_name_term new ≡ op_names_of definitions (operations ++ o ∷ [])
-    terms_new =
-        ap (map op_name_term) more ∙ map-append op_name_term old (single ∷ []) ∙ ap (λ l. l ++ op_name_term single ∷ []) means.terms ∙ ap (λ t. map before all_firsts ++ t ∷ []) term_single
+    pub new_means : map op_name_term new ≡ op_names_of definitions (operations ++ o ∷ [])
+    new_means =
+        ap (map op_name_term) more ∙ map-append op_name_term old (single ∷ []) ∙ ap (λ l. l ++ op_name_term single ∷ []) means ∙ ap (λ t. map before all_firsts ++ t ∷ []) term_single
         ∙ ap (λ l. l ++ after o ∷ []) (sym (map_same before after all_firsts (λ j y at. term_other operations o number so definitions y (other_name operations o number so unknown j y at (are_overloads y o) refl))))
         ∙ sym (map-append after all_firsts (o ∷ [])) ∙ ap (map after) (sym (firsts_more operations o number so unknown))
-
-    pub new_means : Means op_name_term NumberedOp new (op_names_of definitions (operations ++ o ∷ []))
-    new_means = record {
-      terms = terms_new;
-      numbered = record {
-        few = few;
-        each = subst (λ l. (j : ℕ) (d : OpName) → j < length l → NumberedOp (get_or l j d)) (sym more) (All-push NumberedOp old single means.numbered.each (record { few = omega arith; each = all_one NumberedSig sig numbered }));
-      };
-    }

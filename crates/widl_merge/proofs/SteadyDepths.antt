@@ -1,12 +1,12 @@
 -- Depths of typedefs in the order of a walk over them: after each definition of the order its depth is known at all levels that follow.
-use Rattle.std.proofs.Common.{◌≡◌, ◌⊎◌, inl, inr, ℕ, ◌+◌, ◌<◌, ◌≤◌, Bool, true, false, cond, zero, suc, List, [], ◌∷◌, length, map, get_or, set, slice_get, Option, None, Some, option_map, option_and_then, arith, refl, sym, ap, subst, ◌∙◌, ◌≢◌, nat_lt, nat_eq, replicate}
+use Rattle.std.proofs.Common.{◌≡◌, ◌⊎◌, inl, inr, ℕ, ◌+◌, ◌<◌, ◌≤◌, Bool, true, false, cond, zero, suc, List, [], ◌∷◌, length, get_or, set, slice_get, Option, None, Some, option_map, option_and_then, arith, refl, sym, ap, subst, ◌∙◌, ◌≢◌, nat_lt, nat_eq, replicate}
 use Rattle.std.specs.List.{Contains, flat_map}
 use Rattle.std.proofs.lemmas.List.{get_or-set_same, get_or-set_other, length-map, length-set}
-use Rattle.std.proofs.lemmas.List.Elements.{Contains-append_left, Contains-append_right, Contains-append_cases}
+use Rattle.std.proofs.lemmas.List.Elements.{Contains-append_cases}
 use Rattle.std.proofs.lemmas.Option.{slice_get_within, slice_get-get_or}
 use Rattle.widl_graph.specs.Order.{IsOrder, StandsBefore}
 use Rattle.widl_graph.specs.declared.walk.Walk.{Walk}
-use Rattle.widl_graph.specs.Reaching.{Step, Reaches, ReachesItself, one, more, successors_of}
+use Rattle.widl_graph.specs.Reaching.{Step, Reaches, ReachesItself, one, more}
 use Rattle.widl_graph.proofs.Orders.{earlier_place}
 use Rattle.widl_graph.proofs.Reach.{after_step}
 use Rattle.widl_idl.specs.Meanings.{meaning, meant}
@@ -16,37 +16,17 @@ use Rattle.widl_idl.specs.PlainTrees.{PlainDefinition, PlainKind, PlainTypedef, 
 use Rattle.widl_merge.specs.Depths.{capped, is_flagged, AreCapped, AreSteady, TellsDepths, kept_depth, number_depth, table_depth}
 use Rattle.widl_merge.specs.Links.{IsWalk}
 use Rattle.widl_merge.proofs.CappedDepths.{capped_twice, annotated_same, annotated_unknown, meant_same, only_item}
+use Rattle.widl_merge.proofs.TypedefLinks.{kind_of_number, link_named, links_at, links_of, meant_at}
 use Rattle.widl_names.proofs.NameMeanings.{meaning_below}
 use Rattle.widl_merge.proofs.TableDepths.{table_capped}
 
--- a list of lists, put together
-flat_has : {X : Type 0} (f : X → List ℕ) (xs : List X) (x : X) (y : ℕ) → Contains xs x → Contains (f x) y → Contains (flat_map f xs) y
-flat_has f [] x y c h = absurd (let l = c.1 in omega arith)
-flat_has f (first ∷ xs) x y c h = by_place c.0 c.1 c.2 (λ d. flat_has f xs x y d h)
-  where
-    by_place : (k : ℕ) → k < length (first ∷ xs) → get_or (first ∷ xs) k x ≡ x → (Contains xs x → Contains (flat_map f xs) y) → Contains (flat_map f (first ∷ xs)) y
-    by_place zero below e later = Contains-append_left (f first) (flat_map f xs) y (subst (λ z. Contains (f z) y) (sym e) h)
-    by_place (suc k) below e later = Contains-append_right (f first) (flat_map f xs) y (later (k, omega arith, e))
-
+-- what is in lists that are put together is in one of them
 flat_from : {X : Type 0} (f : X → List ℕ) (xs : List X) (y : ℕ) → Contains (flat_map f xs) y → (x : X) × Contains xs x × Contains (f x) y
 flat_from f [] y c = absurd (let l = c.1 in omega arith)
 flat_from f (first ∷ xs) y c = elim (Contains-append_cases (f first) (flat_map f xs) y c) [ inl l ↦ (first, (0, omega arith, refl), l) | inr r ↦ later (flat_from f xs y r) ]
   where
     later : (x : _) × Contains xs x × Contains (f x) y → (x : _) × Contains (first ∷ xs) x × Contains (f x) y
     later h = (h.0, (suc h.1.0, omega (arith, h.1.1), h.1.2), h.2)
-
--- the kind of the definition of a number
-abbrev kind_of_number : List PlainDefinition → ℕ → Option PlainKind
-kind_of_number definitions number = option_map (λ d. d.kind) (slice_get definitions number)
-
-abbrev links_of : (PlainKind → List ℕ) → Option PlainKind → List ℕ
-links_of g None = []
-links_of g (Some kind) = g kind
-
-links_at : (g : PlainKind → List ℕ) (ds : List PlainDefinition) (x : ℕ) → successors_of (map (λ d. g d.kind) ds) x ≡ links_of g (kind_of_number ds x)
-links_at g [] x = refl
-links_at g (d ∷ ds) zero = refl
-links_at g (d ∷ ds) (suc x) = links_at g ds x
 
 first_step : {graph : List (List ℕ)} {x z : ℕ} → Reaches graph x z → (y : ℕ) × Step graph x y × ((y ≡ z) ⊎ Reaches graph y z)
 first_step (one {y = y} s) = (y, s, inl refl)
@@ -63,23 +43,8 @@ module _ (definitions : List PlainDefinition) where
   abbrev links : List (List ℕ)
   links = typedef_links definitions
 
-  -- what a name means has a number
-  meant_at : (text : List ℕ) (kind : PlainKind) → meant definitions text ≡ Some kind → (y : ℕ) × (meaning definitions text ≡ Some y) × (kind_of_number definitions y ≡ Some kind)
-  meant_at text kind e = by_number (meaning definitions text) e
-    where
-      by_number : (m : Option ℕ) → option_map (λ d. d.kind) (option_and_then (slice_get definitions) m) ≡ Some kind → (y : ℕ) × (m ≡ Some y) × (kind_of_number definitions y ≡ Some kind)
-      by_number None h = absurd (cc)
-      by_number (Some y) h = (y, refl, h)
-
   number_meant : (named : PlainName → Option ℕ) (text : List ℕ) (y : ℕ) → meaning definitions text ≡ Some y → meant_depth (annotated_depth named) (meant definitions text) ≡ number_depth definitions named y
   number_meant named text y e = ap (λ m. meant_depth (annotated_depth named) (option_map (λ d. d.kind) (option_and_then (slice_get definitions) m))) e
-
-  -- a typedef is linked to the typedefs that its type names
-  link_named : (x y : ℕ) (t u : PlainTypedef) (name : PlainName) → kind_of_number definitions x ≡ Some (TypedefDefinition t) → Contains (annotated_names t.ty) name → meaning definitions name.text ≡ Some y → meant definitions name.text ≡ Some (TypedefDefinition u) → Step links x y
-  link_named x y t u name is c number kind =
-      let here : typedef_named definitions name ≡ y ∷ [] = ap (λ m. number_if_typedef m (meant definitions name.text)) number ∙ ap (number_if_typedef (Some y)) kind in
-      let all : successors_of links x ≡ typedefs_in definitions (TypedefDefinition t) = links_at (typedefs_in definitions) definitions x ∙ ap (links_of (typedefs_in definitions)) is in
-      subst (λ ys. Contains ys y) (sym all) (flat_has (typedef_named definitions) (annotated_names t.ty) name y c (subst (λ ys. Contains ys y) (sym here) (0, omega arith, refl)))
 
   number_named : (m : Option ℕ) (k : Option PlainKind) (y : ℕ) → Contains (number_if_typedef m k) y → m ≡ Some y
   number_named (Some n) (Some (TypedefDefinition u)) y c = ap Some (only_item n y c)

@@ -1,7 +1,6 @@
 -- What definitions have that break no rule: the name of each main one means it, and each parent is of its kind.
-use Rattle.std.proofs.Common.{◌≡◌, ℕ, zero, suc, ◌+◌, ◌<◌, Bool, true, false, cond, List, [], ◌∷◌, length, take, slice_get, Option, None, Some, option_map, is_some, arith, refl, sym, ap, subst, ◌∙◌}
+use Rattle.std.proofs.Common.{◌≡◌, ℕ, zero, suc, ◌+◌, ◌<◌, ◌^◌, Bool, true, false, cond, List, [], ◌∷◌, length, take, slice_get, Option, None, Some, option_map, is_some, arith, refl, sym, ap, subst, ◌∙◌}
 use Rattle.std.proofs.lemmas.Option.{slice_get-get_or, slice_get_within}
-use Rattle.std.proofs.lemmas.Slice.Eq.{bytes_eq-Decides}
 use Rattle.std.specs.List.{Contains}
 use Rattle.widl_idl.specs.declared.defs.Defs.{Defs}
 use Rattle.widl_idl.specs.declared.tree.fragments.Fragment.{Fragment}
@@ -20,13 +19,15 @@ use Rattle.widl_idl.specs.MergingRules.{AtName, HasOtherParent, IsSecondDefiniti
 use Rattle.widl_idl.specs.PlainTypes.{PlainName}
 use Rattle.widl_idl.specs.PlainTrees.{PlainDefinition, PlainKind}
 use Rattle.widl_idl.specs.Profile.{BreaksProfile, profile_number, profile_rules}
-use Rattle.widl_names.proofs.NamedParts.{meant_at}
+use Rattle.widl_idl.specs.Parts.{merged_members}
+use Rattle.widl_names.proofs.NamedParts.{meaning_named, meant_at}
+use Rattle.widl_names.proofs.Pushed.{some_is}
+use Rattle.widl_merge.specs.Countable.{IsCountable}
 use Rattle.widl_merge.specs.GrownLists.{AreKept, HasParentOf, Means, MeansItself}
 use Rattle.widl_merge.specs.MergedDefs.{AreMerged, BreakNone}
 use Rattle.widl_merge.specs.Refusals.{IsRefusal, IsRefusalAfter}
-
-some_is : {A : Type 0} {a b : A} → Some a ≡ Some b → a ≡ b
-some_is e = (cc)
+use Rattle.widl_merge.proofs.MemberTotals.{interface_few, namespace_few}
+use Rattle.widl_merge.proofs.NumberedLists.{numbered_list, own_text}
 
 -- a name of which the first definitions have none means the next one that has it
 first_meant : (k : ℕ) (definitions : List PlainDefinition) (n : ℕ) (d : PlainDefinition) (text : List ℕ) → slice_get definitions n ≡ Some d → is_text_of text (main_name d.kind) ≡ true → is_some (meaning_from k (take n definitions) text) ≡ false → meaning_from k definitions text ≡ Some (k + n)
@@ -42,9 +43,6 @@ first_meant k (e ∷ more) (suc n) d text is named none = by_case (is_text_of te
         → (is_some (meaning_from (k + 1) (take n more) text) ≡ false → meaning_from (k + 1) more text ≡ Some (k + 1 + n)) → cond b (Some k) (meaning_from (k + 1) more text) ≡ Some (k + suc n)
     by_case true found later = absurd (cc)
     by_case false found later = let place : k + 1 + n ≡ k + suc n = omega arith in later found ∙ ap Some place
-
-own_text : (name : PlainName) → is_text_of name.text (Some name) ≡ true
-own_text name = grind (arith, bytes_eq-Decides name.text name.text)
 
 same_kind_is : (a b : Kind) → same_kind a b ≡ true → a ≡ b
 same_kind_is kinds.CallbackFunction kinds.CallbackFunction e = refl
@@ -148,8 +146,30 @@ merging_listed rule.OperationInTwoParts = (10, omega arith, refl)
 merging_listed rule.TooManyMembers = (11, omega arith, refl)
 
 -- such a list is the merged list of the files
-pub is_merged : (fragments : List Fragment) (defs : Defs) → AreFiles fragments → AreMerged (definitions_of fragments) defs → IsMerged defs fragments
-is_merged fragments defs files so = record { files = files; unbroken = record { profile = so.kept.profile; merging = so.kept.merging }; merged = so.listed.terms; numbered = so.listed.numbered }
+pub is_merged : (fragments : List Fragment) (defs : Defs) → AreFiles fragments → IsCountable (definitions_of fragments) → AreMerged (definitions_of fragments) defs → IsMerged defs fragments
+is_merged fragments defs files countable so = record {
+  files = files;
+  unbroken = record { profile = so.kept.profile; merging = so.kept.merging };
+  merged = so.listed;
+  numbered = numbered_list (definitions_of fragments) files.definitions countable (λ n d name is named. means_it (definitions_of fragments) so.kept.merging n d is name named) (so.kept.merging rule.TooManyMembers) defs so.listed;
+}
+
+-- 32 bits can count the members of an interface and of a namespace
+module _ (all : List PlainDefinition) (kept : AreKept all) (text : List ℕ) (number : ℕ) where
+  kind_meant : (kind : Kind) (m : Means all text number kind) → kind_of (meaning_named all number text m.means).definition.kind ≡ kind
+  kind_meant kind m = let n = meaning_named all number text m.means in some_is (sym (ap (option_map kind_of) (meant_at all number text n.definition m.means n.is)) ∙ m.of_kind)
+
+  pub interface_room : Means all text number kinds.Interface → length (merged_members all kinds.Interface text) < 2 ^ 32
+  interface_room m =
+      let n = meaning_named all number text m.means in
+      let few = interface_few all text number m.means n.definition n.is n.named (kept rule.TooManyMembers) (kind_meant kinds.Interface m) in
+      omega (arith, few)
+
+  pub namespace_room : Means all text number kinds.Namespace → length (merged_members all kinds.Namespace text) < 2 ^ 32
+  namespace_room m =
+      let n = meaning_named all number text m.means in
+      let few = namespace_few all text number m.means n.definition n.is n.named (kept rule.TooManyMembers) (kind_meant kinds.Namespace m) in
+      omega (arith, few)
 
 -- without a refusal no rule is broken
 pub breaks_none : (all : List PlainDefinition) → IsRefusal all None → BreakNone all

@@ -1,6 +1,6 @@
 -- Arguments that are made of written ones, an item at a time.
 use Rattle.std.proofs.Common.{◌≡◌, ℕ, ◌+◌, ◌<◌, ◌++◌, List, [], ◌∷◌, length, take, map, get_or, arith, sym, ap, ◌∙◌}
-use Rattle.std.proofs.lemmas.List.{length-map, map-append, take_all}
+use Rattle.std.proofs.lemmas.List.{map-append, take_all}
 use Rattle.std.proofs.lemmas.Simd.{map-map}
 use Rattle.widl_idl.specs.declared.argument.Arg.{Arg}
 use Rattle.widl_idl.specs.declared.tree.arguments.Argument.{Argument}
@@ -24,9 +24,3 @@ module _ (definitions : List PlainDefinition) where
   -- all of them
   pub args_all : (arguments : List Argument) (i : ℕ) (args : List Arg) → i ≡ length arguments → map arg_term args ≡ terms_written (take i arguments) → map arg_term args ≡ map (arg_of definitions) (arguments_of arguments)
   args_all arguments i args end so = args_whole arguments i args end so ∙ sym (map-map (arg_of definitions) argument_of arguments)
-
-  -- there are no more than are written
-  pub args_few : (arguments : List Argument) (i : ℕ) (args : List Arg) → i ≡ length arguments → length arguments < 4294967296 → map arg_term args ≡ terms_written (take i arguments) → length args < 4294967296
-  args_few arguments i args end few so =
-      let same : length args ≡ length arguments = sym (length-map args arg_term) ∙ ap length (args_whole arguments i args end so) ∙ length-map arguments (λ x. arg_of definitions (argument_of x)) in
-      omega arith

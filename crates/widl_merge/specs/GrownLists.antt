@@ -5,7 +5,6 @@ use Rattle.widl_idl.specs.declared.enumeration.Choice.{Choice}
 use Rattle.widl_idl.specs.declared.kind.Kind.{Kind}
 use Rattle.widl_idl.specs.declared.merging_rule.MergingRule.{MergingRule}
 use Rattle.widl_idl.specs.declared.violation.Violation.{Violation}
-use Rattle.widl_idl.specs.Counts.{IsNumbered, IsNumberedList, NumberedCallback, NumberedDictionary, NumberedEnumeration, NumberedInterface, NumberedNamespace}
 use Rattle.widl_idl.specs.DefinitionTerms.{DefsTerm, callback_term, defs_term, dict_term, iface_term, space_term}
 use Rattle.widl_idl.specs.Meanings.{kind_of, main_name, meaning, meant_kind}
 use Rattle.widl_idl.specs.MergedList.{callback_if, callback_interface_if, dictionary_if, enumeration_if, interface_if, namespace_if}
@@ -31,19 +30,18 @@ pub record MeansItself (definitions : List PlainDefinition) (number : ℕ) (kind
   pub itself : (name : PlainName) → main_name kind ≡ Some name → Means definitions name.text number (kind_of kind)
   pub parent : HasParentOf definitions (kind_of kind) (parent_of kind)
 
--- a list has one item more at its end, if one is found, and is numbered if it was
-pub record Adds {X Y : Type 0} (term : X → Y) (Numbered : X → Type 0) (found : Option Y) (old new : List X) : Type 0 where
-  pub terms : map term new ≡ map term old ++ option_to_list found
-  pub numbered : IsNumbered Numbered old → IsNumbered Numbered new
+-- a list has one item more at its end, if one is found
+abbrev pub Adds : {X Y : Type 0} → (X → Y) → Option Y → List X → List X → Type 0
+Adds term found old new = map term new ≡ map term old ++ option_to_list found
 
 -- a definition is added to the list of its kind, if it is a main one
 pub record Grows (definitions : List PlainDefinition) (kind : PlainKind) (old new : Defs) : Type 0 where
-  pub ifaces : Adds iface_term NumberedInterface (interface_if definitions kind) old.ifaces new.ifaces
-  pub spaces : Adds space_term NumberedNamespace (namespace_if definitions kind) old.spaces new.spaces
-  pub dicts : Adds dict_term NumberedDictionary (dictionary_if definitions kind) old.dicts new.dicts
-  pub choices : Adds (λ (c : Choice). c) NumberedEnumeration (enumeration_if definitions kind) old.choices new.choices
-  pub callback_fns : Adds callback_term NumberedCallback (callback_if definitions kind) old.callback_fns new.callback_fns
-  pub callback_ifaces : Adds callback_term NumberedCallback (callback_interface_if definitions kind) old.callback_ifaces new.callback_ifaces
+  pub ifaces : Adds iface_term (interface_if definitions kind) old.ifaces new.ifaces
+  pub spaces : Adds space_term (namespace_if definitions kind) old.spaces new.spaces
+  pub dicts : Adds dict_term (dictionary_if definitions kind) old.dicts new.dicts
+  pub choices : Adds (λ (c : Choice). c) (enumeration_if definitions kind) old.choices new.choices
+  pub callback_fns : Adds callback_term (callback_if definitions kind) old.callback_fns new.callback_fns
+  pub callback_ifaces : Adds callback_term (callback_interface_if definitions kind) old.callback_ifaces new.callback_ifaces
 
 -- the merged list of some of the definitions
 abbrev pub merged_among : List PlainDefinition → List PlainDefinition → DefsTerm
@@ -56,7 +54,6 @@ merged_among definitions some = record {
   callback_ifaces = filter_map (λ (d : PlainDefinition). callback_interface_if definitions d.kind) some;
 }
 
--- the list is that of some of the definitions, and 32 bits can number what is in it
-pub record AreListed (definitions some : List PlainDefinition) (defs : Defs) : Type 0 where
-  pub terms : defs_term defs ≡ merged_among definitions some
-  pub numbered : IsNumberedList defs
+-- the list is that of some of the definitions
+abbrev pub AreListed : List PlainDefinition → List PlainDefinition → Defs → Type 0
+AreListed definitions some defs = defs_term defs ≡ merged_among definitions some

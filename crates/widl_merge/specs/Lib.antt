@@ -12,3 +12,4 @@ pub mod PlainMain
 pub mod GrownLists
 pub mod MergedDefs
 pub mod NodeRules
+pub mod Countable

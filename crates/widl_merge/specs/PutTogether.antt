@@ -1,5 +1,5 @@
 -- For proofs alone. The members of an interface or a namespace, put together a member at a time, as the program has them.
-use Rattle.std.specs.Prelude.{if◌then◌else◌, ◌≡◌, ℕ, ◌<◌, ◌++◌, Bool, ◌&&◌, List, [], ◌∷◌, length, map, slice_get, slice_set, Option, Some, option_map, bytes_eq, is_some}
+use Rattle.std.specs.Prelude.{if◌then◌else◌, ◌≡◌, ℕ, ◌<◌, ◌^◌, ◌++◌, Bool, ◌&&◌, List, [], ◌∷◌, length, map, slice_get, slice_set, Option, Some, option_map, bytes_eq, is_some}
 use Rattle.std.specs.List.{list_any}
 use Rattle.std.specs.Borrow.{Bor}
 use Rattle.indexmap.specs.IndexMap.{IndexMap}
@@ -9,7 +9,6 @@ use Rattle.widl_idl.specs.declared.interface.Stringify.{Stringify}
 use Rattle.widl_idl.specs.declared.interface.Stringify.TheVariants as stringify
 use Rattle.widl_idl.specs.declared.operation.OpName.{OpName}
 use Rattle.widl_idl.specs.declared.signature.Sig.{Sig}
-use Rattle.widl_idl.specs.Counts.{IsNumbered, AnyItem, NumberedSig, NumberedOp, NumberedAttr, NumberedConstant, NumberedPairs}
 use Rattle.widl_idl.specs.DefinitionTerms.{sig_term, op_name_term, attr_term, constant_term, pair_term}
 use Rattle.widl_idl.specs.MergedMembers.{attr_of, attributes_in, constant_of, constants_in, constructors_of, firsts_after, members_term, op_names_of, operation_text, operations_in, pairs_of, slots_after, stringifier_from}
 use Rattle.widl_idl.specs.MergingRules.{both_or_none, is_static}
@@ -24,12 +23,6 @@ pub record ArePutTogether (definitions : List PlainDefinition) (members : List P
   pub ctors : map sig_term m.ctors ≡ constructors_of definitions members
   pub text : m.text ≡ stringifier_from 0 members
   pub pairs : option_map pair_term m.pairs ≡ pairs_of definitions members
-  pub numbered_ctors : IsNumbered NumberedSig m.ctors
-  pub numbered_ops : IsNumbered NumberedOp m.ops
-  pub numbered_attrs : IsNumbered NumberedAttr m.attrs
-  pub numbered_consts : IsNumbered NumberedConstant m.consts
-  pub numbered_pairs : NumberedPairs m.pairs
-  pub numbered_order : IsNumbered AnyItem m.order
 
 -- the number that is kept for a name, of static operations or of others
 abbrev pub number_named : {S : Type 0} → IndexMap (Bor (List ℕ)) ℕ S → IndexMap (Bor (List ℕ)) ℕ S → List ℕ → Bool → Option ℕ
@@ -52,24 +45,22 @@ pub record AreNumbers (operations : List PlainOperation) (number : List ℕ → 
   pub there : (text : List ℕ) (static : Bool) (k : ℕ) → number text static ≡ Some k → IsFirstAt operations text static k
   pub each : (k : ℕ) (o : PlainOperation) → slice_get (firsts_after [] operations) k ≡ Some o → number (operation_text o.name) (is_static o.kind) ≡ Some k
 
--- a list has these terms, and 32 bits can number it
-pub record Means {X T : Type 0} (term : X → T) (P : X → Type 0) (xs : List X) (ts : List T) : Type 0 where
-  pub terms : map term xs ≡ ts
-  pub numbered : IsNumbered P xs
-
-abbrev pub this_slot : Slot → Slot
-this_slot s = s
+-- 32 bits can number what comes next, and each number that is kept for a name is that of operations
+pub record HasRoom (m : MergedMembers) (number : List ℕ → Bool → Option ℕ) : Type 0 where
+  pub ops : length m.ops < 2 ^ 32
+  pub attrs : length m.attrs < 2 ^ 32
+  pub consts : length m.consts < 2 ^ 32
+  pub named : (text : List ℕ) (static : Bool) (k : ℕ) → number text static ≡ Some k → k < length m.ops
 
 -- the members so far, with the numbers of the names of their operations
 pub record Gathered (definitions : List PlainDefinition) (members : List PlainMember) (m : MergedMembers) (number : List ℕ → Bool → Option ℕ) : Type 0 where
-  pub ctors : Means sig_term NumberedSig m.ctors (constructors_of definitions members)
-  pub ops : Means op_name_term NumberedOp m.ops (op_names_of definitions (operations_in members))
-  pub attrs : Means attr_term NumberedAttr m.attrs (map (attr_of definitions) (attributes_in members))
-  pub consts : Means constant_term NumberedConstant m.consts (map (constant_of definitions) (constants_in members))
-  pub order : Means this_slot AnyItem m.order (slots_after [] members)
+  pub ctors : map sig_term m.ctors ≡ constructors_of definitions members
+  pub ops : map op_name_term m.ops ≡ op_names_of definitions (operations_in members)
+  pub attrs : map attr_term m.attrs ≡ map (attr_of definitions) (attributes_in members)
+  pub consts : map constant_term m.consts ≡ map (constant_of definitions) (constants_in members)
+  pub order : m.order ≡ slots_after [] members
   pub text : m.text ≡ stringifier_from 0 members
   pub pairs : option_map pair_term m.pairs ≡ pairs_of definitions members
-  pub numbered_pairs : NumberedPairs m.pairs
   pub numbers : AreNumbers (operations_in members) number
 
 -- a member more, which is no operation
@@ -95,16 +86,14 @@ stringifier_slots stringify.No = slot.Stringifier ∷ []
 stringifier_slots first = []
 
 -- the stringifier of members with one more: the first one, whose slot comes where it does
-pub record GetsStringifier (old new : MergedMembers) (next : Stringify) : Type 0 where
-  pub members : new ≡ record old { text = first_stringifier old.text next; order = old.order ++ stringifier_slots old.text }
-  pub few : length old.order < 4294967296 → length new.order < 4294967296
+abbrev pub GetsStringifier : MergedMembers → MergedMembers → Stringify → Type 0
+GetsStringifier old new next = new ≡ record old { text = first_stringifier old.text next; order = old.order ++ stringifier_slots old.text }
 
 -- a signature more for the name of this number
 pub record HasOverload (old new : List OpName) (k : ℕ) (sig : Sig) : Type 0 where
   pub op : OpName
   pub at : slice_get old k ≡ Some op
   pub becomes : new ≡ slice_set old k (record { name = op.name; fixed = op.fixed; sigs = op.sigs ++ sig ∷ [] })
-  pub few : length (op.sigs ++ sig ∷ []) < 4294967296
 
 -- a name more, with one signature
 abbrev pub HasName : List OpName → List OpName → List ℕ → Bool → Sig → Type 0

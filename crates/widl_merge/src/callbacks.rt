@@ -1,7 +1,6 @@
 //! Callback functions and callback interfaces, with their types resolved.
 
 ghost use Rattle.std.specs.Prelude.{◌≡◌, [], None, Some, IfOk, option_map};
-ghost use Rattle.widl_idl.specs.Counts.{NumberedCallback};
 ghost use Rattle.widl_idl.specs.DefinitionTerms.{callback_term};
 ghost use Rattle.widl_idl.specs.MergedList.{callback_by, callback_interface_of, callback_of};
 ghost use Rattle.widl_idl.specs.MergedMembers.{first_in, operations_in};
@@ -10,7 +9,6 @@ ghost use Rattle.widl_idl.specs.PlainTypes.{name_of, type_of};
 
 use crate::long_texts::LongTexts;
 use crate::name_units::{name_units, operation_units};
-use crate::numbered::type_alone;
 use crate::signatures::{args_meant, operation_sig};
 use std::alloc::{AllocError, Global};
 use widl_idl::tree::{self, CallbackInterface, Member, MemberKind, Name, Operation};
@@ -22,8 +20,7 @@ use widl_text::Units;
 ///
 /// # Errors
 ///
-/// `AllocError` where there is no memory or there are no more steps, also where 32 bits can't
-/// number the arguments or the members of a union.
+/// `AllocError` where there is no memory or there are no more steps.
 pub fn callback_meant<'a>(
     alloc: Global,
     resolver: &Resolver<'_, '_, 'a>,
@@ -31,13 +28,12 @@ pub fn callback_meant<'a>(
     texts: &mut LongTexts<'a>,
     callback: &'a tree::Callback,
 ) -> Result<Callback, AllocError>
-    ensures term { IfOk result (λ c. callback_term c ≡ callback_of (plain_definitions resolver.now) (record { name = name_of callback.now.name; returned = type_of callback.now.result; arguments = arguments_of callback.now.arguments })) }
-    ensures numbered { IfOk result (λ c. NumberedCallback c) }
+    ensures { IfOk result (λ c. callback_term c ≡ callback_of (plain_definitions resolver.now) (record { name = name_of callback.now.name; returned = type_of callback.now.result; arguments = arguments_of callback.now.arguments })) }
 {
     let at = callback.name.at;
     let name = name_units(alloc, &callback.name)?;
     let args = args_meant(alloc, resolver, steps, texts, callback.arguments.as_slice())?;
-    let result = type_alone(alloc, resolver, steps, &callback.result)?;
+    let result = resolver.resolve_alone(alloc, steps, &callback.result)?;
     Ok(Callback {
         at,
         name,
@@ -58,8 +54,7 @@ pub fn callback_interface_meant<'a>(
     texts: &mut LongTexts<'a>,
     callback: &'a CallbackInterface,
 ) -> Result<Callback, AllocError>
-    ensures term { IfOk result (λ c. callback_term c ≡ callback_interface_of (plain_definitions resolver.now) (record { name = name_of callback.now.name; members = members_of callback.now.members })) }
-    ensures numbered { IfOk result (λ c. NumberedCallback c) }
+    ensures { IfOk result (λ c. callback_term c ≡ callback_interface_of (plain_definitions resolver.now) (record { name = name_of callback.now.name; members = members_of callback.now.members })) }
 {
     match first_operation(callback.members.as_slice()) {
         None => callback_without_operation(alloc, &callback.name),
@@ -82,8 +77,7 @@ fn first_operation(members: &[Member]) -> Option<&Operation>
 /// A callback interface of this name that declares no operation: it is called without arguments, and
 /// returns `undefined`.
 fn callback_without_operation(alloc: Global, name: &Name) -> Result<Callback, AllocError>
-    ensures term { IfOk result (λ c. callback_term c ≡ callback_by [] (name_of name.now) None) }
-    ensures numbered { IfOk result (λ c. NumberedCallback c) }
+    ensures { IfOk result (λ c. callback_term c ≡ callback_by [] (name_of name.now) None) }
 {
     let at = name.at;
     Ok(Callback {
@@ -107,8 +101,7 @@ fn callback_by<'a>(
     name: &Name,
     operation: &'a Operation,
 ) -> Result<Callback, AllocError>
-    ensures term { IfOk result (λ c. callback_term c ≡ callback_by (plain_definitions resolver.now) (name_of name.now) (Some (operation_of operation.now))) }
-    ensures numbered { IfOk result (λ c. NumberedCallback c) }
+    ensures { IfOk result (λ c. callback_term c ≡ callback_by (plain_definitions resolver.now) (name_of name.now) (Some (operation_of operation.now))) }
 {
     let units = name_units(alloc, name)?;
     let op = operation_units(alloc, &operation.name)?;

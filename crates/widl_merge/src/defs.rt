@@ -1,7 +1,6 @@
 //! The merged list of definitions.
 
 ghost use Rattle.std.specs.Prelude.{◌<◌, ◌^◌, List, [], length, IfOk, OnOk};
-ghost use Rattle.widl_idl.specs.Counts.{NumberedDictionary, NumberedInterface, NumberedNamespace};
 ghost use Rattle.widl_idl.specs.DefinitionTerms.{dict_term, iface_term, space_term};
 ghost use Rattle.widl_idl.specs.MergedList.{dictionary_if, interface_if, namespace_if};
 ghost use Rattle.widl_idl.specs.PlainTrees.{PlainDefinition, DictionaryDefinition, InterfaceDefinition, NamespaceDefinition, definition_kind_of, plain_definitions};
@@ -13,7 +12,6 @@ use crate::enumerations::enumeration_meant;
 use crate::long_texts::LongTexts;
 use crate::merged_dictionaries::dictionary_meant;
 use crate::merged_interfaces::{interface_meant, namespace_meant};
-use crate::numbered_items::add_numbered;
 use crate::sources::Sources;
 use std::alloc::{AllocError, Global};
 use widl_idl::tree::{DefinitionKind, Dictionary, Interface, Namespace};
@@ -27,8 +25,7 @@ use widl_text::Items;
 ///
 /// # Errors
 ///
-/// `AllocError` where there is no memory, also where no steps are left or 32 bits can't number what is
-/// in the list.
+/// `AllocError` where there is no memory, also where no steps are left.
 pub fn merge_definitions(
     alloc: Global,
     meanings: &Meanings<'_, '_>,
@@ -80,13 +77,14 @@ fn add_definition<'a>(
     number: usize,
     kind: &'a DefinitionKind,
 ) -> Result<(), AllocError>
-    requires { MeansItself (plain_definitions sources.now) number (definition_kind_of kind.now) }
+    requires kept { AreKept (plain_definitions sources.now) }
+    requires means { MeansItself (plain_definitions sources.now) number (definition_kind_of kind.now) }
     ensures { OnOk result (Grows (plain_definitions sources.now) (definition_kind_of kind.now) defs.old defs.new) }
 {
     match kind {
         DefinitionKind::Callback(callback) => {
             let meant = callback_meant(alloc, sources.resolver(), steps, texts, callback)?;
-            add_numbered(&mut defs.callback_fns, meant)
+            defs.callback_fns.push(meant)
         }
         DefinitionKind::CallbackInterface(callback) => {
             let meant = callback_interface_meant(
@@ -96,7 +94,7 @@ fn add_definition<'a>(
                 texts,
                 callback,
             )?;
-            add_numbered(&mut defs.callback_ifaces, meant)
+            defs.callback_ifaces.push(meant)
         }
         DefinitionKind::Interface(interface) => {
             let ifaces = &mut defs.ifaces;
@@ -110,7 +108,7 @@ fn add_definition<'a>(
             add_dictionary(alloc, sources, steps, &mut defs.dicts, number, dictionary)
         }
         DefinitionKind::Enumeration(enumeration) => {
-            add_numbered(&mut defs.choices, enumeration_meant(alloc, enumeration)?)
+            defs.choices.push(enumeration_meant(alloc, enumeration)?)
         }
         DefinitionKind::Mixin(_) | DefinitionKind::Typedef(_) | DefinitionKind::Includes(_) => Ok(
             (),
@@ -127,16 +125,14 @@ fn add_interface<'a>(
     number: usize,
     interface: &Interface,
 ) -> Result<(), AllocError>
-    requires { MeansItself (plain_definitions sources.now) number (InterfaceDefinition (plain_interface interface.now)) }
-    ensures { OnOk result (Adds iface_term NumberedInterface (interface_if (plain_definitions sources.now) (InterfaceDefinition (plain_interface interface.now))) ifaces.old ifaces.new) }
+    requires kept { AreKept (plain_definitions sources.now) }
+    requires means { MeansItself (plain_definitions sources.now) number (InterfaceDefinition (plain_interface interface.now)) }
+    ensures { OnOk result (Adds iface_term (interface_if (plain_definitions sources.now) (InterfaceDefinition (plain_interface interface.now))) ifaces.old ifaces.new) }
 {
     if interface.partial {
         return Ok(());
     }
-    add_numbered(
-        ifaces,
-        interface_meant(alloc, sources, steps, texts, number, interface)?,
-    )
+    ifaces.push(interface_meant(alloc, sources, steps, texts, number, interface)?)
 }
 
 fn add_namespace<'a>(
@@ -148,16 +144,14 @@ fn add_namespace<'a>(
     number: usize,
     namespace: &Namespace,
 ) -> Result<(), AllocError>
-    requires { MeansItself (plain_definitions sources.now) number (NamespaceDefinition (plain_namespace namespace.now)) }
-    ensures { OnOk result (Adds space_term NumberedNamespace (namespace_if (plain_definitions sources.now) (NamespaceDefinition (plain_namespace namespace.now))) spaces.old spaces.new) }
+    requires kept { AreKept (plain_definitions sources.now) }
+    requires means { MeansItself (plain_definitions sources.now) number (NamespaceDefinition (plain_namespace namespace.now)) }
+    ensures { OnOk result (Adds space_term (namespace_if (plain_definitions sources.now) (NamespaceDefinition (plain_namespace namespace.now))) spaces.old spaces.new) }
 {
     if namespace.partial {
         return Ok(());
     }
-    add_numbered(
-        spaces,
-        namespace_meant(alloc, sources, steps, texts, number, namespace)?,
-    )
+    spaces.push(namespace_meant(alloc, sources, steps, texts, number, namespace)?)
 }
 
 fn add_dictionary(
@@ -169,13 +163,10 @@ fn add_dictionary(
     dictionary: &Dictionary,
 ) -> Result<(), AllocError>
     requires { MeansItself (plain_definitions sources.now) number (DictionaryDefinition (plain_dictionary dictionary.now)) }
-    ensures { OnOk result (Adds dict_term NumberedDictionary (dictionary_if (plain_definitions sources.now) (DictionaryDefinition (plain_dictionary dictionary.now))) dicts.old dicts.new) }
+    ensures { OnOk result (Adds dict_term (dictionary_if (plain_definitions sources.now) (DictionaryDefinition (plain_dictionary dictionary.now))) dicts.old dicts.new) }
 {
     if dictionary.partial {
         return Ok(());
     }
-    add_numbered(
-        dicts,
-        dictionary_meant(alloc, sources, steps, number, dictionary)?,
-    )
+    dicts.push(dictionary_meant(alloc, sources, steps, number, dictionary)?)
 }

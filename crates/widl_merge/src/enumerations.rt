@@ -1,7 +1,6 @@
 //! The enumerations that definitions declare.
 
-ghost use Rattle.std.specs.Prelude.{◌≡◌, ◌<◌, [], length, map, IfOk};
-ghost use Rattle.widl_idl.specs.Counts.{NumberedEnumeration};
+ghost use Rattle.std.specs.Prelude.{◌≡◌, [], map, IfOk};
 ghost use Rattle.widl_idl.specs.MergedList.{enumeration_of};
 ghost use Rattle.widl_idl.specs.PlainTrees.{enumeration_value_of};
 ghost use Rattle.widl_idl.specs.PlainTypes.{name_of};
@@ -16,10 +15,9 @@ use widl_text::{Items, Units};
 ///
 /// # Errors
 ///
-/// `AllocError` where there is no memory, also where 32 bits can't number the values.
+/// `AllocError` where there is no memory.
 pub fn enumeration_meant(alloc: Global, enumeration: &Enumeration) -> Result<Choice, AllocError>
-    ensures term { IfOk result (λ c. c ≡ enumeration_of [] (record { name = name_of enumeration.now.name; values = map enumeration_value_of enumeration.now.values; trailing_comma = enumeration.now.trailing_comma })) }
-    ensures numbered { IfOk result (λ c. NumberedEnumeration c) }
+    ensures { IfOk result (λ c. c ≡ enumeration_of [] (record { name = name_of enumeration.now.name; values = map enumeration_value_of enumeration.now.values; trailing_comma = enumeration.now.trailing_comma })) }
 {
     Ok(Choice {
         at: enumeration.name.at,
@@ -30,12 +28,8 @@ pub fn enumeration_meant(alloc: Global, enumeration: &Enumeration) -> Result<Cho
 
 /// The texts of values.
 fn texts_of(alloc: Global, values: &[EnumerationValue]) -> Result<Texts, AllocError>
-    ensures texts { IfOk result (λ texts. texts ≡ texts_of values.now) }
-    ensures numbered { IfOk result (λ texts. length texts < 4294967296) }
+    ensures { IfOk result (λ texts. texts ≡ texts_of values.now) }
 {
-    if values.len() > u32::MAX as usize {
-        return Err(AllocError);
-    }
     let mut texts = Items::new(alloc);
     for value in values {
         texts.push(Units::of_str(alloc, value.text.as_str())?)?;

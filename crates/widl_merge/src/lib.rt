@@ -21,7 +21,6 @@ mod name_rules;
 mod name_units;
 mod nesting;
 mod node_rules;
-mod numbered;
 mod numbered_items;
 mod operation_numbers;
 mod operations;

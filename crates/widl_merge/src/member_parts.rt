@@ -1,18 +1,15 @@
 //! Attributes, constants, pair iterables and members of dictionaries, with their types resolved.
 
 ghost use Rattle.std.specs.Prelude.{◌≡◌, IfOk, map, option_map};
-ghost use Rattle.widl_idl.specs.Counts.{NumberedAttr, NumberedConstant, NumberedPairs, NumberedType};
 ghost use Rattle.widl_idl.specs.DefinitionTerms.{attr_term, constant_term, member_term, pair_term};
 ghost use Rattle.widl_idl.specs.MergedMembers.{attr_of, is_static_attribute, pair_of};
 ghost use Rattle.widl_idl.specs.MergedMembers as MergedMembers;
 ghost use Rattle.widl_idl.specs.PlainTrees.{attribute_member_of, dictionary_member_of, plain_definitions};
 ghost use Rattle.widl_idl.specs.PlainTrees as PlainTrees;
 ghost use Rattle.widl_idl.specs.PlainTypes.{annotated_of, attribute_of};
-ghost use Rattle.widl_idl.specs.Terms.{type_term};
 
 use crate::long_texts::LongTexts;
 use crate::name_units::name_units;
-use crate::numbered::{type_alone, type_with};
 use std::alloc::{AllocError, Global};
 use widl_idl::tree::{
     self, AnnotatedType, Attribute, AttributeKind, DictionaryMember, ExtendedAttribute, Iterable,
@@ -24,8 +21,7 @@ use widl_names::{Resolver, default_meant, value_meant};
 ///
 /// # Errors
 ///
-/// `AllocError` where there is no memory or there are no more steps, also where 32 bits can't
-/// number the members of a union.
+/// `AllocError` where there is no memory or there are no more steps.
 pub fn attribute_meant<'a>(
     alloc: Global,
     resolver: &Resolver<'_, '_, 'a>,
@@ -34,11 +30,10 @@ pub fn attribute_meant<'a>(
     attributes: &'a [ExtendedAttribute],
     attribute: &'a Attribute,
 ) -> Result<Attr, AllocError>
-    ensures term { IfOk result (λ a. attr_term a ≡ attr_of (plain_definitions resolver.now) (record { attributes = map attribute_of attributes.now; attribute = attribute_member_of attribute.now })) }
-    ensures numbered { IfOk result (λ a. NumberedAttr a) }
+    ensures { IfOk result (λ a. attr_term a ≡ attr_of (plain_definitions resolver.now) (record { attributes = map attribute_of attributes.now; attribute = attribute_member_of attribute.now })) }
 {
     let name = texts.units_of(alloc, attribute.name.text.as_str())?;
-    let ty = type_with(alloc, resolver, steps, attributes, &attribute.ty)?;
+    let ty = resolver.resolve_with(alloc, steps, attributes, &attribute.ty)?;
     Ok(Attr {
         at: attribute.name.at,
         name,
@@ -71,11 +66,10 @@ pub fn constant_meant<'a>(
     texts: &mut LongTexts<'a>,
     constant: &'a tree::Constant,
 ) -> Result<Constant, AllocError>
-    ensures term { IfOk result (λ k. constant_term k ≡ MergedMembers.constant_of (plain_definitions resolver.now) (PlainTrees.constant_of constant.now)) }
-    ensures numbered { IfOk result (λ k. NumberedConstant k) }
+    ensures { IfOk result (λ k. constant_term k ≡ MergedMembers.constant_of (plain_definitions resolver.now) (PlainTrees.constant_of constant.now)) }
 {
     let name = texts.units_of(alloc, constant.name.text.as_str())?;
-    let ty = type_alone(alloc, resolver, steps, &constant.ty)?;
+    let ty = resolver.resolve_alone(alloc, steps, &constant.ty)?;
     let value = value_meant(alloc, &constant.value.value)?;
     Ok(Constant {
         at: constant.name.at,
@@ -96,14 +90,13 @@ pub fn pair_meant<'a>(
     steps: &mut usize,
     iterable: &'a Iterable,
 ) -> Result<Option<Pair>, AllocError>
-    ensures term { IfOk result (λ p. option_map pair_term p ≡ pair_of (plain_definitions resolver.now) (annotated_of iterable.now.first) (option_map annotated_of iterable.now.second)) }
-    ensures numbered { IfOk result (λ p. NumberedPairs p) }
+    ensures { IfOk result (λ p. option_map pair_term p ≡ pair_of (plain_definitions resolver.now) (annotated_of iterable.now.first) (option_map annotated_of iterable.now.second)) }
 {
     match &iterable.second {
         None => Ok(None),
         Some(second) => {
-            let key = type_with(alloc, resolver, steps, &[], &iterable.first)?;
-            let value = type_with(alloc, resolver, steps, &[], second)?;
+            let key = resolver.resolve_with(alloc, steps, &[], &iterable.first)?;
+            let value = resolver.resolve_with(alloc, steps, &[], second)?;
             Ok(Some(Pair { key, value }))
         }
     }
@@ -120,12 +113,11 @@ pub fn dictionary_member_meant<'a>(
     steps: &mut usize,
     member: &'a DictionaryMember,
 ) -> Result<Member, AllocError>
-    ensures term { IfOk result (λ m. member_term m ≡ MergedMembers.member_of (plain_definitions resolver.now) (dictionary_member_of member.now)) }
-    ensures numbered { IfOk result (λ m. NumberedType (type_term m.ty)) }
+    ensures { IfOk result (λ m. member_term m ≡ MergedMembers.member_of (plain_definitions resolver.now) (dictionary_member_of member.now)) }
 {
     let name = name_units(alloc, &member.name)?;
     let attributes = member.attributes.as_slice();
-    let ty = type_with(alloc, resolver, steps, attributes, &member.ty)?;
+    let ty = resolver.resolve_with(alloc, steps, attributes, &member.ty)?;
     let value = default_meant(alloc, &member.default)?;
     Ok(Member {
         at: member.name.at,

@@ -2,18 +2,15 @@
 
 ghost use Rattle.std.specs.Prelude.{◌≡◌, map, IfOk};
 ghost use Rattle.widl_idl.specs.declared.kind.Kind.TheVariants as kinds;
-ghost use Rattle.widl_idl.specs.Counts.{NumberedDictionary, IsNumbered, NumberedType};
 ghost use Rattle.widl_idl.specs.DefinitionTerms.{dict_term, member_term};
 ghost use Rattle.widl_idl.specs.MergedList.{dictionary_of};
 ghost use Rattle.widl_idl.specs.MergedMembers as merged;
 ghost use Rattle.widl_idl.specs.PlainTrees.{dictionary_member_of, plain_definitions};
 ghost use Rattle.widl_idl.specs.PlainTypes.{name_of};
-ghost use Rattle.widl_idl.specs.Terms.{type_term};
 ghost use Rattle.widl_merge.specs.GrownLists.{HasParentOf, Means};
 ghost use Rattle.widl_merge.specs.PlainMain.{plain_dictionary};
 
 use crate::member_parts::dictionary_member_meant;
-use crate::numbered_items::add_numbered;
 use crate::sources::Sources;
 use std::alloc::{AllocError, Global};
 use widl_idl::tree::{Dictionary, DictionaryMember};
@@ -25,8 +22,7 @@ use widl_text::Units;
 ///
 /// # Errors
 ///
-/// `AllocError` where there is no memory, also where no steps are left or 32 bits can't number its
-/// members.
+/// `AllocError` where there is no memory, also where no steps are left.
 pub fn dictionary_meant(
     alloc: Global,
     sources: &Sources<'_, '_, '_>,
@@ -36,8 +32,7 @@ pub fn dictionary_meant(
 ) -> Result<Dict, AllocError>
     requires itself { Means (plain_definitions sources.now) (name_of dictionary.now.name).text number kinds.Dictionary }
     requires parent { HasParentOf (plain_definitions sources.now) kinds.Dictionary (plain_dictionary dictionary.now).parent }
-    ensures term { IfOk result (λ d. dict_term d ≡ dictionary_of (plain_definitions sources.now) (plain_dictionary dictionary.now)) }
-    ensures numbered { IfOk result (λ d. NumberedDictionary d) }
+    ensures { IfOk result (λ d. dict_term d ≡ dictionary_of (plain_definitions sources.now) (plain_dictionary dictionary.now)) }
 {
     let list = sources.dictionary_members(alloc, number)?;
     let members = members_meant(alloc, sources.resolver(), steps, &list)?;
@@ -58,13 +53,12 @@ fn members_meant<'a>(
     steps: &mut usize,
     list: &[&'a DictionaryMember],
 ) -> Result<Members, AllocError>
-    ensures terms { IfOk result (λ members. map member_term members ≡ map (merged.member_of (plain_definitions resolver.now)) (map (λ m. dictionary_member_of m.now) list.now)) }
-    ensures numbered { IfOk result (λ members. IsNumbered (λ m. NumberedType (type_term m.ty)) members) }
+    ensures { IfOk result (λ members. map member_term members ≡ map (merged.member_of (plain_definitions resolver.now)) (map (λ m. dictionary_member_of m.now) list.now)) }
 {
     let mut members = Members::new(alloc);
     for member in list {
         let meant = dictionary_member_meant(alloc, resolver, steps, member)?;
-        add_numbered(&mut members, meant)?;
+        members.push(meant)?;
     }
     Ok(members)
 }

@@ -2,12 +2,11 @@
 
 ghost use Rattle.std.specs.Prelude.{◌≡◌, IfOk, OnOk};
 ghost use Rattle.widl_idl.specs.declared.kind.Kind.TheVariants as kinds;
-ghost use Rattle.widl_idl.specs.Counts.{NumberedInterface, NumberedNamespace};
 ghost use Rattle.widl_idl.specs.DefinitionTerms.{iface_term, space_term};
 ghost use Rattle.widl_idl.specs.MergedList.{interface_of, namespace_of};
 ghost use Rattle.widl_idl.specs.PlainTrees.{plain_definitions};
 ghost use Rattle.widl_idl.specs.PlainTypes.{name_of};
-ghost use Rattle.widl_merge.specs.GrownLists.{HasParentOf, Means};
+ghost use Rattle.widl_merge.specs.GrownLists.{AreKept, HasParentOf, Means};
 ghost use Rattle.widl_merge.specs.PlainMain.{plain_interface, plain_namespace};
 
 use crate::long_texts::LongTexts;
@@ -22,8 +21,7 @@ use widl_text::Units;
 ///
 /// # Errors
 ///
-/// `AllocError` where there is no memory, also where no steps are left or 32 bits can't number its
-/// members.
+/// `AllocError` where there is no memory, also where no steps are left.
 pub fn interface_meant<'a>(
     alloc: Global,
     sources: &Sources<'_, '_, 'a>,
@@ -32,10 +30,10 @@ pub fn interface_meant<'a>(
     number: usize,
     interface: &Interface,
 ) -> Result<Iface, AllocError>
+    requires kept { AreKept (plain_definitions sources.now) }
     requires itself { Means (plain_definitions sources.now) (name_of interface.now.name).text number kinds.Interface }
     requires parent { HasParentOf (plain_definitions sources.now) kinds.Interface (plain_interface interface.now).parent }
-    ensures term { IfOk result (λ i. iface_term i ≡ interface_of (plain_definitions sources.now) (plain_interface interface.now)) }
-    ensures numbered { IfOk result (λ i. NumberedInterface i) }
+    ensures { IfOk result (λ i. iface_term i ≡ interface_of (plain_definitions sources.now) (plain_interface interface.now)) }
 {
     let list = sources.members(alloc, number)?;
     let members = put_together(alloc, sources.resolver(), steps, texts, &list)?;
@@ -59,8 +57,7 @@ pub fn interface_meant<'a>(
 ///
 /// # Errors
 ///
-/// `AllocError` where there is no memory, also where no steps are left or 32 bits can't number its
-/// members.
+/// `AllocError` where there is no memory, also where no steps are left.
 pub fn namespace_meant<'a>(
     alloc: Global,
     sources: &Sources<'_, '_, 'a>,
@@ -69,9 +66,9 @@ pub fn namespace_meant<'a>(
     number: usize,
     namespace: &Namespace,
 ) -> Result<Space, AllocError>
-    requires { Means (plain_definitions sources.now) (name_of namespace.now.name).text number kinds.Namespace }
-    ensures term { IfOk result (λ s. space_term s ≡ namespace_of (plain_definitions sources.now) (plain_namespace namespace.now)) }
-    ensures numbered { IfOk result (λ s. NumberedNamespace s) }
+    requires kept { AreKept (plain_definitions sources.now) }
+    requires itself { Means (plain_definitions sources.now) (name_of namespace.now.name).text number kinds.Namespace }
+    ensures { IfOk result (λ s. space_term s ≡ namespace_of (plain_definitions sources.now) (plain_namespace namespace.now)) }
 {
     let list = sources.members(alloc, number)?;
     let members = put_together(alloc, sources.resolver(), steps, texts, &list)?;

@@ -1,12 +1,12 @@
 //! The members of an interface or a namespace, put together from its parts: by kind, and operations by
 //! their names.
 
-ghost use Rattle.std.specs.Prelude.{◌≡◌, ◌<◌, false, List, [], length, map, IfOk, OnOk};
+ghost use Rattle.std.specs.Prelude.{◌≡◌, ◌<◌, ◌^◌, false, List, [], length, map, IfOk, OnOk};
 ghost use Rattle.widl_idl.specs.MergedMembers.{is_stringifier_attribute, operation_text};
 ghost use Rattle.widl_idl.specs.PlainTrees.{AttributeMember, ConstantMember, ConstructorMember, IterableMember, OperationMember, attribute_member_of, constant_of, constructor_of, iterable_of, member_of, operation_of, plain_definitions};
 ghost use Rattle.widl_idl.specs.PlainTypes.{PlainAttribute, attribute_of};
 ghost use Rattle.widl_idl.specs.WrittenLiterals.{units_of};
-ghost use Rattle.widl_merge.specs.PutTogether.{ArePutTogether, GetsStringifier, Grows, GrowsByMember, GrowsByOperation, HasName, HasOverload, number_named};
+ghost use Rattle.widl_merge.specs.PutTogether.{ArePutTogether, GetsStringifier, Grows, GrowsByMember, GrowsByOperation, HasName, HasOverload, HasRoom, number_named};
 ghost use Rattle.widl_names.specs.Listings.{listed_members};
 
 use crate::long_texts::LongTexts;
@@ -47,8 +47,8 @@ pub struct MergedMembers {
 ///
 /// # Errors
 ///
-/// `AllocError` where there is no memory, also where there are more than 4,294,967,295 members of a
-/// kind, and where the types of the members take more steps than are left.
+/// `AllocError` where there is no memory, also where the types of the members take more steps than are
+/// left.
 pub fn put_together<'a>(
     alloc: Global,
     resolver: &Resolver<'_, '_, 'a>,
@@ -56,6 +56,7 @@ pub fn put_together<'a>(
     texts: &mut LongTexts<'a>,
     members: &[&'a Member],
 ) -> Result<MergedMembers, AllocError>
+    requires { length members.now < 2 ^ 32 }
     ensures { IfOk result (λ m. ArePutTogether (plain_definitions resolver.now) (listed_members members.now) m) }
 {
     let mut merged = MergedMembers::new(alloc);
@@ -92,6 +93,7 @@ impl MergedMembers {
         numbers: &mut OperationNumbers<'a>,
         member: &'a Member,
     ) -> Result<(), AllocError>
+        requires { HasRoom self.old (number_named numbers.old.regular numbers.old.fixed) }
         ensures { OnOk result (GrowsByMember (plain_definitions resolver.now) (member_of member.now) self.old (number_named numbers.old.regular numbers.old.fixed) self.new (number_named numbers.new.regular numbers.new.fixed)) }
     {
         let attributes = member.attributes.as_slice();
@@ -131,8 +133,7 @@ impl MergedMembers {
         ensures { OnOk result ((attributes : List PlainAttribute) → Grows (plain_definitions resolver.now) attributes (ConstructorMember (constructor_of constructor.now)) self.old self.new) }
     {
         let sig = constructor_sig(alloc, resolver, steps, texts, constructor)?;
-        push_numbered(&mut self.ctors, sig)?;
-        Ok(())
+        self.ctors.push(sig)
     }
 
     fn add_constant<'a>(
@@ -143,12 +144,12 @@ impl MergedMembers {
         texts: &mut LongTexts<'a>,
         constant: &'a Constant,
     ) -> Result<(), AllocError>
+        requires { length self.old.consts < 2 ^ 32 }
         ensures { OnOk result ((attributes : List PlainAttribute) → Grows (plain_definitions resolver.now) attributes (ConstantMember (constant_of constant.now)) self.old self.new) }
     {
         let meant = constant_meant(alloc, resolver, steps, texts, constant)?;
         let number = push_numbered(&mut self.consts, meant)?;
-        push_numbered(&mut self.order, Slot::Constant(number))?;
-        Ok(())
+        self.order.push(Slot::Constant(number))
     }
 
     fn add_attribute<'a>(
@@ -160,11 +161,12 @@ impl MergedMembers {
         attributes: &'a [ExtendedAttribute],
         attribute: &'a Attribute,
     ) -> Result<(), AllocError>
+        requires { length self.old.attrs < 2 ^ 32 }
         ensures { OnOk result (Grows (plain_definitions resolver.now) (map attribute_of attributes.now) (AttributeMember (attribute_member_of attribute.now)) self.old self.new) }
     {
         let meant = attribute_meant(alloc, resolver, steps, texts, attributes, attribute)?;
         let number = push_numbered(&mut self.attrs, meant)?;
-        push_numbered(&mut self.order, Slot::Attr(number))?;
+        self.order.push(Slot::Attr(number))?;
         if is_stringifier(attribute.kind) {
             self.add_stringifier(Stringify::Attr(number))
         } else {
@@ -179,8 +181,7 @@ impl MergedMembers {
         match self.text {
             Stringify::No => {
                 self.text = text;
-                push_numbered(&mut self.order, Slot::Stringifier)?;
-                Ok(())
+                self.order.push(Slot::Stringifier)
             }
             Stringify::Plain | Stringify::Attr(_) => Ok(()),
         }
@@ -203,8 +204,7 @@ impl MergedMembers {
             None => Ok(()),
             Some(pair) => {
                 self.pairs = Some(pair);
-                push_numbered(&mut self.order, Slot::Pairs)?;
-                Ok(())
+                self.order.push(Slot::Pairs)
             }
         }
     }
@@ -218,6 +218,7 @@ impl MergedMembers {
         numbers: &mut OperationNumbers<'a>,
         operation: &'a Operation,
     ) -> Result<(), AllocError>
+        requires { HasRoom self.old (number_named numbers.old.regular numbers.old.fixed) }
         ensures { OnOk result (GrowsByOperation (plain_definitions resolver.now) (operation_of operation.now) self.old (number_named numbers.old.regular numbers.old.fixed) self.new (number_named numbers.new.regular numbers.new.fixed)) }
     {
         let sig = operation_sig(alloc, resolver, steps, texts, operation)?;
@@ -228,8 +229,7 @@ impl MergedMembers {
             None => {
                 let number = add_name(alloc, &mut self.ops, texts, text, fixed, sig)?;
                 numbers.keep(text, fixed, number)?;
-                push_numbered(&mut self.order, Slot::Op(number))?;
-                Ok(())
+                self.order.push(Slot::Op(number))
             }
         }
     }
@@ -254,16 +254,13 @@ fn operation_text(operation: &Operation) -> &str
     }
 }
 
-/// Adds a signature to the operations of the name of this number. Each number that is kept for a name is
-/// that of one.
+/// Adds a signature to the operations of the name of this number.
 fn add_overload(alloc: Global, ops: &mut OpNames, number: usize, sig: Sig) -> Result<(), AllocError>
+    requires { number < length ops.old }
     ensures { OnOk result (HasOverload ops.old ops.new number sig) }
 {
-    if number >= ops.len() {
-        return Err(AllocError);
-    }
     let mut op = ops.replace(number, nameless(alloc));
-    push_numbered(&mut op.sigs, sig)?;
+    op.sigs.push(sig)?;
     ops.replace(number, op);
     Ok(())
 }
@@ -288,12 +285,12 @@ fn add_name<'a>(
     fixed: bool,
     sig: Sig,
 ) -> Result<u32, AllocError>
+    requires { length ops.old < 2 ^ 32 }
     ensures list { OnOk result (HasName ops.old ops.new (units_of text.now) fixed sig) }
-    ensures few { OnOk result (length ops.new < 4294967296) }
     ensures number { IfOk result (λ number. number ≡ length ops.old) }
 {
     let name = texts.units_of(alloc, text)?;
     let mut sigs = Items::new(alloc);
-    push_numbered(&mut sigs, sig)?;
+    sigs.push(sig)?;
     push_numbered(ops, OpName { name, fixed, sigs })
 }

@@ -6,6 +6,7 @@ ghost use Rattle.widl_idl.specs.MergedSets.{AreFiles, IsMerged};
 ghost use Rattle.widl_idl.specs.Meanings.{definitions_of};
 ghost use Rattle.widl_idl.specs.Nodes.{nodes_of};
 ghost use Rattle.widl_names.specs.Listings.{listed_definitions, nodes_listed};
+ghost use Rattle.widl_merge.specs.Countable.{IsCountable};
 ghost use Rattle.widl_merge.specs.MergedDefs.{AreMerged};
 ghost use Rattle.widl_merge.specs.Refusals.{IsRefusal};
 
@@ -46,10 +47,11 @@ impl From<AllocError> for MergeFault {
 /// # Errors
 ///
 /// `Refused` with the first refusal: by the rules of the profile, or, where none of these is broken, by
-/// the rules of merging. `Memory` where there is no memory, also where 32 bits can't number what is in
-/// the list, or where more than [`MOST_TYPES`] types stand in the types of its typedefs.
+/// the rules of merging. `Memory` where there is no memory, also where more than [`MOST_TYPES`] types
+/// stand in the types of its typedefs.
 pub fn merge(alloc: Global, fragments: Fragments) -> Result<Merged, MergeFault>
-    requires { AreFiles fragments }
+    requires files { AreFiles fragments }
+    requires countable { IsCountable (definitions_of fragments) }
     ensures fragments { IfOk result (λ m. m.fragments ≡ fragments) }
     ensures merged { IfOk result (λ m. IsMerged m.defs m.fragments) }
     ensures refused { (refusal : RefusalType) → IsErrOf result (MergeFault.Refused refusal) → IsRefusal (definitions_of fragments) (Some refusal) }

@@ -1,16 +1,12 @@
 //! The signatures of operations and constructors, with their types resolved.
 
 ghost use Rattle.std.specs.Prelude.{◌≡◌, Some, IfOk, map, option_map};
-ghost use Rattle.widl_idl.specs.declared.argument.Arg.{Arg as ArgType};
-ghost use Rattle.widl_idl.specs.Counts.{IsNumbered, NumberedSig, NumberedType};
 ghost use Rattle.widl_idl.specs.DefinitionTerms.{arg_term, sig_term};
 ghost use Rattle.widl_idl.specs.MergedMembers.{arg_of, constructor_in, default_in, operation_place, optionality_of, sig_of_operation};
 ghost use Rattle.widl_idl.specs.PlainTrees.{ConstructorMember, argument_kind_of, argument_of, arguments_of, constructor_of, operation_of, plain_definitions};
 ghost use Rattle.widl_idl.specs.PlainTypes.{name_of};
-ghost use Rattle.widl_idl.specs.Terms.{type_term};
 
 use crate::long_texts::LongTexts;
-use crate::numbered::{check_count, type_alone, type_with};
 use std::alloc::{AllocError, Global};
 use widl_idl::tree::{Argument, ArgumentKind, Constructor, Operation};
 use widl_idl::{Arg, Args, IdlType, Literal, Optionality, Sig};
@@ -21,8 +17,7 @@ use widl_text::Place;
 ///
 /// # Errors
 ///
-/// `AllocError` where there is no memory or there are no more steps, also where 32 bits can't
-/// number the arguments or the members of a union.
+/// `AllocError` where there is no memory or there are no more steps.
 pub fn operation_sig<'a>(
     alloc: Global,
     resolver: &Resolver<'_, '_, 'a>,
@@ -30,8 +25,7 @@ pub fn operation_sig<'a>(
     texts: &mut LongTexts<'a>,
     operation: &'a Operation,
 ) -> Result<Sig, AllocError>
-    ensures term { IfOk result (λ sig. sig_term sig ≡ sig_of_operation (plain_definitions resolver.now) (operation_of operation.now)) }
-    ensures numbered { IfOk result (λ sig. NumberedSig sig) }
+    ensures { IfOk result (λ sig. sig_term sig ≡ sig_of_operation (plain_definitions resolver.now) (operation_of operation.now)) }
 {
     let args = args_meant(
         alloc,
@@ -40,7 +34,7 @@ pub fn operation_sig<'a>(
         texts,
         operation.arguments.as_slice(),
     )?;
-    let result = type_alone(alloc, resolver, steps, &operation.result)?;
+    let result = resolver.resolve_alone(alloc, steps, &operation.result)?;
     Ok(Sig {
         at: operation_place(operation),
         args,
@@ -70,8 +64,7 @@ pub fn constructor_sig<'a>(
     texts: &mut LongTexts<'a>,
     constructor: &'a Constructor,
 ) -> Result<Sig, AllocError>
-    ensures term { IfOk result (λ sig. Some (sig_term sig) ≡ constructor_in (plain_definitions resolver.now) (ConstructorMember (constructor_of constructor.now))) }
-    ensures numbered { IfOk result (λ sig. NumberedSig sig) }
+    ensures { IfOk result (λ sig. Some (sig_term sig) ≡ constructor_in (plain_definitions resolver.now) (ConstructorMember (constructor_of constructor.now))) }
 {
     let args = args_meant(
         alloc,
@@ -99,10 +92,8 @@ pub fn args_meant<'a>(
     texts: &mut LongTexts<'a>,
     arguments: &'a [Argument],
 ) -> Result<Args, AllocError>
-    ensures term { IfOk result (λ args. map arg_term args ≡ map (arg_of (plain_definitions resolver.now)) (arguments_of arguments.now)) }
-    ensures numbered { IfOk result (λ args. IsNumbered (λ (a : ArgType). NumberedType (type_term a.ty)) args) }
+    ensures { IfOk result (λ args. map arg_term args ≡ map (arg_of (plain_definitions resolver.now)) (arguments_of arguments.now)) }
 {
-    check_count(arguments.len())?;
     let mut args = Args::new(alloc);
     for argument in arguments {
         let arg = arg_meant(alloc, resolver, steps, texts, argument)?;
@@ -118,12 +109,11 @@ fn arg_meant<'a>(
     texts: &mut LongTexts<'a>,
     argument: &'a Argument,
 ) -> Result<Arg, AllocError>
-    ensures term { IfOk result (λ arg. arg_term arg ≡ arg_of (plain_definitions resolver.now) (argument_of argument.now)) }
-    ensures numbered { IfOk result (λ arg. NumberedType (type_term arg.ty)) }
+    ensures { IfOk result (λ arg. arg_term arg ≡ arg_of (plain_definitions resolver.now) (argument_of argument.now)) }
 {
     let name = texts.units_of(alloc, argument.name.text.as_str())?;
     let attributes = argument.attributes.as_slice();
-    let ty = type_with(alloc, resolver, steps, attributes, &argument.ty)?;
+    let ty = resolver.resolve_with(alloc, steps, attributes, &argument.ty)?;
     let value = default_in(alloc, texts, &argument.kind)?;
     Ok(Arg {
         name,

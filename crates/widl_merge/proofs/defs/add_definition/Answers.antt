@@ -1,7 +1,6 @@
 use Rattle.std.proofs.Common.{ap, refl, Some, ◌∙◌}
 use Rattle.std.proofs.lemmas.Result.{on_ok_weaker}
 use Rattle.widl_idl.specs.declared.enumeration.Choice.{Choice}
-use Rattle.widl_idl.specs.Counts.{NumberedCallback, NumberedEnumeration}
 use Rattle.widl_idl.specs.DefinitionTerms.{callback_term}
 use Rattle.widl_idl.specs.MergedList.{callback_interface_of, callback_of, enumeration_of}
 use Rattle.widl_idl.specs.PlainTrees.{definition_kind_of, plain_definitions}
@@ -29,27 +28,27 @@ returns-in_ok-meant-in-Callback c =
     let all = plain_definitions c.args.sources.now in
     let plain = plain_callback c.in-Callback.callback in
     let meant = c.in_ok-meant-in-Callback.meant in
-    on_ok_weaker c.add_numbered.result
-    (λ adds. callback_grows all (definition_kind_of c.args.kind.now) c.args.defs.now plain c.add_numbered.new.items (ap definition_kind_of c.in-Callback.is) adds)
-    (pushed_adds callback_term NumberedCallback (callback_of all plain) (Some (callback_of all plain)) meant c.args.defs.now.callback_fns c.add_numbered.new.items c.add_numbered.result c.add_numbered.ensures.list c.add_numbered.ensures.few
-    (c.in_ok-meant-in-Callback.ensures.term ∙ ap (λ ds. callback_of (plain_definitions ds) plain) c.resolver.ensures) c.in_ok-meant-in-Callback.ensures.numbered refl)
+    on_ok_weaker c.push.result
+    (λ adds. callback_grows all (definition_kind_of c.args.kind.now) c.args.defs.now plain c.push.new.self (ap definition_kind_of c.in-Callback.is) adds)
+    (pushed_adds callback_term (callback_of all plain) (Some (callback_of all plain)) meant c.args.defs.now.callback_fns c.push.new.self c.push.result c.push.ensures.ok
+    (c.in_ok-meant-in-Callback.ensures ∙ ap (λ ds. callback_of (plain_definitions ds) plain) c.resolver.ensures) refl)
 
 pub returns-in_ok-meant-in-CallbackInterface : goal.returns-in_ok-meant-in-CallbackInterface
 returns-in_ok-meant-in-CallbackInterface c =
     let all = plain_definitions c.args.sources.now in
     let plain = plain_callback_interface c.in-CallbackInterface.callback in
     let meant = c.in_ok-meant-in-CallbackInterface.meant in
-    on_ok_weaker c.add_numbered-in-CallbackInterface.result
-    (λ adds. callback_interface_grows all (definition_kind_of c.args.kind.now) c.args.defs.now plain c.add_numbered-in-CallbackInterface.new.items (ap definition_kind_of c.in-CallbackInterface.is) adds)
-    (pushed_adds callback_term NumberedCallback (callback_interface_of all plain) (Some (callback_interface_of all plain)) meant c.args.defs.now.callback_ifaces c.add_numbered-in-CallbackInterface.new.items c.add_numbered-in-CallbackInterface.result c.add_numbered-in-CallbackInterface.ensures.list c.add_numbered-in-CallbackInterface.ensures.few
-    (c.in_ok-meant-in-CallbackInterface.ensures.term ∙ ap (λ ds. callback_interface_of (plain_definitions ds) plain) c.resolver-in-CallbackInterface.ensures) c.in_ok-meant-in-CallbackInterface.ensures.numbered refl)
+    on_ok_weaker c.push-in-CallbackInterface.result
+    (λ adds. callback_interface_grows all (definition_kind_of c.args.kind.now) c.args.defs.now plain c.push-in-CallbackInterface.new.self (ap definition_kind_of c.in-CallbackInterface.is) adds)
+    (pushed_adds callback_term (callback_interface_of all plain) (Some (callback_interface_of all plain)) meant c.args.defs.now.callback_ifaces c.push-in-CallbackInterface.new.self c.push-in-CallbackInterface.result c.push-in-CallbackInterface.ensures.ok
+    (c.in_ok-meant-in-CallbackInterface.ensures ∙ ap (λ ds. callback_interface_of (plain_definitions ds) plain) c.resolver-in-CallbackInterface.ensures) refl)
 
 pub returns-in_ok-enumeration_meant-in-Enumeration : goal.returns-in_ok-enumeration_meant-in-Enumeration
 returns-in_ok-enumeration_meant-in-Enumeration c =
     let all = plain_definitions c.args.sources.now in
     let plain = plain_enumeration c.in-Enumeration.enumeration in
     let meant = c.in_ok-enumeration_meant-in-Enumeration.field-0 in
-    on_ok_weaker c.add_numbered-in-Enumeration.result
-    (λ adds. enumeration_grows all (definition_kind_of c.args.kind.now) c.args.defs.now plain c.add_numbered-in-Enumeration.new.items (ap definition_kind_of c.in-Enumeration.is) adds)
-    (pushed_adds (λ (x : Choice). x) NumberedEnumeration (enumeration_of all plain) (Some (enumeration_of all plain)) meant c.args.defs.now.choices c.add_numbered-in-Enumeration.new.items c.add_numbered-in-Enumeration.result c.add_numbered-in-Enumeration.ensures.list c.add_numbered-in-Enumeration.ensures.few
-    (c.in_ok-enumeration_meant-in-Enumeration.ensures.term) c.in_ok-enumeration_meant-in-Enumeration.ensures.numbered refl)
+    on_ok_weaker c.push-in-Enumeration.result
+    (λ adds. enumeration_grows all (definition_kind_of c.args.kind.now) c.args.defs.now plain c.push-in-Enumeration.new.self (ap definition_kind_of c.in-Enumeration.is) adds)
+    (pushed_adds (λ (x : Choice). x) (enumeration_of all plain) (Some (enumeration_of all plain)) meant c.args.defs.now.choices c.push-in-Enumeration.new.self c.push-in-Enumeration.result c.push-in-Enumeration.ensures.ok
+    c.in_ok-enumeration_meant-in-Enumeration.ensures refl)

@@ -1,5 +1,4 @@
 use Rattle.std.proofs.Common.{cond, ap, None, Some}
-use Rattle.widl_idl.specs.Counts.{NumberedDictionary}
 use Rattle.widl_idl.specs.DefinitionTerms.{dict_term}
 use Rattle.widl_idl.specs.MergedList.{dictionary_of}
 use Rattle.widl_idl.specs.PlainTrees.{plain_definitions}
@@ -14,5 +13,5 @@ dictionary_meant-requires-clause-itself c = c.requires.itself (name_of c.args.di
 pub returns : goal.returns
 returns c =
     let found = dictionary_of (plain_definitions c.args.sources.now) (plain_dictionary c.args.dictionary.now) in
-    pushed_adds dict_term NumberedDictionary found _ c.in_ok-dictionary_meant.field-0 c.args.dicts.now c.add_numbered.new.items c.add_numbered.result c.add_numbered.ensures.list c.add_numbered.ensures.few c.in_ok-dictionary_meant.ensures.term c.in_ok-dictionary_meant.ensures.numbered
+    pushed_adds dict_term found _ c.in_ok-dictionary_meant.field-0 c.args.dicts.now c.push.new.self c.push.result c.push.ensures.ok c.in_ok-dictionary_meant.ensures
     (ap (λ b. cond b None (Some found)) c.if-dictionary.false)

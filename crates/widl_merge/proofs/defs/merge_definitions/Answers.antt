@@ -1,7 +1,7 @@
 use Rattle.std.proofs.Common.{sym, subst}
 use Rattle.widl_idl.specs.PlainTrees.{definition_kind_of, plain_definitions}
 use Rattle.widl_names.proofs.PlainLists.{kind_there, listed_same}
-use Rattle.widl_merge.specs.GrownLists.{Grows, MeansItself}
+use Rattle.widl_merge.specs.GrownLists.{AreKept, Grows, MeansItself}
 use Rattle.widl_merge.proofs.Growing.{all_listed, listed_step}
 use Rattle.widl_merge.proofs.Unbroken.{means_itself}
 use Rattle.widl_merge.proofs.defs.merge_definitions.Goals as goal
@@ -9,12 +9,15 @@ use Rattle.widl_merge.proofs.defs.merge_definitions.Goals as goal
 pub loop-number-init : goal.loop-number-init
 loop-number-init c = c.no_definitions-defs.ensures (plain_definitions c.args.meanings.now)
 
-pub add_definition-requires : goal.add_definition-requires
-add_definition-requires c =
+pub add_definition-requires-clause-means : goal.add_definition-requires-clause-means
+add_definition-requires-clause-means c =
     let kind = definition_kind_of c.index-definitions-number.result.now.kind in
     subst (λ ds. MeansItself (plain_definitions ds) c.loop-number.number kind) (sym c.in_ok-sources.ensures)
     (means_itself (plain_definitions c.args.meanings.now) c.loop-number.number kind c.requires.kept
     (kind_there c.all-definitions.result.now c.args.meanings.now c.loop-number.number c.index-definitions-number.result c.loop-number-test.true c.index-definitions-number.is c.all-definitions.ensures))
+
+pub add_definition-requires-clause-kept : goal.add_definition-requires-clause-kept
+add_definition-requires-clause-kept c = subst (λ ds. AreKept (plain_definitions ds)) (sym c.in_ok-sources.ensures) c.requires.kept
 
 pub loop-number-preserved : goal.loop-number-preserved
 loop-number-preserved c =

@@ -1,20 +1,32 @@
-use Rattle.std.proofs.Common.{◌≡◌, ap, refl, subst, ◌∙◌}
+use Rattle.std.proofs.Common.{◌≡◌, length, arith, ap, refl, subst, ◌∙◌}
+use Rattle.std.proofs.lemmas.List.{length-map}
 use Rattle.widl_idl.specs.declared.kind.Kind.TheVariants as kinds
 use Rattle.widl_idl.specs.Parts.{merged_members}
-use Rattle.widl_idl.specs.PlainTrees.{plain_definitions}
+use Rattle.widl_idl.specs.PlainTrees.{member_of, plain_definitions}
 use Rattle.widl_idl.specs.WrittenLiterals.{units_of}
 use Rattle.widl_merge.specs.PlainMain.{plain_namespace}
 use Rattle.widl_merge.specs.PutTogether.{ArePutTogether}
 use Rattle.widl_merge.proofs.Made.{namespace_made}
+use Rattle.widl_merge.proofs.Unbroken.{namespace_room}
 use Rattle.widl_merge.proofs.merged_interfaces.namespace_meant.Goals as goal
 use Rattle.widl_names.specs.Listings.{listed_members}
 
-pub returns-clause-term : goal.returns-clause-term
-returns-clause-term c =
+pub put_together-requires : goal.put_together-requires
+put_together-requires c =
+    let all = plain_definitions c.args.sources.now in
+    let plain = plain_namespace c.args.namespace.now in
+    let same : listed_members c.deref.result.now ≡ merged_members all kinds.Namespace plain.name.text = ap listed_members c.deref.ensures.value ∙ c.in_ok-list.ensures plain.name.text kinds.Namespace c.requires.itself refl in
+    let few = namespace_room all c.requires.kept plain.name.text c.args.number c.requires.itself in
+    let size = ap length same in
+    let listed = length-map c.deref.result.now (λ m. member_of m.now) in
+    omega (arith, few, size, listed)
+
+pub returns : goal.returns
+returns c =
     let all = plain_definitions c.args.sources.now in
     let plain = plain_namespace c.args.namespace.now in
     let m = c.in_ok-members.members in
-    let same : listed_members c.deref.result.now ≡ merged_members all kinds.Namespace plain.name.text = ap listed_members c.deref.ensures.value ∙ c.in_ok-list.ensures plain.name.text kinds.Namespace c.requires refl in
+    let same : listed_members c.deref.result.now ≡ merged_members all kinds.Namespace plain.name.text = ap listed_members c.deref.ensures.value ∙ c.in_ok-list.ensures plain.name.text kinds.Namespace c.requires.itself refl in
     let put : ArePutTogether all (merged_members all kinds.Namespace plain.name.text) m =
     subst (λ ms. ArePutTogether all ms m) same (subst (λ ds. ArePutTogether (plain_definitions ds) (listed_members c.deref.result.now) m) c.resolver.ensures c.in_ok-members.ensures) in
     namespace_made all plain m c.args.namespace.now.name.at c.in_ok-name.name put refl (c.in_ok-name.ensures ∙ ap units_of c.as_str.ensures.value)

@@ -45,3 +45,9 @@ returns-in-AsyncIterable-2 c = λ members g. unsupported_more (plain_definitions
 
 pub returns-in-AsyncIterable-3 : goal.returns-in-AsyncIterable-3
 returns-in-AsyncIterable-3 c = λ members g. unsupported_more (plain_definitions c.args.resolver.now) members c.args.member.now c.args.self.now (number_named c.args.numbers.now.regular c.args.numbers.now.fixed) c.in-AsyncIterable.is g
+
+pub add_constant-requires : goal.add_constant-requires
+add_constant-requires c = c.requires.consts
+
+pub add_attribute-requires : goal.add_attribute-requires
+add_attribute-requires c = c.requires.attrs

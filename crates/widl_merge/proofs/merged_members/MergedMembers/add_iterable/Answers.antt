@@ -1,5 +1,5 @@
-use Rattle.std.proofs.Common.{ap, option_map, subst, sym, ◌∙◌}
-use Rattle.widl_idl.specs.Counts.{NumberedPairs}
+use Rattle.std.proofs.Common.{ap, option_map, sym, ◌∙◌}
+use Rattle.std.proofs.lemmas.Result.{on_ok_weaker}
 use Rattle.widl_idl.specs.DefinitionTerms.{pair_term}
 use Rattle.widl_idl.specs.PlainTrees.{iterable_of, plain_definitions}
 use Rattle.widl_merge.proofs.Gathering.{first_iterable, none_of, second_iterable, single_iterable}
@@ -9,10 +9,12 @@ pub returns-then-is_some : goal.returns-then-is_some
 returns-then-is_some c = λ attributes members number g. second_iterable (plain_definitions c.args.resolver.now) members attributes c.args.self.now number g (iterable_of c.args.iterable.now) (sym c.is_some.ensures ∙ c.if-is_some.true)
 
 pub returns-in-None : goal.returns-in-None
-returns-in-None c = λ attributes members number g. single_iterable (plain_definitions c.args.resolver.now) members attributes c.args.self.now number g (iterable_of c.args.iterable.now) (sym (ap (option_map pair_term) c.in-None.is) ∙ c.in_ok-pair_meant.ensures.term)
+returns-in-None c = λ attributes members number g. single_iterable (plain_definitions c.args.resolver.now) members attributes c.args.self.now number g (iterable_of c.args.iterable.now) (sym (ap (option_map pair_term) c.in-None.is) ∙ c.in_ok-pair_meant.ensures)
 
-pub returns-in_ok-push_numbered-in-Some : goal.returns-in_ok-push_numbered-in-Some
-returns-in_ok-push_numbered-in-Some c = λ attributes members number g.
-    first_iterable (plain_definitions c.args.resolver.now) members attributes c.args.self.now number g (iterable_of c.args.iterable.now) c.in-Some.pair c.push_numbered.new.items
-    (none_of c.args.self.now.pairs (sym c.is_some.ensures ∙ c.if-is_some.false)) (sym (ap (option_map pair_term) c.in-Some.is) ∙ c.in_ok-pair_meant.ensures.term) (subst NumberedPairs c.in-Some.is c.in_ok-pair_meant.ensures.numbered)
-    c.in_ok-push_numbered-in-Some.ensures.list c.in_ok-push_numbered-in-Some.ensures.few
+pub returns-in-Some : goal.returns-in-Some
+returns-in-Some c =
+    on_ok_weaker c.push.result
+    (λ e attributes members number g.
+    first_iterable (plain_definitions c.args.resolver.now) members attributes c.args.self.now number g (iterable_of c.args.iterable.now) c.in-Some.pair c.push.new.self
+    (none_of c.args.self.now.pairs (sym c.is_some.ensures ∙ c.if-is_some.false)) (sym (ap (option_map pair_term) c.in-Some.is) ∙ c.in_ok-pair_meant.ensures) e)
+    c.push.ensures.ok

@@ -1,5 +1,5 @@
 use Rattle.std.proofs.Common.{ap, sym, ◌∙◌}
-use Rattle.std.proofs.lemmas.Result.{IfOk-weaker}
+use Rattle.std.proofs.lemmas.Result.{IfOk-weaker, on_ok_weaker}
 use Rattle.widl_idl.specs.MergingRules.{is_static}
 use Rattle.widl_idl.specs.PlainTrees.{operation_of, plain_definitions}
 use Rattle.widl_merge.specs.PutTogether.{GrowsByOperation, HasOverload, number_named}
@@ -14,13 +14,21 @@ returns-in-Some c =
     (λ x more members attributes g.
     overload_more (plain_definitions c.args.resolver.now) members attributes c.args.self.now number g (operation_of c.args.operation.now) c.in_ok-sig.sig c.add_overload.new.ops c.in-Some.number
     (ap (λ t. number t (is_static c.args.operation.now.kind)) (sym c.operation_text-text.ensures) ∙ ap (number c.operation_text-text.result.now) (sym c.is_static-fixed.ensures) ∙ sym c.number.ensures ∙ c.in-Some.is)
-    more c.in_ok-sig.ensures.term c.in_ok-sig.ensures.numbered)
+    more c.in_ok-sig.ensures)
     c.add_overload.ensures
 
-pub returns-in_ok-push_numbered-in-None : goal.returns-in_ok-push_numbered-in-None
-returns-in_ok-push_numbered-in-None c = λ members attributes g.
+pub returns-in_ok-keep-in-None : goal.returns-in_ok-keep-in-None
+returns-in_ok-keep-in-None c =
     let number = number_named c.args.numbers.now.regular c.args.numbers.now.fixed in
     let now = number_named c.keep.new.self.regular c.keep.new.self.fixed in
-    name_more (plain_definitions c.args.resolver.now) members attributes c.args.self.now number g (operation_of c.args.operation.now) c.in_ok-sig.sig c.add_name.new.ops c.push_numbered.new.items c.operation_text-text.result.now c.is_static-fixed.result c.in_ok-number-in-None.number now
-    c.operation_text-text.ensures c.is_static-fixed.ensures (sym c.number.ensures ∙ c.in-None.is) c.in_ok-number-in-None.ensures.list c.in_ok-number-in-None.ensures.few c.in_ok-number-in-None.ensures.number c.in_ok-sig.ensures.term c.in_ok-sig.ensures.numbered
-    c.in_ok-keep-in-None.ensures c.in_ok-push_numbered-in-None.ensures.list c.in_ok-push_numbered-in-None.ensures.few
+    on_ok_weaker c.push.result
+    (λ e members attributes g.
+    name_more (plain_definitions c.args.resolver.now) members attributes c.args.self.now number g (operation_of c.args.operation.now) c.in_ok-sig.sig c.add_name.new.ops c.push.new.self c.operation_text-text.result.now c.is_static-fixed.result c.in_ok-number-in-None.number now
+    c.operation_text-text.ensures c.is_static-fixed.ensures (sym c.number.ensures ∙ c.in-None.is) c.in_ok-number-in-None.ensures.list c.in_ok-number-in-None.ensures.number c.in_ok-sig.ensures c.in_ok-keep-in-None.ensures e)
+    c.push.ensures.ok
+
+pub add_overload-requires : goal.add_overload-requires
+add_overload-requires c = c.requires.named c.operation_text-text.result.now c.is_static-fixed.result c.in-Some.number (sym c.number.ensures ∙ c.in-Some.is)
+
+pub add_name-requires : goal.add_name-requires
+add_name-requires c = c.requires.ops
