@@ -19,15 +19,13 @@ use Rattle.widl_engine.specs.declared.charges.Charge.{Charge}
 use Rattle.widl_engine.specs.declared.charges.Charge.TheVariants as charge
 use Rattle.widl_engine.specs.declared.contexts.Place.{Place}
 use Rattle.widl_engine.specs.declared.due.Due.{Due}
-use Rattle.widl_engine.specs.declared.frames.Frame.{Frame}
 use Rattle.widl_engine.specs.declared.machine.Machine.{Machine}
 use Rattle.widl_engine.specs.declared.machine.Moved.{Moved}
 use Rattle.widl_engine.specs.declared.machine.Moved.TheVariants as moved
-use Rattle.widl_engine.specs.declared.moves.Move.{Move}
 use Rattle.widl_engine.specs.declared.moves.Move.TheVariants as move
-use Rattle.widl_engine.specs.Frames.{charge_of, after_charge, after_paying, act_of, after, move_of}
+use Rattle.widl_engine.specs.Frames.{charge_of, after_charge, after_paying, act_of, after}
 use Rattle.widl_engine.specs.Place.{world_of, Stopped}
-use Rattle.widl_engine.specs.Machine.{cost, written, under, world, still, moves_on, RunsTo, Advances, StopsHere, GoesOn, MachineFits, StepsTo}
+use Rattle.widl_engine.specs.Machine.{cost, written, under, world, still, moves_on, once_paid, RunsTo, Advances, StopsHere, GoesOn, MachineFits, StepsTo}
 use Rattle.widl_engine.proofs.Acting.{Done}
 use Rattle.widl_runs.specs.Fitting.{Comes, said, KeepsFitting}
 use Rattle.widl_engine.proofs.Coming.{comes_same, comes_then, keeps_on}
@@ -77,26 +75,21 @@ module _ (p : Program) (s : Tables) where
       does_said (rule p) (act p.list) (charge_of m.due) (λ r. bind (after_paying p s m.due r) (under p s m.frames.items)) IsDone (charge_goes t m n m.due taken place b ls h) run
 
   -- what is left after a charge, and before it
-  before_charge : (t : StoreState) (m n : Machine) (next : Move) → n.taken ≡ m.taken + cost p m.due → n.place ≡ m.place → n.frames.items ≡ m.frames.items → move_of p s next ≡ after_charge p s m.due → (b : ℕ) (ls : List EventTerm) → n.taken ≤ b → (v : World) (f : Finish JobEnd Stop) → Run p (moves_on p s next n) (world s t n b (ls ++ written m.due)) v f → Run p (still p s m) (world s t m b ls) v f
-  before_charge t m n next taken place frames is b ls h v f run =
-      let g : JobEnd → Doing = under p s m.frames.items in
-      let tree : moves_on p s next n ≡ bind (after_charge p s m.due) g =
-      ap (λ (d : Doing). bind d (under p s n.frames.items)) is ∙ ap (λ (l : List Frame). bind (after_charge p s m.due) (under p s l)) frames in
+  before_charge : (t : StoreState) (m n : Machine) (d : Doing) → n.taken ≡ m.taken + cost p m.due → n.place ≡ m.place → d ≡ once_paid p s m.due m → (b : ℕ) (ls : List EventTerm) → n.taken ≤ b → (v : World) (f : Finish JobEnd Stop) → Run p d (world s t n b (ls ++ written m.due)) v f → Run p (still p s m) (world s t m b ls) v f
+  before_charge t m n d taken place tree b ls h v f run =
       after_paid t m n taken place b ls h v f
-      (subst (λ (d : Doing). Run p d (world s t n b (ls ++ written m.due)) v f) tree run)
+      (subst (λ (e : Doing). Run p e (world s t n b (ls ++ written m.due)) v f) tree run)
 
-  comes_charge : (t : StoreState) (m n : Machine) (next : Move) → n.taken ≡ m.taken + cost p m.due → n.place ≡ m.place → n.frames.items ≡ m.frames.items → move_of p s next ≡ after_charge p s m.due → (b : ℕ) (ls : List EventTerm) → n.taken ≤ b → Comes p (moves_on p s next n) (world s t n b (ls ++ written m.due)) (still p s m) (world s t m b ls)
-  comes_charge t m n next taken place frames is b ls h =
+  comes_charge : (t : StoreState) (m n : Machine) (d : Doing) → n.taken ≡ m.taken + cost p m.due → n.place ≡ m.place → d ≡ once_paid p s m.due m → (b : ℕ) (ls : List EventTerm) → n.taken ≤ b → Comes p d (world s t n b (ls ++ written m.due)) (still p s m) (world s t m b ls)
+  comes_charge t m n d taken place tree b ls h =
       let g : JobEnd → Doing = under p s m.frames.items in
-      let tree : moves_on p s next n ≡ bind (after_charge p s m.due) g =
-      ap (λ (d : Doing). bind d (under p s n.frames.items)) is ∙ ap (λ (l : List Frame). bind (after_charge p s m.due) (under p s l)) frames in
       said (charge_of m.due) (λ r. bind (after_paying p s m.due r) g) IsDone (world s t m b ls) (world s t n b (ls ++ written m.due)) (charge_goes t m n m.due taken place b ls h) (comes_same (sym tree) refl)
 
-  -- where a machine fits, it fits at the move after its charge
-  pub fits_charged : (t : StoreState) (m n : Machine) (next : Move) → n.taken ≡ m.taken + cost p m.due → n.taken ≤ m.budget → n.budget ≡ m.budget → n.place ≡ m.place → n.frames.items ≡ m.frames.items → move_of p s next ≡ after_charge p s m.due → MachineFits p s t (still p s m) m → MachineFits p s t (moves_on p s next n) n
-  fits_charged t m n next taken within budget place frames is fits = record {
+  -- where a machine fits, it fits after its charge
+  pub fits_charged : (t : StoreState) (m n : Machine) (d : Doing) → n.taken ≡ m.taken + cost p m.due → n.taken ≤ m.budget → n.budget ≡ m.budget → n.place ≡ m.place → d ≡ once_paid p s m.due m → MachineFits p s t (still p s m) m → MachineFits p s t d n
+  fits_charged t m n d taken within budget place tree fits = record {
     lines = fits.lines ++ written m.due;
-    keeps = subst (λ (b : ℕ). KeepsFitting p (moves_on p s next n) (world s t n b (fits.lines ++ written m.due))) (sym budget) (keeps_on (comes_charge t m n next taken place frames is m.budget fits.lines within) fits.keeps);
+    keeps = subst (λ (b : ℕ). KeepsFitting p d (world s t n b (fits.lines ++ written m.due))) (sym budget) (keeps_on (comes_charge t m n d taken place tree m.budget fits.lines within) fits.keeps);
   }
 
   -- and at the charge after it
@@ -107,22 +100,22 @@ module _ (p : Program) (s : Tables) where
   }
 
   -- a charge that was taken, and all moves up to the next one
-  pub charge_steps : (t u : StoreState) (m n o : Machine) (next : Move) (led : Moved) → n.taken ≡ m.taken + cost p m.due → n.taken ≤ m.budget → n.budget ≡ m.budget → n.place ≡ m.place → n.frames.items ≡ m.frames.items → move_of p s next ≡ after_charge p s m.due → Advances p s t next n u o led → StepsTo p s t m u o led
-  charge_steps t u m n o next moved.Going taken within budget place frames is x = (
+  pub charge_steps : (t u : StoreState) (m n o : Machine) (d : Doing) (led : Moved) → n.taken ≡ m.taken + cost p m.due → n.taken ≤ m.budget → n.budget ≡ m.budget → n.place ≡ m.place → d ≡ once_paid p s m.due m → Advances p s t d n u o led → StepsTo p s t m u o led
+  charge_steps t u m n o d moved.Going taken within budget place tree x = (
     record { taken = x.taken ∙ taken; within = omega (arith, x.taken, within); here = stops_here t m },
     record {
       budget = x.budget ∙ budget;
-      leads = λ b ls h v f run. before_charge t m n next taken place frames is b ls (omega (arith, x.taken, h)) v f ((x.follows b (ls ++ written m.due)).leads v f run);
-      comes = λ b ls h. comes_then (comes_charge t m n next taken place frames is b ls (omega (arith, x.taken, h))) (x.comes b (ls ++ written m.due));
+      leads = λ b ls h v f run. before_charge t m n d taken place tree b ls (omega (arith, x.taken, h)) v f ((x.follows b (ls ++ written m.due)).leads v f run);
+      comes = λ b ls h. comes_then (comes_charge t m n d taken place tree b ls (omega (arith, x.taken, h))) (x.comes b (ls ++ written m.due));
       here = stops_here u o;
     },
   )
-  charge_steps t u m n o next (moved.Ended c) taken within budget place frames is x = (
+  charge_steps t u m n o d (moved.Ended c) taken within budget place tree x = (
     record { taken = x.taken ∙ taken; within = omega (arith, x.taken, within); here = stops_here t m },
-    record { runs = λ b ls h. before_charge t m n next taken place frames is b ls (omega (arith, x.taken, h)) _ _ (x.runs b (ls ++ written m.due)) },
+    record { runs = λ b ls h. before_charge t m n d taken place tree b ls (omega (arith, x.taken, h)) _ _ (x.runs b (ls ++ written m.due)) },
   )
-  charge_steps t u m n o next (moved.Stopped stop) taken within budget place frames is x = (
+  charge_steps t u m n o d (moved.Stopped stop) taken within budget place tree x = (
     record { taken = x.taken ∙ taken; within = omega (arith, x.taken, within); here = stops_here t m },
-    record { runs = λ b ls h. before_charge t m n next taken place frames is b ls (omega (arith, x.taken, h)) _ _ (x.runs b (ls ++ written m.due)) },
+    record { runs = λ b ls h. before_charge t m n d taken place tree b ls (omega (arith, x.taken, h)) _ _ (x.runs b (ls ++ written m.due)) },
   )
-  charge_steps t u m n o next moved.Memory taken within budget place frames is x = tt
+  charge_steps t u m n o d moved.Memory taken within budget place tree x = tt

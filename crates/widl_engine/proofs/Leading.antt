@@ -59,7 +59,7 @@ then_runs x ends = record { taken = ends.taken ∙ x.taken; runs = λ b ls. (x.f
 pub leads_here : (p : Program) (s : Tables) (t : StoreState) (d : Doing) (m : Machine) → Leads p s t d m t d m
 leads_here p s t d m = record { taken = refl; budget = refl; between = 0; follows = λ b ls. follows_same _ _ refl refl; comes = λ b ls. here }
 
-then_between : {p : Program} {s : Tables} {t u o : StoreState} {d e g : Doing} {m n q : Machine} (x : Leads p s t d m u e n) (y : Leads p s u e n o g q) → (then_leads x y).between ≡ x.between + y.between
+pub then_between : {p : Program} {s : Tables} {t u o : StoreState} {d e g : Doing} {m n q : Machine} (x : Leads p s t d m u e n) (y : Leads p s u e n o g q) → (then_leads x y).between ≡ x.between + y.between
 unfolding then_leads
 then_between x y = refl
 
@@ -152,12 +152,12 @@ module _ (p : Program) (s : Tables) where
   }
 
   -- where jobs alone lead to the next move, the place follows
-  leads_under : (e : Doing) (next : Move) (m n : Machine) (t : StoreState) → n.taken ≡ m.taken → n.place ≡ m.place → (x : LeadsTo p s e next) → (b : ℕ) (ls : List EventTerm) → Follows (rule p) (act p.list) (bind e (under p s n.frames.items)) (world s t m b ls) (moves_on p s next n) (world s t n b ls) (at_bind (rule p) Wants (under p s n.frames.items) x).steps
+  pub leads_under : (e : Doing) (next : Move) (m n : Machine) (t : StoreState) → n.taken ≡ m.taken → n.place ≡ m.place → (x : LeadsTo p s e next) → (b : ℕ) (ls : List EventTerm) → Follows (rule p) (act p.list) (bind e (under p s n.frames.items)) (world s t m b ls) (moves_on p s next n) (world s t n b ls) (at_bind (rule p) Wants (under p s n.frames.items) x).steps
   leads_under e next m n t taken place x b ls =
       let y : At (rule p) Wants (bind e (under p s n.frames.items)) [] (moves_on p s next n) = at_bind (rule p) Wants (under p s n.frames.items) x in
       subst (λ (w : World). Follows (rule p) (act p.list) (bind e (under p s n.frames.items)) w (moves_on p s next n) (world s t n b ls) y.steps) (sym (same_world s t m n b ls place taken)) (follows_at (rule p) (act p.list) Wants (world s t n b ls) y)
 
-  comes_under : (e : Doing) (next : Move) (m n : Machine) (t : StoreState) → n.taken ≡ m.taken → n.place ≡ m.place → LeadsTo p s e next → (b : ℕ) (ls : List EventTerm) → Comes p (moves_on p s next n) (world s t n b ls) (bind e (under p s n.frames.items)) (world s t m b ls)
+  pub comes_under : (e : Doing) (next : Move) (m n : Machine) (t : StoreState) → n.taken ≡ m.taken → n.place ≡ m.place → LeadsTo p s e next → (b : ℕ) (ls : List EventTerm) → Comes p (moves_on p s next n) (world s t n b ls) (bind e (under p s n.frames.items)) (world s t m b ls)
   comes_under e next m n t taken place x b ls =
       let y : At (rule p) Wants (bind e (under p s n.frames.items)) [] (moves_on p s next n) = at_bind (rule p) Wants (under p s n.frames.items) x in
       subst (λ (w : World). Comes p (moves_on p s next n) (world s t n b ls) (bind e (under p s n.frames.items)) w) (sym (same_world s t m n b ls place taken)) (comes_at y (world s t n b ls))

@@ -23,3 +23,4 @@ pub mod WholeRuns
 pub mod TraceEnds
 pub mod ValuesAtOnce
 pub mod FewBindings
+pub mod Going

@@ -1,5 +1,5 @@
 -- For proofs alone. What a statement that binds a literal leads to, and what the end of a statement leads to.
-use Rattle.std.proofs.Common.{◌≡◌, ◌+◌, List, [], ◌∷◌, ◌++◌, sym, ap, refl}
+use Rattle.std.proofs.Common.{◌≡◌, ◌+◌, List, [], ◌∷◌, ◌++◌, length, sym, ap, refl, arith}
 use Rattle.widl_dialog.specs.Dialog.{End, bind}
 use Rattle.widl_dialog.proofs.Following.{follows_same, follows_steps, follows_then}
 use Rattle.widl_script_tree.specs.declared.row.Row.{Row}
@@ -35,18 +35,18 @@ use Rattle.widl_engine.specs.declared.ends.Completion.TheVariants as completions
 use Rattle.widl_engine.specs.declared.ends.JobEnd as job_ends
 use Rattle.widl_engine.specs.declared.ends.JobEnd.TheVariants.{Completed as completed}
 use Rattle.widl_engine.specs.Frames.{back_to, job_of, job_end_of}
-use Rattle.widl_engine.specs.Machine.{under, world, still, moves_on, Leads, Advances}
+use Rattle.widl_engine.specs.Machine.{under, world, still, moves_on, Leads, Stays, Advances}
 use Rattle.widl_engine.specs.Place.{Acts}
 use Rattle.widl_engine.proofs.Acting.{performed}
 use Rattle.widl_engine.proofs.Coming.{comes_same}
 use Rattle.widl_engine.proofs.Leading.{then_leads, then_runs, same_world, gave, went, stepped, acted, rested, leads_is}
 
 -- all moves after one place are all moves after one that leads to it
-pub then_advances : (p : Program) (s : Tables) (t u o : StoreState) (first next : Move) (m n q : Machine) (led : Moved) → Leads p s t (moves_on p s first m) m u (moves_on p s next n) n → Advances p s u next n o q led → Advances p s t first m o q led
-then_advances p s t u o first next m n q moved.Going x y = then_leads x y
-then_advances p s t u o first next m n q (moved.Ended c) x y = then_runs x y
-then_advances p s t u o first next m n q (moved.Stopped stop) x y = then_runs x y
-then_advances p s t u o first next m n q moved.Memory x y = tt
+pub then_advances : (p : Program) (s : Tables) (t u o : StoreState) (d e : Doing) (m n q : Machine) (led : Moved) → Leads p s t d m u e n → Advances p s u e n o q led → Advances p s t d m o q led
+then_advances p s t u o d e m n q moved.Going x y = then_leads x y
+then_advances p s t u o d e m n q (moved.Ended c) x y = then_runs x y
+then_advances p s t u o d e m n q (moved.Stopped stop) x y = then_runs x y
+then_advances p s t u o d e m n q moved.Memory x y = tt
 
 module _ (p : Program) (s : Tables) where
   -- the literal is evaluated, and its value is to be bound
@@ -63,7 +63,7 @@ module _ (p : Program) (s : Tables) where
       }
 
   -- and is bound
-  pub bound : (t : StoreState) (m n : Machine) (b : Binding) → evaluate (expression_tree s b.place) ≡ End (Normal b.value) → Acts p s (BindName (name_at s b.name) b.value) t m.place t n.place IsDone → n.frames.items ≡ m.frames.items → n.taken ≡ m.taken → n.budget ≡ m.budget → Leads p s t (moves_on p s (binding b) m) m t (moves_on p s (move.Gives (completed (completions.Normal values.Undefined))) n) n
+  bound : (t : StoreState) (m n : Machine) (b : Binding) → evaluate (expression_tree s b.place) ≡ End (Normal b.value) → Acts p s (BindName (name_at s b.name) b.value) t m.place t n.place IsDone → n.frames.items ≡ m.frames.items → n.taken ≡ m.taken → n.budget ≡ m.budget → Leads p s t (moves_on p s (binding b) m) m t (moves_on p s (move.Gives (completed (completions.Normal values.Undefined))) n) n
   bound t m n b is x frames taken budget =
       then_leads (evaluated t m b is)
       (acted p s t t m n (due.Bind b.name b.value then_what.Ends) (move.Gives (completed (completions.Normal values.Undefined))) (performed IsDone x.went refl) frames taken budget).place
@@ -84,8 +84,12 @@ module _ (p : Program) (s : Tables) where
       let goes : Move = move.Goes (job.Statements row) in
       then_leads (gave p s t m n goes f (completed (completions.Normal v)) place taken budget popped (leads_is p s (back_to p s f (Normal v)) goes (ap (λ (g : Frame). back_to p s g (Normal v)) (sym x.next)))).place first
 
+  -- so steps stay at the end of the statement
+  pub bound_stays : (t : StoreState) (m n : Machine) (b : Binding) → evaluate (expression_tree s b.place) ≡ End (Normal b.value) → Acts p s (BindName (name_at s b.name) b.value) t m.place t n.place IsDone → n.frames.items ≡ m.frames.items → n.taken ≡ m.taken → n.budget ≡ m.budget → Stays p s t (moves_on p s (binding b) m) m t (moves_on p s (move.Gives (completed (completions.Normal values.Undefined))) n) n
+  bound_stays t m n b is x frames taken budget = record { place = bound t m n b is x frames taken budget; most = let e = ap (λ (l : List Frame). length l) frames in omega (arith, e) }
+
   -- frames that lie there again
-  pub put_back : (t : StoreState) (m n : Machine) (c : job_ends.JobEnd) → n.place ≡ m.place → n.frames.items ≡ m.frames.items → n.taken ≡ m.taken → n.budget ≡ m.budget → Leads p s t (moves_on p s (move.Gives c) m) m t (moves_on p s (move.Gives c) n) n
+  put_back : (t : StoreState) (m n : Machine) (c : job_ends.JobEnd) → n.place ≡ m.place → n.frames.items ≡ m.frames.items → n.taken ≡ m.taken → n.budget ≡ m.budget → Leads p s t (moves_on p s (move.Gives c) m) m t (moves_on p s (move.Gives c) n) n
   put_back t m n c place frames taken budget = record {
     taken = taken;
     budget = budget;
@@ -93,3 +97,6 @@ module _ (p : Program) (s : Tables) where
     follows = λ b ls. follows_same _ _ (ap (λ (l : List Frame). under p s l (job_end_of c)) (sym frames)) (same_world s t m n b ls place taken);
     comes = λ b ls. comes_same (ap (λ (l : List Frame). under p s l (job_end_of c)) (sym frames)) (same_world s t m n b ls place taken);
   }
+
+  pub stays_back : (t : StoreState) (m n : Machine) (c : job_ends.JobEnd) → n.place ≡ m.place → n.frames.items ≡ m.frames.items → n.taken ≡ m.taken → n.budget ≡ m.budget → Stays p s t (moves_on p s (move.Gives c) m) m t (moves_on p s (move.Gives c) n) n
+  stays_back t m n c place frames taken budget = record { place = put_back t m n c place frames taken budget; most = let e = ap (λ (l : List Frame). length l) frames in omega (arith, e) }

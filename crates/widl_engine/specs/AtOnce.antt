@@ -17,6 +17,7 @@ use Rattle.widl_store.specs.Objects.{StoreState}
 use Rattle.widl_trace.specs.EventTerms.{EventTerm}
 use Rattle.widl_value.specs.declared.value.Value.{Value}
 use Rattle.widl_engine.specs.declared.at_once.Binding.{Binding}
+use Rattle.widl_engine.specs.declared.following.Evaluation.{Evaluation}
 use Rattle.widl_engine.specs.declared.charges.Charge.{Charge}
 use Rattle.widl_engine.specs.declared.contexts.Place.{Place}
 use Rattle.widl_engine.specs.declared.frames.Frame.{Frame}
@@ -36,6 +37,10 @@ binding b = move.Steps (frame.Value (goes_on.Binds b.name)) (job.Evaluate b.plac
 pub record BindsLiteral (s : Tables) (c : Charge) (b : Binding) : Type 0 where
   pub performs : (p : Program) → move_of p s (binding b) ≡ after_charge p s c
   pub value : evaluate (expression_tree s b.place) ≡ End (Normal b.value)
+
+-- after the charge this expression is evaluated, for this frame
+pub record Evaluates (s : Tables) (c : Charge) (e : Evaluation) : Type 0 where
+  pub performs : (p : Program) → move_of p s (move.Steps (frame.Value e.frame) (job.Evaluate e.place)) ≡ after_charge p s c
 
 -- the first of these statements takes a unit
 pub record BeginWithUnit (s : Tables) (row : Row) : Type 0 where

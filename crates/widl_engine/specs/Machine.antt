@@ -23,7 +23,7 @@ use Rattle.widl_engine.specs.declared.machine.Moved.TheVariants as moved
 use Rattle.widl_engine.specs.declared.machine.Turn.{Turn}
 use Rattle.widl_engine.specs.declared.machine.Turn.TheVariants as turn
 use Rattle.widl_engine.specs.declared.moves.Move.{Move}
-use Rattle.widl_engine.specs.Frames.{charge_of, after_paying, back_to, job_end_of, move_of}
+use Rattle.widl_engine.specs.Frames.{charge_of, after_charge, after_paying, back_to, job_end_of, move_of}
 use Rattle.widl_engine.specs.Place.{world_of}
 use Rattle.widl_runs.specs.Fitting.{Comes, KeepsFitting}
 
@@ -51,6 +51,13 @@ still p s m = bind (Say (charge_of m.due) (after_paying p s m.due)) (under p s m
 
 abbrev pub moves_on : Program → Tables → Move → Machine → Doing
 moves_on p s current m = bind (move_of p s current) (under p s m.frames.items)
+
+-- what is still done after a charge that was paid, and after the end of a job that a frame was for
+abbrev pub once_paid : Program → Tables → Charge → Machine → Doing
+once_paid p s charge m = bind (after_charge p s charge) (under p s m.frames.items)
+
+abbrev pub once_ended : Program → Tables → Frame → JobEnd → Machine → Doing
+once_ended p s f c m = bind (back_to p s f c) (under p s m.frames.items)
 
 -- with each budget, the second place follows the first, with no charge between them
 pub record Leads (p : Program) (s : Tables) (t : StoreState) (d : Doing) (m : Machine) (u : StoreState) (e : Doing) (n : Machine) : Type 0 where
@@ -82,19 +89,24 @@ Turns p s t current m u n (turn.Ended c) = RunsTo p s t (moves_on p s current m)
 Turns p s t current m u n (turn.Stopped stop) = RunsTo p s t (moves_on p s current m) m u n (Halted stop)
 Turns p s t current m u n turn.Memory = Unit {0}
 
+-- what steps lead to in a turn; the next move may still be the first one
+abbrev pub LeadsOn : Program → Tables → StoreState → Doing → Machine → StoreState → Machine → Turn → Type 0
+LeadsOn p s t d m u n (turn.More next) = Stays p s t d m u (moves_on p s next n) n
+LeadsOn p s t d m u n turn.Rests = Leads p s t d m u (still p s n) n
+LeadsOn p s t d m u n (turn.Ended c) = RunsTo p s t d m u n (Ended (job_end_of c))
+LeadsOn p s t d m u n (turn.Stopped stop) = RunsTo p s t d m u n (Halted stop)
+LeadsOn p s t d m u n turn.Memory = Unit {0}
+
 -- what a move leads to in the turn of the one before it; it may still be the next one
 abbrev pub Continues : Program → Tables → StoreState → Move → Machine → StoreState → Machine → Turn → Type 0
-Continues p s t current m u n (turn.More next) = Stays p s t (moves_on p s current m) m u (moves_on p s next n) n
-Continues p s t current m u n turn.Rests = Leads p s t (moves_on p s current m) m u (still p s n) n
-Continues p s t current m u n (turn.Ended c) = RunsTo p s t (moves_on p s current m) m u n (Ended (job_end_of c))
-Continues p s t current m u n (turn.Stopped stop) = RunsTo p s t (moves_on p s current m) m u n (Halted stop)
-Continues p s t current m u n turn.Memory = Unit {0}
+Continues p s t current m u n r = LeadsOn p s t (moves_on p s current m) m u n r
 
-abbrev pub Advances : Program → Tables → StoreState → Move → Machine → StoreState → Machine → Moved → Type 0
-Advances p s t first m u n moved.Going = Leads p s t (moves_on p s first m) m u (still p s n) n
-Advances p s t first m u n (moved.Ended c) = RunsTo p s t (moves_on p s first m) m u n (Ended (job_end_of c))
-Advances p s t first m u n (moved.Stopped stop) = RunsTo p s t (moves_on p s first m) m u n (Halted stop)
-Advances p s t first m u n moved.Memory = Unit {0}
+-- what steps lead to up to the next charge
+abbrev pub Advances : Program → Tables → StoreState → Doing → Machine → StoreState → Machine → Moved → Type 0
+Advances p s t d m u n moved.Going = Leads p s t d m u (still p s n) n
+Advances p s t d m u n (moved.Ended c) = RunsTo p s t d m u n (Ended (job_end_of c))
+Advances p s t d m u n (moved.Stopped stop) = RunsTo p s t d m u n (Halted stop)
+Advances p s t d m u n moved.Memory = Unit {0}
 
 -- with each budget that pays for less than the next charge the run stops here
 pub record StopsHere (p : Program) (s : Tables) (t : StoreState) (m : Machine) : Type 0 where

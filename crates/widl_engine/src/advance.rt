@@ -11,14 +11,13 @@ ghost use Rattle.widl_engine.specs.Machine.{Advances, Continues, MachineFits, St
 ghost use Rattle.widl_engine.specs.ReadOver.{IsReadOver};
 
 use crate::acts::Acted;
-use crate::at_once::bound_by;
 use crate::charges::{Charge, Unit};
 use crate::due::Due;
 use crate::ends::JobEnd;
 use crate::frames::Frame;
 use crate::jobs::Job;
 use crate::machine::{Machine, Moved, Turn};
-use crate::moves::{Move, begin, charged, returned};
+use crate::moves::{Move, begin};
 use crate::perform::perform;
 use std::alloc::{AllocError, Global};
 use std::mem;
@@ -105,32 +104,6 @@ impl Machine {
         }
     }
 
-    /// The turn of an end of a job, which frames may pass on.
-    fn gives(
-        &mut self,
-        alloc: Global,
-        tables: &Tables,
-        script: &Script,
-        store: &Store,
-        end: JobEnd,
-    ) -> Turn
-        requires read { let p : Program = program_of tables.now script.now in IsReadOver p.list script.now }
-        requires fits { let p : Program = program_of tables.now script.now in MachineFits p script.now store.now (moves_on p script.now (Move.Gives end) self.old) self.old }
-        ensures { Turns (program_of tables.now script.now) script.now store.now (Move.Gives end) self.old store.now self.new result }
-    {
-        let mut end = end;
-        'ends: loop {
-            match pop(&mut self.frames) {
-                None => return Turn::Ended(end),
-                Some(frame) => match returned(alloc, tables, script, frame, end) {
-                    Ok(Move::Gives(next)) => end = next,
-                    Ok(next) => return self.goes_on(tables, script, store, next),
-                    Err(_) => return Turn::Memory,
-                },
-            }
-        }
-    }
-
     /// The turn of a job whose end is for a frame.
     pub(crate) fn steps(
         &mut self,
@@ -195,7 +168,13 @@ impl Machine {
 
     /// The turn that goes on with a move: what it leads to is done at once where no action comes before the next charge.
     #[inline(always)]
-    fn goes_on(&mut self, tables: &Tables, script: &Script, store: &Store, next: Move) -> Turn
+    pub(crate) fn goes_on(
+        &mut self,
+        tables: &Tables,
+        script: &Script,
+        store: &Store,
+        next: Move,
+    ) -> Turn
         requires read { let p : Program = program_of tables.now script.now in IsReadOver p.list script.now }
         requires fits { let p : Program = program_of tables.now script.now in MachineFits p script.now store.now (moves_on p script.now next self.old) self.old }
         ensures { Continues (program_of tables.now script.now) script.now store.now next self.old store.now self.new result }
@@ -269,7 +248,7 @@ impl Machine {
     ) -> Moved
         requires read { let p : Program = program_of tables.now script.now in IsReadOver p.list script.now }
         requires fits { let p : Program = program_of tables.now script.now in MachineFits p script.now store.old (moves_on p script.now first self.old) self.old }
-        ensures { Advances (program_of tables.now script.now) script.now store.old first self.old store.new self.new result }
+        ensures { let p : Program = program_of tables.now script.now in Advances p script.now store.old (moves_on p script.now first self.old) self.old store.new self.new result }
     {
         let mut current = first;
         'moves: loop {
@@ -301,15 +280,12 @@ impl Machine {
         ensures { StepsTo (program_of tables.now script.now) script.now store.old self.old store.new self.new result }
     {
         self.taken += units;
-        match bound_by(script, &self.due) {
-            Some(literal) => self.bind_literal(alloc, tables, script, store, literal),
-            None => {
-                let due = mem::replace(&mut self.due, Charge::Unit(Unit::Symbol));
-                match charged(alloc, script, due) {
-                    Ok(next) => self.advance(alloc, tables, script, store, next),
-                    Err(_) => Moved::Memory,
-                }
-            }
+        match self.paid(alloc, tables, script, store) {
+            Turn::More(next) => self.advance(alloc, tables, script, store, next),
+            Turn::Rests => Moved::Going,
+            Turn::Ended(end) => Moved::Ended(end),
+            Turn::Stopped(stop) => Moved::Stopped(stop),
+            Turn::Memory => Moved::Memory,
         }
     }
 }

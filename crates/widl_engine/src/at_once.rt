@@ -11,7 +11,7 @@ ghost use Rattle.widl_runs.specs.Expressions.{evaluate};
 ghost use Rattle.widl_runs.specs.Jobs.{Program};
 ghost use Rattle.widl_engine.specs.AtOnce.{BeginWithUnit, BindsLiteral, GoesOnWith, HasValue, binding};
 ghost use Rattle.widl_engine.specs.Frames.{program_of};
-ghost use Rattle.widl_engine.specs.Machine.{Advances, Leads, MachineFits, Turns, moves_on, still};
+ghost use Rattle.widl_engine.specs.Machine.{Continues, Leads, MachineFits, Turns, moves_on, still};
 ghost use Rattle.widl_engine.specs.ReadOver.{IsReadOver};
 
 use crate::advance::{falls_due, pop, push};
@@ -21,7 +21,7 @@ use crate::ends::{Completion, JobEnd};
 use crate::frames::{Frame, ValueFrame};
 use crate::globals::{bind, read};
 use crate::jobs::Job;
-use crate::machine::{Machine, Moved, Turn};
+use crate::machine::{Machine, Turn};
 use crate::moves::{Move, let_go, valued};
 use crate::statements::{is_steps, run_statements};
 use std::alloc::{AllocError, Global};
@@ -72,7 +72,7 @@ pub(crate) fn value_at(
 }
 
 /// The literal that a statement binds.
-fn bound_at(script: &Script, place: u32) -> Option<Binding>
+pub(crate) fn bound_at(script: &Script, place: u32) -> Option<Binding>
     ensures { IfSome result (BindsLiteral script.now (Charge.Unit (Unit.Statement place))) }
 {
     match *script.statement(place) {
@@ -81,16 +81,6 @@ fn bound_at(script: &Script, place: u32) -> Option<Binding>
             let value = literal(script, place)?;
             Some(Binding { name, place, value })
         }
-        _ => None,
-    }
-}
-
-/// The literal that is bound after a charge.
-pub(crate) fn bound_by(script: &Script, due: &Charge) -> Option<Binding>
-    ensures { IfSome result (BindsLiteral script.now due.now) }
-{
-    match due {
-        Charge::Unit(Unit::Statement(place)) => bound_at(script, *place),
         _ => None,
     }
 }
@@ -209,51 +199,34 @@ impl Machine {
         }
     }
 
-    /// All moves after a statement, up to the next charge.
-    fn finish_statement(
-        &mut self,
-        alloc: Global,
-        tables: &Tables,
-        script: &Script,
-        store: &mut Store,
-    ) -> Moved
-        requires read { let p : Program = program_of tables.now script.now in IsReadOver p.list script.now }
-        requires fits { let p : Program = program_of tables.now script.now in MachineFits p script.now store.old (moves_on p script.now (Move.Gives (JobEnd.Completed (Completion.Normal Undefined))) self.old) self.old }
-        ensures { Advances (program_of tables.now script.now) script.now store.old (Move.Gives (JobEnd.Completed (Completion.Normal Undefined))) self.old store.new self.new result }
+    /// The turn of the end of a statement.
+    fn finish_statement(&mut self, script: &Script) -> Turn
+        ensures { (p : Program) (t : StoreState) → Continues p script.now t (Move.Gives (JobEnd.Completed (Completion.Normal Undefined))) self.old t self.new result }
     {
         let end = JobEnd::Completed(Completion::Normal(Value::Undefined));
         match pop(&mut self.frames) {
-            None => Moved::Ended(end),
+            None => Turn::Ended(end),
             Some(frame) => match next_row(script, &frame) {
                 Some(row) => match self.first_is_due(row) {
-                    Ok(()) => Moved::Going,
-                    Err(_) => Moved::Memory,
+                    Ok(()) => Turn::Rests,
+                    Err(_) => Turn::Memory,
                 },
                 None => match push(&mut self.frames, frame) {
-                    Ok(()) => self.advance(alloc, tables, script, store, Move::Gives(end)),
-                    Err(_) => Moved::Memory,
+                    Ok(()) => Turn::More(Move::Gives(end)),
+                    Err(_) => Turn::Memory,
                 },
             },
         }
     }
 
-    /// All moves of a statement that binds a literal, up to the next charge.
-    pub(crate) fn bind_literal(
-        &mut self,
-        alloc: Global,
-        tables: &Tables,
-        script: &Script,
-        store: &mut Store,
-        literal: Binding,
-    ) -> Moved
-        requires read { let p : Program = program_of tables.now script.now in IsReadOver p.list script.now }
-        requires value { evaluate (expression_tree script.now literal.place) ≡ End (Normal literal.value) }
-        requires fits { let p : Program = program_of tables.now script.now in MachineFits p script.now store.old (moves_on p script.now (binding literal) self.old) self.old }
-        ensures { Advances (program_of tables.now script.now) script.now store.old (binding literal) self.old store.new self.new result }
+    /// The turn of a statement that binds a literal.
+    pub(crate) fn bind_literal(&mut self, script: &Script, literal: Binding) -> Turn
+        requires { evaluate (expression_tree script.now literal.place) ≡ End (Normal literal.value) }
+        ensures { (p : Program) (t : StoreState) → Continues p script.now t (binding literal) self.old t self.new result }
     {
         match bind(script, &mut self.place, literal.name, literal.value) {
-            Ok(()) => self.finish_statement(alloc, tables, script, store),
-            Err(_) => Moved::Memory,
+            Ok(()) => self.finish_statement(script),
+            Err(_) => Turn::Memory,
         }
     }
 }

@@ -101,6 +101,7 @@ fn enter_context(place: &mut Place, inner: Context) -> Result<(), AllocError>
 }
 
 /// A function of the script is entered.
+#[inline(always)]
 pub(crate) fn enter(
     alloc: Global,
     script: &Script,
@@ -168,6 +169,7 @@ fn leave_context(place: &mut Place)
 }
 
 /// A call leaves its context.
+#[inline(always)]
 pub(crate) fn leave(store: &Store, place: &mut Place, completion: Completion) -> Move
     ensures { (p : Program) (s : Tables) → Performed p s (Due.Leave completion) store.now place.old store.now place.new result }
 {
