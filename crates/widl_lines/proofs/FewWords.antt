@@ -10,7 +10,7 @@ use Rattle.widl_lines.specs.declared.shape.Shape.{Shape}
 use Rattle.widl_lines.specs.Lines.{put_before, pieces_of, without_return, lines_of_pieces, lines_of}
 use Rattle.widl_lines.specs.Words.{Lexeme, lexeme, missing, is_blank, shape_of, next_context, words_from, is_comment, words_of}
 use Rattle.widl_lines.specs.Blocks.{blocks_after}
-use Rattle.widl_lines.specs.TextBreaks.{Line, PlacedLine, IsScript, lines_from, numbered, placed, script_lines, words_and_lines}
+use Rattle.widl_lines.specs.TextBreaks.{Line, PlacedLine, IsScript, lines_from, most_words_and_lines, numbered, placed, script_lines, words_and_lines}
 
 -- 1. Words of a line
 
@@ -98,9 +98,9 @@ few_placed blocks number (line ∷ lines) = go (words_of line) (few_in_line line
     go [] few rest = omega (arith, rest blocks)
     go (word ∷ words) few rest = omega (arith, rest (blocks_after (word ∷ words) blocks), few)
 
-pub few_words : (lines : List PlacedLine) → IsScript lines → words_and_lines lines ≤ 2097154
+pub few_words : (lines : List PlacedLine) → IsScript lines → words_and_lines lines ≤ most_words_and_lines
 few_words lines script =
     let all = few_placed [] 1 (lines_of script.text) in
     let bytes = few_bytes script.text in
-    let few : words_and_lines (placed [] (script_lines script.text)) ≤ 2097154 = omega (arith, all, bytes, script.short) in
-    subst (λ (x : List PlacedLine). words_and_lines x ≤ 2097154) (sym script.lines_are) few
+    let few : words_and_lines (placed [] (script_lines script.text)) ≤ most_words_and_lines = omega (arith, all, bytes, script.short) in
+    subst (λ (x : List PlacedLine). words_and_lines x ≤ most_words_and_lines) (sym script.lines_are) few

@@ -3,6 +3,7 @@ use Rattle.std.proofs.Common.{◌≡◌, ◌≤◌, ℕ, ◌<◌, List, [], ◌�
 use Rattle.std.specs.Prelude.{IsUtf8, Result, IfErr}
 use Rattle.std.specs.Result.{IsErrAnd}
 use Rattle.std.proofs.lemmas.Result.{err_from_is_err_and}
+use Rattle.widl_text.specs.Limits.{most_file_bytes}
 use Rattle.widl_lex.specs.Utf8.{IsUtf8Fault}
 use Rattle.widl_lines.specs.declared.blocks.Block.{Block}
 use Rattle.widl_lines.specs.declared.line_break.LineBreak.{LineBreak}
@@ -75,7 +76,7 @@ module _ (text : List ℕ) where
   pub all_closed : (state : State) → IsUtf8 text → IsRead text state → state.blocks ≡ [] → ScriptBreak text None
   all_closed state utf8 read none = in_lines utf8 (read.breaks None (subst (λ x. TextBreak state.last x [] None) (sym none) closed))
 
-  pub whole_script : (state : State) → length text ≤ 1048576 → IsUtf8 text → IsRead text state → state.blocks ≡ [] → IsScript state.lines
+  pub whole_script : (state : State) → length text ≤ most_file_bytes → IsUtf8 text → IsRead text state → state.blocks ≡ [] → IsScript state.lines
   whole_script state short utf8 read none = record { text = text; short = short; unbroken = all_closed state utf8 read none; lines_are = read.placed_are }
 
   pub not_text : (at : ℕ) (place : ScriptPlace) → IsUtf8Fault text at → place ≡ utf8_place text at → ScriptBreak text (Some place)

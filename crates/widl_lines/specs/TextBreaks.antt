@@ -1,5 +1,6 @@
 -- The first rule of form that a script breaks, and the lines of a script that breaks none.
-use Rattle.std.specs.Prelude.{◌≡◌, ℕ, ◌+◌, ◌≤◌, List, [], ◌∷◌, ◌++◌, length, map, get_or, Option, Some, None, IsUtf8}
+use Rattle.std.specs.Prelude.{◌≡◌, ℕ, ◌+◌, ◌*◌, ◌≤◌, List, [], ◌∷◌, ◌++◌, length, map, get_or, Option, Some, None, IsUtf8}
+use Rattle.widl_text.specs.Limits.{most_file_bytes}
 use Rattle.widl_lex.specs.Utf8.{IsUtf8Fault}
 use Rattle.widl_lines.specs.declared.blocks.Block.{Block}
 use Rattle.widl_lines.specs.declared.line_break.LineBreak.{LineBreak}
@@ -71,9 +72,13 @@ abbrev pub words_and_lines : List PlacedLine → ℕ
 words_and_lines [] = 0
 words_and_lines (placed_line ∷ lines) = length placed_line.line.words + 1 + words_and_lines lines
 
+-- the most that a script has: no more than two for each byte, and for the end of its last line
+abbrev pub most_words_and_lines : ℕ
+most_words_and_lines = 2 * (most_file_bytes + 1)
+
 -- the lines of a script without a break
 pub record IsScript (lines : List PlacedLine) : Type 0 where
   pub text : List ℕ
-  pub short : length text ≤ 1048576
+  pub short : length text ≤ most_file_bytes
   pub unbroken : ScriptBreak text None
   pub lines_are : lines ≡ placed [] (script_lines text)

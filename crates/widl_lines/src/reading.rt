@@ -1,6 +1,7 @@
 //! The lines of a script, read up to the first that breaks a rule.
 
 ghost use Rattle.std.specs.Prelude.{◌≡◌, ◌≤◌, ◌+◌, ◌^◌, ◌<◌, length, map, OnOk, IfOk, IfErr};
+ghost use Rattle.widl_text.specs.Limits.{most_file_bytes};
 ghost use Rattle.widl_lines.specs.Words.{words_of};
 ghost use Rattle.widl_lines.specs.WordTerms.{lexeme_of};
 ghost use Rattle.widl_lines.specs.TextBreaks.{place_in, numbered};
@@ -90,7 +91,7 @@ impl<'a> Reading<'a> {
 
 /// Reads the lines of a text up to the first that breaks a rule.
 pub fn read_lines<'a>(alloc: Global, text: &'a [u8]) -> Result<Reading<'a>, ScriptFault>
-    requires { length text.now ≤ 1048576 }
+    requires { length text.now ≤ most_file_bytes }
     ensures ok { IfOk result (λ reading. IsRead text.now (state_of reading)) }
     ensures refused { IfErr result (IsRefusedBy text.now) }
 {

@@ -1,6 +1,7 @@
 //! The words of a script without a break of form.
 
 ghost use Rattle.std.specs.Prelude.{◌≡◌, ◌≤◌, [], None, length, OnOk, IfOk, IfErr, IsUtf8};
+ghost use Rattle.widl_text.specs.Limits.{most_file_bytes};
 ghost use Rattle.widl_lines.specs.TextBreaks.{ScriptBreak, placed, script_lines};
 ghost use Rattle.widl_lines.specs.Refusals.{IsRefusal};
 
@@ -31,7 +32,7 @@ impl<'a> Model for ScriptWords<'a> {
 
 /// The words of a text, or the first break of its lines.
 fn read_text<'a>(alloc: Global, text: &'a [u8]) -> Result<ScriptWords<'a>, ScriptFault>
-    requires short { length text.now ≤ 1048576 }
+    requires short { length text.now ≤ most_file_bytes }
     requires utf8 { IsUtf8 text.now }
     ensures ok { IfOk result (λ words. words ≡ placed [] (script_lines text.now)) }
     ensures unbroken { OnOk result (ScriptBreak text.now None) }
@@ -52,7 +53,7 @@ fn read_text<'a>(alloc: Global, text: &'a [u8]) -> Result<ScriptWords<'a>, Scrip
 
 /// The words of a script, or its first break.
 fn read_words<'a>(alloc: Global, bytes: &'a [u8]) -> Result<ScriptWords<'a>, ScriptFault>
-    requires { length bytes.now ≤ 1048576 }
+    requires { length bytes.now ≤ most_file_bytes }
     ensures ok { IfOk result (λ words. words ≡ placed [] (script_lines bytes.now)) }
     ensures unbroken { OnOk result (ScriptBreak bytes.now None) }
     ensures refused { IfErr result (IsRefusal bytes.now) }
@@ -72,8 +73,9 @@ fn read_words<'a>(alloc: Global, bytes: &'a [u8]) -> Result<ScriptWords<'a>, Scr
 
 impl<'a> ScriptWords<'a> {
     ghost use Rattle.std.specs.Prelude.{◌≡◌, ◌≤◌, [], Some, None, length, map, OnOk, IfOk, IfErr, IsOkUnless};
+    ghost use Rattle.widl_text.specs.Limits.{most_file_bytes};
     ghost use Rattle.widl_lines.specs.declared.script_place.ScriptPlace.{ScriptPlace};
-    ghost use Rattle.widl_lines.specs.TextBreaks.{ScriptBreak, IsScript, placed, script_lines, words_and_lines};
+    ghost use Rattle.widl_lines.specs.TextBreaks.{ScriptBreak, IsScript, most_words_and_lines, placed, script_lines, words_and_lines};
     ghost use Rattle.widl_lines.specs.LineTerms.{line_of};
     ghost use Rattle.widl_lines.specs.Refusals.{IsRefusal, IsErrWith};
 
@@ -85,7 +87,7 @@ impl<'a> ScriptWords<'a> {
     ///
     /// `Refused` with the first break exactly where the script has one, and `Memory` where there is no memory.
     pub fn read(alloc: Global, bytes: &'a [u8]) -> Result<ScriptWords<'a>, ScriptFault>
-        requires { length bytes.now ≤ 1048576 }
+        requires { length bytes.now ≤ most_file_bytes }
         ensures ok { IfOk result (λ words. words ≡ placed [] (script_lines bytes.now)) }
         ensures unbroken { OnOk result (ScriptBreak bytes.now None) }
         ensures refused { IfErr result (IsRefusal bytes.now) }
@@ -99,7 +101,7 @@ impl<'a> ScriptWords<'a> {
     pub fn lines(&self) -> &[LineWords<'a>]
         ensures lines { map line_of result.now ≡ self.now }
         ensures script { IsScript self.now }
-        ensures few { words_and_lines self.now ≤ 2097154 }
+        ensures few { words_and_lines self.now ≤ most_words_and_lines }
     {
         &self.lines
     }

@@ -1,7 +1,7 @@
 use Rattle.std.proofs.Common.{sym, subst, ◌≡◌, ◌≤◌, List, [], ap, arith}
 use Rattle.std.specs.Prelude.{map}
 use Rattle.widl_lines.specs.LineTerms.{line_of}
-use Rattle.widl_lines.specs.TextBreaks.{PlacedLine, words_and_lines}
+use Rattle.widl_lines.specs.TextBreaks.{PlacedLine, most_words_and_lines, words_and_lines}
 use Rattle.widl_script.specs.ReadScript.{ReadTo}
 use Rattle.widl_script.proofs.Parts.{in_ok}
 use Rattle.widl_script.proofs.WholeScript.{read_first, read_after, all_read, no_more}
@@ -10,7 +10,7 @@ use Rattle.widl_script.proofs.build.script.build.Goals as goal
 
 pub lines-init : goal.lines-init
 lines-init c =
-    let few : words_and_lines (map line_of c.lines-rest.result.now) ≤ 2097154 = subst (λ (x : List PlacedLine). words_and_lines x ≤ 2097154) (sym c.lines-rest.ensures.lines) c.lines-rest.ensures.few in
+    let few : words_and_lines (map line_of c.lines-rest.result.now) ≤ most_words_and_lines = subst (λ (x : List PlacedLine). words_and_lines x ≤ most_words_and_lines) (sym c.lines-rest.ensures.lines) c.lines-rest.ensures.few in
     record {
       read = read_first _ _ _ c.lines-rest.ensures.lines c.lines-rest.ensures.script c.new-builder.ensures.nodes c.new-builder.ensures.frames c.new-builder.ensures.places c.new-builder.ensures.names;
       room = omega (arith, few, nothing_weighs c.new-builder.result c.new-builder.ensures.nodes c.new-builder.ensures.frames c.new-builder.ensures.places);
