@@ -1,11 +1,11 @@
--- Bindings of which the first few have no index. No rule names any of it.
+-- For proofs alone. Bindings of which the first few have no index.
 use Rattle.std.specs.Prelude.{◌≡◌, ℕ, zero, suc, ◌<◌, List, [], ◌∷◌, length, ⊤, true, false, nat_eq, slice_index_or}
 use Rattle.widl_value.specs.declared.value.Value.{Value}
-use Rattle.widl_engine.specs.declared.bindings.More.{More}
-use Rattle.widl_engine.specs.declared.bindings.More.TheVariants.{Nothing, Indexed}
+use Rattle.widl_engine.specs.declared.bindings.FurtherBindings.{FurtherBindings}
+use Rattle.widl_engine.specs.declared.bindings.FurtherBindings.TheVariants.{Nothing, Indexed}
 
 -- the bindings with an index
-abbrev pub more_in : More → List (ℕ × Value)
+abbrev pub more_in : FurtherBindings → List (ℕ × Value)
 more_in Nothing = []
 more_in (Indexed bound) = bound.value
 

@@ -16,7 +16,7 @@ const MOST_FEW: usize = 8;
 
 /// The names that are bound beside the first few.
 #[derive(Drop)]
-pub enum More {
+pub enum FurtherBindings {
     /// There are none.
     Nothing,
     /// These, with an index.
@@ -28,7 +28,7 @@ pub enum More {
 #[derive(Drop)]
 pub struct Bindings {
     few: Vec<(u32, Value)>,
-    more: More,
+    more: FurtherBindings,
 }
 
 impl Model for Bindings {
@@ -57,27 +57,32 @@ fn place_of(bound: &[(u32, Value)], name: u32) -> Option<usize>
 }
 
 /// What a name is bound to with an index.
-fn get_more(more: &More, name: u32) -> Option<&Value>
+fn get_more(more: &FurtherBindings, name: u32) -> Option<&Value>
     ensures { option_copied result ≡ lookup (nat_eq name) (more_in more.now) }
 {
     match more {
-        More::Nothing => None,
-        More::Indexed(bound) => bound.get(name),
+        FurtherBindings::Nothing => None,
+        FurtherBindings::Indexed(bound) => bound.get(name),
     }
 }
 
 /// Binds a name with an index.
-fn set_more(alloc: Global, more: &mut More, name: u32, value: Value) -> Result<(), AllocError>
+fn set_more(
+    alloc: Global,
+    more: &mut FurtherBindings,
+    name: u32,
+    value: Value,
+) -> Result<(), AllocError>
     ensures { OnOk result (more_in more.new ≡ insert_entry nat_eq (more_in more.old) name value) }
 {
     match more {
-        More::Nothing => {
+        FurtherBindings::Nothing => {
             let mut bound = IndexedBindings::new(alloc);
             bound.set(name, value)?;
-            *more = More::Indexed(Box::new(alloc, bound)?);
+            *more = FurtherBindings::Indexed(Box::new(alloc, bound)?);
             Ok(())
         }
-        More::Indexed(bound) => bound.set(name, value),
+        FurtherBindings::Indexed(bound) => bound.set(name, value),
     }
 }
 
@@ -92,19 +97,19 @@ fn push_few(few: &mut Vec<(u32, Value)>, name: u32, value: Value) -> Result<(), 
 }
 
 /// Whether there are no bindings with an index.
-fn is_nothing(more: &More) -> bool
+fn is_nothing(more: &FurtherBindings) -> bool
     ensures { IsTrue result → more_in more.now ≡ [] }
 {
     match more {
-        More::Nothing => true,
-        More::Indexed(_) => false,
+        FurtherBindings::Nothing => true,
+        FurtherBindings::Indexed(_) => false,
     }
 }
 
 /// Binds a name that isn't among the few.
 fn add(
     few: &mut Vec<(u32, Value)>,
-    more: &mut More,
+    more: &mut FurtherBindings,
     name: u32,
     value: Value,
 ) -> Result<(), AllocError>
@@ -124,7 +129,7 @@ impl Bindings {
     {
         Bindings {
             few: Vec::new(alloc),
-            more: More::Nothing,
+            more: FurtherBindings::Nothing,
         }
     }
 

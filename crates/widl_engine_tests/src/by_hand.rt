@@ -115,9 +115,7 @@ fn put_getter(
 fn a_getter_defines_a_property_and_throws(rt: HostRuntime) {
     let alloc = rt.alloc();
     let mut tables = ScriptTables::new(alloc);
-    let Ok(top) = put_getter(&rt, alloc, &mut tables) else {
-        panic!(&rt; "no memory for the script")
-    };
+    let top = put_getter(&rt, alloc, &mut tables);
     let script = finished(&rt, alloc, tables, top);
     let text = "call #18 this #19 ()\nthr \"x\"\nshow \"x\"\nshow 1\ndone\n";
     let counts = expect_end(&rt, alloc, &script, 16, End::Done, text);
@@ -162,9 +160,7 @@ fn put_set_of_undefined(
 fn a_value_is_computed_before_it_is_set(rt: HostRuntime) {
     let alloc = rt.alloc();
     let mut tables = ScriptTables::new(alloc);
-    let Ok(top) = put_set_of_undefined(&rt, alloc, &mut tables) else {
-        panic!(&rt; "no memory for the script")
-    };
+    let top = put_set_of_undefined(&rt, alloc, &mut tables);
     let script = finished(&rt, alloc, tables, top);
     let text = "call #18 this undefined ()\nret 1\nerror #19 member\nshow #19\ndone\n";
     expect_end(&rt, alloc, &script, 100, End::Done, text);
@@ -221,9 +217,7 @@ fn put_setter(
 fn a_setter_of_the_prototype_is_called(rt: HostRuntime) {
     let alloc = rt.alloc();
     let mut tables = ScriptTables::new(alloc);
-    let Ok(top) = put_setter(&rt, alloc, &mut tables) else {
-        panic!(&rt; "no memory for the script")
-    };
+    let top = put_setter(&rt, alloc, &mut tables);
     let script = finished(&rt, alloc, tables, top);
     let text = "call #18 this #20 (5)\nret undefined\nshow 5\nshow undefined\ndone\n";
     expect_end(&rt, alloc, &script, 2_000_000, End::Done, text);
@@ -261,9 +255,7 @@ fn put_local(rt: &impl Abort, alloc: Global, tables: &mut ScriptTables) -> Resul
 fn a_local_hides_a_global_before_it_is_bound(rt: HostRuntime) {
     let alloc = rt.alloc();
     let mut tables = ScriptTables::new(alloc);
-    let Ok(top) = put_local(&rt, alloc, &mut tables) else {
-        panic!(&rt; "no memory for the script")
-    };
+    let top = put_local(&rt, alloc, &mut tables);
     let script = finished(&rt, alloc, tables, top);
     let text = "call #18 this undefined ()\nshow undefined\nshow 2\nret undefined\nshow 1\ndone\n";
     expect_end(&rt, alloc, &script, 100, End::Done, text);

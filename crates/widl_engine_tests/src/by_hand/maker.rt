@@ -192,11 +192,19 @@ pub fn put_function(
     })
 }
 
-/// The script of these statements outside functions.
-pub fn finished(rt: &impl Abort, alloc: Global, tables: ScriptTables, top: Row) -> Script
+/// The script of these statements outside functions, if there was memory to put them.
+pub fn finished(
+    rt: &impl Abort,
+    alloc: Global,
+    tables: ScriptTables,
+    top: Result<Row, AllocError>,
+) -> Script
     ensures owners { result.owners ≡ [] }
     ensures blocks { result.blocks ≡ [] }
 {
+    let Ok(top) = top else {
+        panic!(rt; "no memory for the script")
+    };
     assert!(rt; tables.steps_count() == 0);
     assert!(rt; is_lower_row(top, tables.statement_count()));
     tables.finish(top, IndexMap::new(alloc), IndexMap::new(alloc))
