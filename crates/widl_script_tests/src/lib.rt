@@ -1,6 +1,14 @@
-//! Tests of the tables of scripts that can't be run yet or are long. It stands on `widl_script`, and has no code but that of
-//! its tests.
+//! Tests of the tables of scripts: what each form of a script puts into them, and those of scripts that can't be run yet or are long. It
+//! stands on `widl_script`, and has no code but that of its tests.
 #![tactic(auto)]
 
+#[cfg(test)]
+mod built;
+#[cfg(test)]
+mod forms;
+#[cfg(test)]
+mod rows;
+#[cfg(test)]
+mod steps_rows;
 #[cfg(test)]
 mod tables;

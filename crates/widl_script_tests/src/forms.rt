@@ -1,0 +1,39 @@
+//! What each form of a script puts into the tables. The rows were worked by hand: a name gets its number where it first stands; an
+//! expression is put where it ends, after its parts, and a row of items directly before the node that has the row; a line's
+//! statement is put at its end, a block's at its `end`, and the items of its statements before that, those before `catch` and
+//! `else` there; the items of the statements outside blocks come last.
+
+mod blocks;
+mod expressions;
+mod lines;
+mod scripts;
+
+use crate::built::built_of;
+use crate::rows::rows_of;
+use std::alloc::Global;
+use std::mem;
+use std::process::Abort;
+use std::test::Fail;
+
+/// A script, and the rows of its tables.
+type Form = (&'static str, &'static str);
+
+/// Compares the tables of scripts with their rows, one after the other.
+fn expect_rows(rt: &impl Abort, alloc: Global, forms: &[Form]) -> Result<(), Fail> {
+    for (script, rows) in forms {
+        let built = built_of(rt, alloc, script);
+        let found = rows_of(alloc, &built);
+        mem::forget(built);
+        expect_lines(rt, found?.as_str(), rows);
+    }
+    Ok(())
+}
+
+/// Compares lines with others that stand further right.
+fn expect_lines(rt: &impl Abort, found: &str, lines: &str) {
+    let mut found = found.lines();
+    for line in lines.trim().lines() {
+        assert_eq!(rt; found.next().unwrap_or("no row"), line.trim());
+    }
+    assert_eq!(rt; found.next().unwrap_or("no row"), "no row");
+}
