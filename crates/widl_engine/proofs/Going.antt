@@ -1,6 +1,7 @@
 -- For proofs alone. What steps lead to in a turn: after a charge that was paid, and after the end of a job.
-use Rattle.std.proofs.Common.{◌≡◌, ◌+◌, List, [], ◌∷◌, ◌++◌, length, sym, ap, subst, ◌∙◌, refl, arith, length-append}
+use Rattle.std.proofs.Common.{◌≡◌, List, [], ◌∷◌, ◌++◌, length, sym, ap, subst, ◌∙◌, refl, arith, length-append}
 use Rattle.widl_dialog.specs.Dialog.{bind}
+use Rattle.widl_dialog.specs.Runs.{Ended}
 use Rattle.widl_dialog.proofs.Positions.{at_bind}
 use Rattle.widl_dialog.proofs.Following.{follows_same}
 use Rattle.widl_script_tree.specs.Tables.{Tables}
@@ -17,7 +18,7 @@ use Rattle.widl_engine.specs.declared.machine.Turn.TheVariants as turn
 use Rattle.widl_engine.specs.declared.moves.Move.{Move}
 use Rattle.widl_engine.specs.declared.moves.Move.TheVariants as move
 use Rattle.widl_engine.specs.Frames.{after_charge, back_to, job_end_of, move_of, LeadsTo, Wants}
-use Rattle.widl_engine.specs.Machine.{under, moves_on, once_paid, once_ended, LeadsOn, Continues, MachineFits, Moves, Stays, Turns}
+use Rattle.widl_engine.specs.Machine.{under, moves_on, once_paid, once_ended, Leads, LeadsOn, Continues, MachineFits, Moves, RunsTo, Stays, Turns}
 use Rattle.widl_engine.proofs.Coming.{comes_same}
 use Rattle.widl_engine.proofs.Leading.{same_world, under_push, leads_under, comes_under, then_leads, then_between, then_runs}
 
@@ -102,3 +103,14 @@ module _ (p : Program) (s : Tables) where
 
   pub fits_ended : (t : StoreState) (f : Frame) (c : JobEnd) (next : Move) (m : Machine) → move_of p s next ≡ back_to p s f c → MachineFits p s t (once_ended p s f c m) m → MachineFits p s t (moves_on p s next m) m
   fits_ended t f c next m is x = subst (λ (d : Doing). MachineFits p s t (bind d (under p s m.frames.items)) m) (sym is) x
+
+  -- a move that is known
+  pub moves_known : (t u : StoreState) (c known : Move) (m : Machine) (e : Doing) (n : Machine) → c ≡ known → Moves p s t (moves_on p s known m) m u e n → Moves p s t (moves_on p s c m) m u e n
+  moves_known t u c known m e n is x = subst (λ (k : Move). Moves p s t (moves_on p s k m) m u e n) (sym is) x
+
+  -- steps that lead to a move, and steps that end, where the move and the end are known
+  pub leads_known : (t u : StoreState) (d : Doing) (next known : Move) (m n : Machine) → next ≡ known → Leads p s t d m u (moves_on p s next n) n → Leads p s t d m u (moves_on p s known n) n
+  leads_known t u d next known m n is x = subst (λ (k : Move). Leads p s t d m u (moves_on p s k n) n) is x
+
+  pub ends_known : (t u : StoreState) (d : Doing) (m n : Machine) (c known : job_ends.JobEnd) → c ≡ known → RunsTo p s t d m u n (Ended (job_end_of c)) → RunsTo p s t d m u n (Ended (job_end_of known))
+  ends_known t u d m n c known is x = subst (λ (e : job_ends.JobEnd). RunsTo p s t d m u n (Ended (job_end_of e))) is x

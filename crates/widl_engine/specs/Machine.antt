@@ -83,17 +83,17 @@ pub record RunsTo (p : Program) (s : Tables) (t : StoreState) (d : Doing) (m : M
   pub runs : (b : ℕ) (ls : List EventTerm) → Run p d (world s t m b ls) (world s u n b ls) f
 
 abbrev pub Turns : Program → Tables → StoreState → Move → Machine → StoreState → Machine → Turn → Type 0
-Turns p s t current m u n (turn.More next) = Moves p s t (moves_on p s current m) m u (moves_on p s next n) n
+Turns p s t current m u n (turn.More next) = Moves p s t (moves_on p s current m) m u (moves_on p s next.value n) n
 Turns p s t current m u n turn.Rests = Leads p s t (moves_on p s current m) m u (still p s n) n
-Turns p s t current m u n (turn.Ended c) = RunsTo p s t (moves_on p s current m) m u n (Ended (job_end_of c))
+Turns p s t current m u n (turn.Ended c) = RunsTo p s t (moves_on p s current m) m u n (Ended (job_end_of c.value))
 Turns p s t current m u n (turn.Stopped stop) = RunsTo p s t (moves_on p s current m) m u n (Halted stop)
 Turns p s t current m u n turn.Memory = Unit {0}
 
 -- what steps lead to in a turn; the next move may still be the first one
 abbrev pub LeadsOn : Program → Tables → StoreState → Doing → Machine → StoreState → Machine → Turn → Type 0
-LeadsOn p s t d m u n (turn.More next) = Stays p s t d m u (moves_on p s next n) n
+LeadsOn p s t d m u n (turn.More next) = Stays p s t d m u (moves_on p s next.value n) n
 LeadsOn p s t d m u n turn.Rests = Leads p s t d m u (still p s n) n
-LeadsOn p s t d m u n (turn.Ended c) = RunsTo p s t d m u n (Ended (job_end_of c))
+LeadsOn p s t d m u n (turn.Ended c) = RunsTo p s t d m u n (Ended (job_end_of c.value))
 LeadsOn p s t d m u n (turn.Stopped stop) = RunsTo p s t d m u n (Halted stop)
 LeadsOn p s t d m u n turn.Memory = Unit {0}
 

@@ -16,7 +16,7 @@ use crate::due::Due;
 use crate::ends::JobEnd;
 use crate::frames::Frame;
 use crate::jobs::Job;
-use crate::machine::{Machine, Moved, Turn};
+use crate::machine::{Machine, Moved, Turn, more};
 use crate::moves::{Move, begin};
 use crate::perform::perform;
 use std::alloc::{AllocError, Global};
@@ -69,7 +69,7 @@ fn goes(alloc: Global, tables: &Tables, script: &Script, job: Job) -> Turn
     ensures { (t : StoreState) (m : Machines) → Turns (program_of tables.now script.now) script.now t (Move.Goes job) m t m result }
 {
     match begin(alloc, tables, script, job) {
-        Ok(next) => Turn::More(next),
+        Ok(next) => more(alloc, next),
         Err(_) => Turn::Memory,
     }
 }
@@ -119,7 +119,7 @@ impl Machine {
     {
         match push(&mut self.frames, frame) {
             Ok(()) => match begin(alloc, tables, script, job) {
-                Ok(next) => Turn::More(next),
+                Ok(next) => more(alloc, next),
                 Err(_) => Turn::Memory,
             },
             Err(_) => {
@@ -162,7 +162,7 @@ impl Machine {
             Job::Statements(row) => self.statements(script, row),
             Job::Row { what, made, row } => self.row(tables, script, store, what, made, row),
             Job::Call { calling, args } => self.calls(tables, script, store, calling, args),
-            job => Turn::More(Move::Goes(job)),
+            job => more(*self.frames.allocator(), Move::Goes(job)),
         }
     }
 
@@ -182,7 +182,7 @@ impl Machine {
         match next {
             Move::Pays(charge) => self.rests(charge),
             Move::Goes(job) => self.begins_at_once(tables, script, store, job),
-            next => Turn::More(next),
+            next => more(*self.frames.allocator(), next),
         }
     }
 
@@ -204,7 +204,7 @@ impl Machine {
             Move::Gives(end) => self.gives(alloc, tables, script, store, end),
             Move::Steps(frame, job) => match job {
                 Job::Statements(row) => self.statements_under(alloc, tables, script, frame, row),
-                job => Turn::More(Move::Steps(frame, job)),
+                job => more(alloc, Move::Steps(frame, job)),
             },
             next => self.goes_on(tables, script, store, next),
         }
@@ -253,9 +253,9 @@ impl Machine {
         let mut current = first;
         'moves: loop {
             match self.turn(alloc, tables, script, store, current) {
-                Turn::More(next) => current = next,
+                Turn::More(next) => current = Box::into_inner(next),
                 Turn::Rests => return Moved::Going,
-                Turn::Ended(end) => return Moved::Ended(end),
+                Turn::Ended(end) => return Moved::Ended(Box::into_inner(end)),
                 Turn::Stopped(stop) => return Moved::Stopped(stop),
                 Turn::Memory => return Moved::Memory,
             }
@@ -281,9 +281,9 @@ impl Machine {
     {
         self.taken += units;
         match self.paid(alloc, tables, script, store) {
-            Turn::More(next) => self.advance(alloc, tables, script, store, next),
+            Turn::More(next) => self.advance(alloc, tables, script, store, Box::into_inner(next)),
             Turn::Rests => Moved::Going,
-            Turn::Ended(end) => Moved::Ended(end),
+            Turn::Ended(end) => Moved::Ended(Box::into_inner(end)),
             Turn::Stopped(stop) => Moved::Stopped(stop),
             Turn::Memory => Moved::Memory,
         }

@@ -21,7 +21,7 @@ use crate::ends::{Completion, JobEnd};
 use crate::frames::{Frame, ValueFrame};
 use crate::globals::{bind, read};
 use crate::jobs::Job;
-use crate::machine::{Machine, Turn};
+use crate::machine::{Machine, Turn, more, script_ends};
 use crate::moves::{Move, let_go, valued};
 use crate::statements::{is_steps, run_statements};
 use std::alloc::{AllocError, Global};
@@ -160,7 +160,7 @@ impl Machine {
         ensures { (p : Program) (t : StoreState) → Turns p script.now t (Move.Goes (Job.Statements row)) self.old t self.new result }
     {
         if !begin_with_unit(script, row) {
-            return Turn::More(run_statements(script, row));
+            return more(*self.frames.allocator(), run_statements(script, row));
         }
         match self.first_is_due(row) {
             Ok(()) => Turn::Rests,
@@ -205,14 +205,14 @@ impl Machine {
     {
         let end = JobEnd::Completed(Completion::Normal(Value::Undefined));
         match pop(&mut self.frames) {
-            None => Turn::Ended(end),
+            None => script_ends(*self.frames.allocator(), end),
             Some(frame) => match next_row(script, &frame) {
                 Some(row) => match self.first_is_due(row) {
                     Ok(()) => Turn::Rests,
                     Err(_) => Turn::Memory,
                 },
                 None => match push(&mut self.frames, frame) {
-                    Ok(()) => Turn::More(Move::Gives(end)),
+                    Ok(()) => more(*self.frames.allocator(), Move::Gives(end)),
                     Err(_) => Turn::Memory,
                 },
             },

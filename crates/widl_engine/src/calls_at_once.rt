@@ -16,7 +16,7 @@ use crate::calls::call;
 use crate::contexts::Place;
 use crate::due::Due;
 use crate::jobs::{Calling, Job, RowUse};
-use crate::machine::{Machine, Turn};
+use crate::machine::{Machine, Turn, more};
 use crate::moves::Move;
 use crate::rows::evaluate_row;
 use std::alloc::AllocError;
@@ -101,9 +101,9 @@ impl Machine {
         match next {
             Move::Goes(job) => match job {
                 Job::Call { calling, args } => self.calls(tables, script, store, calling, args),
-                job => Turn::More(Move::Goes(job)),
+                job => more(*self.frames.allocator(), Move::Goes(job)),
             },
-            next => Turn::More(next),
+            next => more(*self.frames.allocator(), next),
         }
     }
 
@@ -124,9 +124,9 @@ impl Machine {
         match next {
             Move::Acts(due) => match due {
                 Due::FindBody { f, this, args } => self.calls_body(store, f, this, args),
-                due => Turn::More(Move::Acts(due)),
+                due => more(*self.frames.allocator(), Move::Acts(due)),
             },
-            next => Turn::More(next),
+            next => more(*self.frames.allocator(), next),
         }
     }
 
@@ -139,7 +139,7 @@ impl Machine {
         let body = body_of(store, f);
         match deepen(store, &self.place, f, this, args, body) {
             Acted::Went(Move::Pays(charge)) => self.rests(charge),
-            Acted::Went(next) => Turn::More(next),
+            Acted::Went(next) => more(*self.frames.allocator(), next),
             Acted::Stopped(stop) => Turn::Stopped(stop),
             Acted::Memory => Turn::Memory,
         }

@@ -17,7 +17,7 @@ use crate::due::{Body, Due};
 use crate::ends::Completion;
 use crate::entering::{enter, leave};
 use crate::frames::{Frame, ValueFrame};
-use crate::machine::{Machine, Turn};
+use crate::machine::{Machine, Turn, more};
 use crate::moves::{Move, charged};
 use std::alloc::Global;
 use std::mem;
@@ -83,7 +83,7 @@ fn leads(alloc: Global, script: &Script, charge: Charge) -> Turn
     ensures { (p : Program) (t : StoreState) (m : Machines) → LeadsOn p script.now t (once_paid p script.now charge m) m t m result }
 {
     match charged(alloc, script, charge) {
-        Ok(next) => Turn::More(next),
+        Ok(next) => more(alloc, next),
         Err(_) => Turn::Memory,
     }
 }
@@ -201,9 +201,9 @@ impl Machine {
                 Due::Enter { number, this, args } => {
                     self.enters_function(alloc, tables, script, store, number, this, args)
                 }
-                due => Turn::More(Move::Acts(due)),
+                due => more(alloc, Move::Acts(due)),
             },
-            next => Turn::More(next),
+            next => more(alloc, next),
         }
     }
 
@@ -248,9 +248,9 @@ impl Machine {
                 Due::Leave(completion) => {
                     self.leaves_call(alloc, tables, script, store, completion)
                 }
-                due => Turn::More(Move::Acts(due)),
+                due => more(alloc, Move::Acts(due)),
             },
-            next => Turn::More(next),
+            next => more(alloc, next),
         }
     }
 

@@ -11,7 +11,7 @@ use crate::advance::pop;
 use crate::calls::called;
 use crate::ends::{Completion, JobEnd};
 use crate::frames::{Frame, ValueFrame};
-use crate::machine::{Machine, Turn};
+use crate::machine::{Machine, Turn, script_ends};
 use crate::moves::{let_go, returned};
 use std::alloc::Global;
 use widl_script_tree::Script;
@@ -80,7 +80,7 @@ impl Machine {
         ensures { Turns (program_of tables.now script.now) script.now store.now (Move.Gives end) self.old store.now self.new result }
     {
         match pop(&mut self.frames) {
-            None => Turn::Ended(end),
+            None => script_ends(alloc, end),
             Some(frame) => self.goes_back(alloc, tables, script, store, frame, end),
         }
     }
@@ -123,7 +123,7 @@ impl Machine {
         let mut value = value;
         'ends: loop {
             match pop(&mut self.frames) {
-                None => return Turn::Ended(JobEnd::Completed(Completion::Normal(value))),
+                None => return script_ends(alloc, JobEnd::Completed(Completion::Normal(value))),
                 Some(frame) => match frame {
                     Frame::Value(frame) => match frame {
                         ValueFrame::Drops => value = Value::Undefined,
@@ -171,7 +171,7 @@ impl Machine {
     {
         'ends: loop {
             match pop(&mut self.frames) {
-                None => return Turn::Ended(JobEnd::Completed(Completion::Returned(value))),
+                None => return script_ends(alloc, JobEnd::Completed(Completion::Returned(value))),
                 Some(frame) => match frame {
                     Frame::Value(frame) => let_go(frame),
                     Frame::Called => {

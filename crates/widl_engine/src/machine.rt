@@ -1,9 +1,13 @@
 //! A machine that stops between two charges.
 
 ghost use Rattle.std.specs.Prelude.{◌≡◌, ◌≤◌};
-ghost use Rattle.widl_runs.specs.Jobs.{Program};
-ghost use Rattle.widl_engine.specs.Frames.{program_of};
-ghost use Rattle.widl_engine.specs.Machine.{MachineFits, still};
+ghost use Rattle.widl_dialog.specs.Runs.{Ended};
+ghost use Rattle.widl_script_tree.specs.Tables.{Tables as ScriptTables};
+ghost use Rattle.widl_store.specs.Objects.{StoreState};
+ghost use Rattle.widl_runs.specs.Jobs.{Doing, Program};
+ghost use Rattle.widl_engine.specs.declared.machine.Machine.{Machine as Machines};
+ghost use Rattle.widl_engine.specs.Frames.{job_end_of, program_of};
+ghost use Rattle.widl_engine.specs.Machine.{Continues, LeadsOn, MachineFits, RunsTo, Turns, moves_on, still};
 ghost use Rattle.widl_engine.specs.Output.{output};
 ghost use Rattle.widl_engine.specs.ReadOver.{IsReadOver};
 ghost use Rattle.widl_engine.specs.Running.{IsFresh};
@@ -41,12 +45,12 @@ pub struct Machine {
 /// What one move that takes no unit leads to.
 #[derive(Drop)]
 pub enum Turn {
-    /// To another move.
-    More(Move),
+    /// To another move; in a box, since a turn is handed on by value, and mostly leads to a charge.
+    More(Box<Move>),
     /// To a charge.
     Rests,
     /// To the end of the script.
-    Ended(JobEnd),
+    Ended(Box<JobEnd>),
     /// To a stop.
     Stopped(Stop),
     /// To nothing: there was no memory.
@@ -108,6 +112,29 @@ pub(crate) fn fresh(alloc: Global, budget: u32) -> Machine
         },
         taken: 0,
         budget,
+    }
+}
+
+/// The turn that leads to a move.
+#[inline(never)]
+pub(crate) fn more(alloc: Global, next: Move) -> Turn
+    ensures { (p : Program) (s : ScriptTables) (t : StoreState) (m : Machines) → Continues p s t next m t m result }
+{
+    match Box::new(alloc, next) {
+        Ok(next) => Turn::More(next),
+        Err(_) => Turn::Memory,
+    }
+}
+
+/// The turn that ends the script.
+#[inline(never)]
+pub(crate) fn script_ends(alloc: Global, end: JobEnd) -> Turn
+    ensures leads { (p : Program) (s : ScriptTables) (t : StoreState) (d : Doing) (m n : Machines) → RunsTo p s t d m t n (Ended (job_end_of end)) → LeadsOn p s t d m t n result }
+    ensures turns { (p : Program) (s : ScriptTables) (t : StoreState) (current : Move) (m n : Machines) → RunsTo p s t (moves_on p s current m) m t n (Ended (job_end_of end)) → Turns p s t current m t n result }
+{
+    match Box::new(alloc, end) {
+        Ok(end) => Turn::Ended(end),
+        Err(_) => Turn::Memory,
     }
 }
 

@@ -1,5 +1,4 @@
 use Rattle.std.proofs.Common.{refl}
-use Rattle.widl_engine.specs.declared.due.Due.TheVariants as due
 use Rattle.widl_engine.specs.declared.moves.Move.TheVariants as move
 use Rattle.widl_engine.specs.Frames.{program_of}
 use Rattle.widl_engine.proofs.Coming.{fits_due, fits_on}

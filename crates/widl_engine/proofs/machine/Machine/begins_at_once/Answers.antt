@@ -3,9 +3,8 @@ use Rattle.widl_engine.specs.declared.jobs.Job.{Job}
 use Rattle.widl_engine.specs.declared.jobs.Job.TheVariants as job
 use Rattle.widl_engine.specs.declared.moves.Move.TheVariants as move
 use Rattle.widl_engine.specs.Frames.{program_of}
-use Rattle.widl_engine.specs.Machine.{moves_on}
 use Rattle.widl_engine.proofs.Coming.{fits_known}
-use Rattle.widl_engine.proofs.Leading.{at_move, continues, stays_here}
+use Rattle.widl_engine.proofs.Leading.{at_move, continues}
 use Rattle.widl_engine.proofs.machine.Machine.begins_at_once.Goals as goal
 
 pub row-requires-clause-fits : goal.row-requires-clause-fits
@@ -24,4 +23,4 @@ pub returns-in-Call : goal.returns-in-Call
 returns-in-Call c = continues (program_of c.args.tables.now c.args.script.now) c.args.script.now c.args.store.now c.args.store.now (move.Goes c.args.job) c.args.self.now c.calls.new.self c.calls.result (at_move (program_of c.args.tables.now c.args.script.now) c.args.script.now c.args.store.now c.args.store.now _ (move.Goes (job.Call c.in-Call.calling c.in-Call.args)) c.args.self.now c.calls.new.self c.calls.result (ap (λ (j : Job). move.Goes j) c.in-Call.is) c.calls.ensures)
 
 pub returns-in_default : goal.returns-in_default
-returns-in_default c = stays_here (program_of c.args.tables.now c.args.script.now) c.args.script.now c.args.store.now (moves_on (program_of c.args.tables.now c.args.script.now) c.args.script.now (move.Goes c.args.job) c.args.self.now) c.args.self.now
+returns-in_default c = c.more.ensures (program_of c.args.tables.now c.args.script.now) c.args.script.now c.args.store.now c.args.self.now

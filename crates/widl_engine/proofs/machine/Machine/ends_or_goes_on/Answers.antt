@@ -1,12 +1,10 @@
 use Rattle.std.proofs.Common.{◌∙◌, ap}
 use Rattle.widl_engine.specs.declared.jobs.Job.{Job}
 use Rattle.widl_engine.specs.declared.jobs.Job.TheVariants as job
-use Rattle.widl_engine.specs.declared.machine.Turn.TheVariants as turn
 use Rattle.widl_engine.specs.declared.moves.Move.TheVariants as move
-use Rattle.widl_engine.specs.Machine.{moves_on}
 use Rattle.widl_engine.specs.Frames.{program_of}
 use Rattle.widl_engine.proofs.Coming.{fits_known}
-use Rattle.widl_engine.proofs.Leading.{at_continued, at_move, continues, stays_here}
+use Rattle.widl_engine.proofs.Leading.{at_continued, at_move, continues}
 use Rattle.widl_engine.proofs.machine.Machine.ends_or_goes_on.Goals as goal
 
 pub gives-requires-clause-fits : goal.gives-requires-clause-fits
@@ -23,4 +21,4 @@ returns-in-Statements c =
     (at_move (program_of c.args.tables.now c.args.script.now) c.args.script.now c.args.store.now c.args.store.now _ (move.Steps c.in-Steps.frame (job.Statements c.in-Statements.row)) c.args.self.now c.statements_under.new.self c.statements_under.result (c.in-Steps.is ∙ ap (λ (j : Job). move.Steps c.in-Steps.frame j) c.in-Statements.is) (c.statements_under.ensures c.args.store.now))
 
 pub returns-in_default-job : goal.returns-in_default-job
-returns-in_default-job c = at_continued (program_of c.args.tables.now c.args.script.now) c.args.script.now c.args.store.now c.args.store.now c.args.next (move.Steps c.in-Steps.frame c.in-Steps.job) c.args.self.now c.args.self.now (turn.More (move.Steps c.in-Steps.frame c.in-Steps.job)) c.in-Steps.is (stays_here (program_of c.args.tables.now c.args.script.now) c.args.script.now c.args.store.now (moves_on (program_of c.args.tables.now c.args.script.now) c.args.script.now (move.Steps c.in-Steps.frame c.in-Steps.job) c.args.self.now) c.args.self.now)
+returns-in_default-job c = at_continued (program_of c.args.tables.now c.args.script.now) c.args.script.now c.args.store.now c.args.store.now c.args.next (move.Steps c.in-Steps.frame c.in-Steps.job) c.args.self.now c.args.self.now c.more.result c.in-Steps.is (c.more.ensures (program_of c.args.tables.now c.args.script.now) c.args.script.now c.args.store.now c.args.self.now)

@@ -1,9 +1,9 @@
 use Rattle.std.proofs.Common.{ap}
 use Rattle.widl_engine.specs.declared.frames.Frame.{Frame}
 use Rattle.widl_engine.specs.declared.jobs.Job.TheVariants as job
-use Rattle.widl_engine.specs.declared.machine.Turn.TheVariants as turn
 use Rattle.widl_engine.specs.declared.moves.Move.TheVariants as move
 use Rattle.widl_engine.specs.Frames.{program_of}
+use Rattle.widl_engine.proofs.Going.{moves_known}
 use Rattle.widl_engine.proofs.Coming.{fits_on}
 use Rattle.widl_engine.proofs.Leading.{at_move, then_continues}
 use Rattle.widl_engine.proofs.ValuesAtOnce.{gone_on, value_there}
@@ -12,7 +12,7 @@ use Rattle.widl_engine.proofs.machine.Machine.evaluates.Goals as goal
 pub ends_or_goes_on-requires-clause-fits : goal.ends_or_goes_on-requires-clause-fits
 ends_or_goes_on-requires-clause-fits c =
     fits_on (program_of c.args.tables.now c.args.script.now) c.args.script.now
-    (at_move (program_of c.args.tables.now c.args.script.now) c.args.script.now c.args.store.now c.args.store.now _ _ c.args.self.now c.args.self.now (turn.More c.in-Ok.next) (ap (λ (f : Frame). move.Steps f (job.Evaluate c.args.place)) c.in-Value.is)
+    (moves_known (program_of c.args.tables.now c.args.script.now) c.args.script.now c.args.store.now c.args.store.now _ _ c.args.self.now _ c.args.self.now (ap (λ (f : Frame). move.Steps f (job.Evaluate c.args.place)) c.in-Value.is)
     (gone_on (program_of c.args.tables.now c.args.script.now) c.args.script.now c.args.store.now c.args.self.now c.in-Value.frame c.args.place c.in-Ok-Some.value c.in-Ok.next
     (value_there c.args.script.now c.args.store.now c.args.self.now.place c.args.place c.in-Ok-Some.field-0 c.in-Ok-Some.value c.in-Ok-Some.field-0-is c.in-Ok-Some.ensures (program_of c.args.tables.now c.args.script.now) c.requires.read)
     (c.in-Ok.ensures (program_of c.args.tables.now c.args.script.now)))).place
@@ -21,7 +21,7 @@ ends_or_goes_on-requires-clause-fits c =
 pub returns-in-Ok : goal.returns-in-Ok
 returns-in-Ok c =
     then_continues (program_of c.args.tables.now c.args.script.now) c.args.script.now c.args.store.now c.args.store.now c.args.store.now (move.Steps c.args.frame (job.Evaluate c.args.place)) c.in-Ok.next c.args.self.now c.args.self.now c.ends_or_goes_on.new.self c.ends_or_goes_on.result
-    (at_move (program_of c.args.tables.now c.args.script.now) c.args.script.now c.args.store.now c.args.store.now _ _ c.args.self.now c.args.self.now (turn.More c.in-Ok.next) (ap (λ (f : Frame). move.Steps f (job.Evaluate c.args.place)) c.in-Value.is)
+    (moves_known (program_of c.args.tables.now c.args.script.now) c.args.script.now c.args.store.now c.args.store.now _ _ c.args.self.now _ c.args.self.now (ap (λ (f : Frame). move.Steps f (job.Evaluate c.args.place)) c.in-Value.is)
     (gone_on (program_of c.args.tables.now c.args.script.now) c.args.script.now c.args.store.now c.args.self.now c.in-Value.frame c.args.place c.in-Ok-Some.value c.in-Ok.next
     (value_there c.args.script.now c.args.store.now c.args.self.now.place c.args.place c.in-Ok-Some.field-0 c.in-Ok-Some.value c.in-Ok-Some.field-0-is c.in-Ok-Some.ensures (program_of c.args.tables.now c.args.script.now) c.requires.read)
     (c.in-Ok.ensures (program_of c.args.tables.now c.args.script.now))))

@@ -1,5 +1,4 @@
 use Rattle.std.proofs.Common.{◌∙◌, refl, ap, length-append, arith, [], ◌∷◌, ◌++◌, List, length}
-use Rattle.widl_value.specs.declared.value.Value.{Value}
 use Rattle.widl_engine.specs.declared.ends.Completion.TheVariants as completions
 use Rattle.widl_engine.specs.declared.ends.JobEnd.TheVariants.{Completed as completed}
 use Rattle.widl_engine.specs.declared.frames.Frame.{Frame}
@@ -35,7 +34,7 @@ pub goes_back-requires-in_default : goal.goes_back-requires-in_default
 goes_back-requires-in_default c = record { read = c.requires.read; fits = fits_on (program_of c.args.tables.now c.args.script.now) c.args.script.now (stays_then c.ends.invariant (popped (program_of c.args.tables.now c.args.script.now) c.args.script.now c.args.store.now c.ends.self _ c.in-Some.frame (completed (completions.Normal c.ends.value)) refl refl refl c.in-Some.ensures.some)).place c.requires.fits }
 
 pub returns-in-None : goal.returns-in-None
-returns-in-None c = then_runs c.ends.invariant.place (over (program_of c.args.tables.now c.args.script.now) c.args.script.now c.args.store.now c.ends.self _ (completed (completions.Normal c.ends.value)) refl refl c.in-None.ensures.none.0)
+returns-in-None c = let n : Machine = record { due = c.ends.self.due; frames = c.pop.new.frames; place = c.ends.self.place; taken = c.ends.self.taken; budget = c.ends.self.budget } in c.script_ends.ensures.turns (program_of c.args.tables.now c.args.script.now) c.args.script.now c.args.store.now (move.Gives (completed (completions.Normal c.args.value))) c.args.self.now n (then_runs c.ends.invariant.place (over (program_of c.args.tables.now c.args.script.now) c.args.script.now c.args.store.now c.ends.self n (completed (completions.Normal c.ends.value)) refl refl c.in-None.ensures.none.0))
 
 pub returns-in-NextStatements : goal.returns-in-NextStatements
 returns-in-NextStatements c = let n : Machine = record { due = c.ends.self.due; frames = c.pop.new.frames; place = c.ends.self.place; taken = c.ends.self.taken; budget = c.ends.self.budget } in stays_turns (program_of c.args.tables.now c.args.script.now) c.args.script.now c.args.store.now c.args.store.now c.args.store.now (move.Gives (completed (completions.Normal c.args.value))) (move.Gives (completed (completions.Normal c.ends.value))) c.args.self.now c.ends.self c.statements.new.self c.statements.result c.ends.invariant (moves_lead (program_of c.args.tables.now c.args.script.now) c.args.script.now c.args.store.now c.args.store.now c.args.store.now (move.Gives (completed (completions.Normal c.ends.value))) _ c.ends.self n c.statements.new.self c.statements.result (popped (program_of c.args.tables.now c.args.script.now) c.args.script.now c.args.store.now c.ends.self n (frame.Value (goes_on.NextStatements c.in-NextStatements.rest)) (completed (completions.Normal c.ends.value)) refl refl refl (c.in-Some.ensures.some ∙ ap (λ (f : Frame). c.pop.new.frames.items ++ f ∷ []) (c.in-Value.is ∙ ap (λ (f : ValueFrame). frame.Value f) c.in-NextStatements.is))) (continues (program_of c.args.tables.now c.args.script.now) c.args.script.now c.args.store.now c.args.store.now (move.Goes (job.Statements c.in-NextStatements.rest)) n c.statements.new.self c.statements.result (c.statements.ensures (program_of c.args.tables.now c.args.script.now) c.args.store.now)))

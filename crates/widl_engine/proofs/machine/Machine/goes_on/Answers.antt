@@ -1,8 +1,7 @@
 use Rattle.widl_engine.specs.declared.moves.Move.TheVariants as move
 use Rattle.widl_engine.specs.Frames.{program_of}
-use Rattle.widl_engine.specs.Machine.{moves_on}
 use Rattle.widl_engine.proofs.Coming.{fits_known}
-use Rattle.widl_engine.proofs.Leading.{at_continued, at_move, continues, stays_here}
+use Rattle.widl_engine.proofs.Leading.{at_continued, at_move, continues}
 use Rattle.widl_engine.proofs.machine.Machine.goes_on.Goals as goal
 
 pub begins_at_once-requires-clause-fits : goal.begins_at_once-requires-clause-fits
@@ -17,4 +16,4 @@ returns-in-Pays c =
     (at_move (program_of c.args.tables.now c.args.script.now) c.args.script.now c.args.store.now c.args.store.now _ _ c.args.self.now c.rests.new.self c.rests.result c.in-Pays.is (c.rests.ensures (program_of c.args.tables.now c.args.script.now) c.args.script.now c.args.store.now))
 
 pub returns-in_default : goal.returns-in_default
-returns-in_default c = stays_here (program_of c.args.tables.now c.args.script.now) c.args.script.now c.args.store.now (moves_on (program_of c.args.tables.now c.args.script.now) c.args.script.now c.args.next c.args.self.now) c.args.self.now
+returns-in_default c = c.more.ensures (program_of c.args.tables.now c.args.script.now) c.args.script.now c.args.store.now c.args.self.now

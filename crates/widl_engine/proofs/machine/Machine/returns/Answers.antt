@@ -1,11 +1,8 @@
 use Rattle.std.proofs.Common.{◌∙◌, refl, ap, length-append, arith, [], ◌∷◌, ◌++◌, List, length}
-use Rattle.widl_value.specs.declared.value.Value.{Value}
 use Rattle.widl_engine.specs.declared.ends.Completion.TheVariants as completions
 use Rattle.widl_engine.specs.declared.ends.JobEnd.TheVariants.{Completed as completed}
 use Rattle.widl_engine.specs.declared.frames.Frame.{Frame}
 use Rattle.widl_engine.specs.declared.frames.Frame.TheVariants as frame
-use Rattle.widl_engine.specs.declared.frames.ValueFrame.TheVariants as goes_on
-use Rattle.widl_engine.specs.declared.jobs.Job.TheVariants as job
 use Rattle.widl_engine.specs.declared.machine.Machine.{Machine}
 use Rattle.widl_engine.specs.declared.moves.Move.TheVariants as move
 use Rattle.widl_engine.specs.Frames.{program_of}
@@ -35,7 +32,7 @@ pub goes_back-requires-clause-fits : goal.goes_back-requires-clause-fits
 goes_back-requires-clause-fits c = fits_on (program_of c.args.tables.now c.args.script.now) c.args.script.now (stays_then c.ends.invariant (popped (program_of c.args.tables.now c.args.script.now) c.args.script.now c.args.store.now c.ends.self _ c.in-Some.frame (completed (completions.Returned c.args.value)) refl refl refl c.in-Some.ensures.some)).place c.requires.fits
 
 pub returns-in-None : goal.returns-in-None
-returns-in-None c = then_runs c.ends.invariant.place (over (program_of c.args.tables.now c.args.script.now) c.args.script.now c.args.store.now c.ends.self _ (completed (completions.Returned c.args.value)) refl refl c.in-None.ensures.none.0)
+returns-in-None c = let n : Machine = record { due = c.ends.self.due; frames = c.pop.new.frames; place = c.ends.self.place; taken = c.ends.self.taken; budget = c.ends.self.budget } in c.script_ends.ensures.turns (program_of c.args.tables.now c.args.script.now) c.args.script.now c.args.store.now (move.Gives (completed (completions.Returned c.args.value))) c.args.self.now n (then_runs c.ends.invariant.place (over (program_of c.args.tables.now c.args.script.now) c.args.script.now c.args.store.now c.ends.self n (completed (completions.Returned c.args.value)) refl refl c.in-None.ensures.none.0))
 
 pub returns-in-Called : goal.returns-in-Called
 returns-in-Called c = let n : Machine = record { due = c.ends.self.due; frames = c.pop.new.frames; place = c.ends.self.place; taken = c.ends.self.taken; budget = c.ends.self.budget } in stays_turns (program_of c.args.tables.now c.args.script.now) c.args.script.now c.args.store.now c.args.store.now c.args.store.now (move.Gives (completed (completions.Returned c.args.value))) (move.Gives (completed (completions.Returned c.args.value))) c.args.self.now c.ends.self c.goes_on.new.self c.goes_on.result c.ends.invariant (moves_lead (program_of c.args.tables.now c.args.script.now) c.args.script.now c.args.store.now c.args.store.now c.args.store.now (move.Gives (completed (completions.Returned c.args.value))) _ c.ends.self n c.goes_on.new.self c.goes_on.result (popped (program_of c.args.tables.now c.args.script.now) c.args.script.now c.args.store.now c.ends.self n frame.Called (completed (completions.Returned c.args.value)) refl refl refl (c.in-Some.ensures.some ∙ ap (λ (f : Frame). c.pop.new.frames.items ++ f ∷ []) (c.in-Called.is))) (end_leads (program_of c.args.tables.now c.args.script.now) c.args.script.now c.args.store.now c.args.store.now frame.Called (Returned c.args.value) c.called.result n c.goes_on.new.self c.goes_on.result (c.called.ensures (program_of c.args.tables.now c.args.script.now) c.args.script.now) c.goes_on.ensures))
