@@ -60,7 +60,7 @@ pub(crate) fn falls_due(due: &mut Charge, charge: Charge)
 }
 
 /// A job isn't begun.
-fn let_go(_job: Job) {}
+pub(crate) fn let_go(_job: Job) {}
 
 /// The turn of a job whose end is for the frame below.
 fn goes(alloc: Global, tables: &Tables, script: &Script, job: Job) -> Turn

@@ -133,7 +133,7 @@ impl Machine {
                 },
                 Ok(None) => {
                     let frame = Frame::Value(frame);
-                    self.steps(alloc, tables, script, frame, Job::Evaluate(place))
+                    self.evaluates_parts(alloc, tables, script, store, frame, place)
                 }
                 Err(_) => {
                     let_go(frame);

@@ -32,6 +32,7 @@ mod members;
 mod moves;
 mod new_objects;
 mod objects;
+mod parts;
 mod paying;
 mod perform;
 mod properties;

@@ -4,7 +4,7 @@ use Rattle.widl_engine.specs.declared.jobs.Job.TheVariants as job
 use Rattle.widl_engine.specs.declared.moves.Move.TheVariants as move
 use Rattle.widl_engine.specs.Frames.{program_of}
 use Rattle.widl_engine.proofs.Going.{moves_known}
-use Rattle.widl_engine.proofs.Coming.{fits_on}
+use Rattle.widl_engine.proofs.Coming.{fits_known, fits_on}
 use Rattle.widl_engine.proofs.Leading.{at_move, then_continues}
 use Rattle.widl_engine.proofs.ValuesAtOnce.{gone_on, value_there}
 use Rattle.widl_engine.proofs.machine.Machine.evaluates.Goals as goal
@@ -27,8 +27,11 @@ returns-in-Ok c =
     (c.in-Ok.ensures (program_of c.args.tables.now c.args.script.now))))
     c.ends_or_goes_on.ensures
 
+pub evaluates_parts-requires-clause-fits : goal.evaluates_parts-requires-clause-fits
+evaluates_parts-requires-clause-fits c = fits_known (program_of c.args.tables.now c.args.script.now) c.args.script.now c.args.store.now c.args.self.now _ _ (ap (λ (f : Frame). move.Steps f (job.Evaluate c.args.place)) c.in-Value.is) c.requires.fits
+
 pub returns-in-Ok-None : goal.returns-in-Ok-None
-returns-in-Ok-None c = at_move (program_of c.args.tables.now c.args.script.now) c.args.script.now c.args.store.now c.args.store.now _ _ c.args.self.now c.steps.new.self c.steps.result (ap (λ (f : Frame). move.Steps f (job.Evaluate c.args.place)) c.in-Value.is) (c.steps.ensures c.args.store.now)
+returns-in-Ok-None c = at_move (program_of c.args.tables.now c.args.script.now) c.args.script.now c.args.store.now c.args.store.now _ _ c.args.self.now c.evaluates_parts.new.self c.evaluates_parts.result (ap (λ (f : Frame). move.Steps f (job.Evaluate c.args.place)) c.in-Value.is) c.evaluates_parts.ensures
 
 pub returns-in_default : goal.returns-in_default
-returns-in_default c = c.steps-in_default.ensures c.args.store.now
+returns-in_default c = c.steps.ensures c.args.store.now
