@@ -77,6 +77,11 @@ fn statement_of(charge: &Charge) -> Option<u32>
     }
 }
 
+/// The event of a line isn't needed any more. It is dropped here alone, since a function pays for the room of all that it
+/// may drop.
+#[inline(never)]
+fn let_go(_event: Event) {}
+
 /// The first move after a charge.
 #[inline(never)]
 fn leads(alloc: Global, script: &Script, charge: Charge) -> Turn
@@ -152,10 +157,30 @@ impl Machine {
         ensures { let p : Program = program_of tables.now script.now in LeadsOn p script.now store.old (once_paid p script.now (charge) self.old) self.old store.new self.new result }
     {
         match charge {
-            Charge::Unit(unit) => leads(alloc, script, Charge::Unit(unit)),
+            Charge::Unit(unit) => self.unit_leads(alloc, tables, script, store, unit),
             Charge::Line { event, then } => {
                 self.line_leads(alloc, tables, script, store, event, then)
             }
+        }
+    }
+
+    /// The first turn after a unit.
+    #[inline(always)]
+    fn unit_leads(
+        &mut self,
+        alloc: Global,
+        tables: &Tables,
+        script: &Script,
+        store: &Store,
+        unit: Unit,
+    ) -> Turn
+        requires read { let p : Program = program_of tables.now script.now in IsReadOver p.list script.now }
+        requires fits { let p : Program = program_of tables.now script.now in MachineFits p script.now store.now (once_paid p script.now (Charge.Unit unit) self.old) self.old }
+        ensures { let p : Program = program_of tables.now script.now in LeadsOn p script.now store.now (once_paid p script.now (Charge.Unit unit) self.old) self.old store.now self.new result }
+    {
+        match unit {
+            Unit::Asked => self.gives_value(alloc, tables, script, store, Value::Undefined),
+            unit => leads(alloc, script, Charge::Unit(unit)),
         }
     }
 
@@ -177,6 +202,10 @@ impl Machine {
         match then {
             AfterLine::Enters(body) => { self.enters_by(alloc, tables, script, store, event, body) }
             AfterLine::Leaves => self.leaves_by(alloc, tables, script, store, event),
+            AfterLine::Shown => {
+                let_go(event);
+                self.gives_value(alloc, tables, script, store, Value::Undefined)
+            }
             then => leads(alloc, script, Charge::Line { event, then }),
         }
     }
@@ -201,6 +230,12 @@ impl Machine {
                 Due::Enter { number, this, args } => {
                     self.enters_function(alloc, tables, script, store, number, this, args)
                 }
+                Due::EnterBuiltin {
+                    f,
+                    function,
+                    this,
+                    args,
+                } => self.enters_talk(alloc, tables, script, store, f, function, this, args),
                 due => more(alloc, Move::Acts(due)),
             },
             next => more(alloc, next),

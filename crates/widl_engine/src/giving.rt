@@ -101,14 +101,14 @@ impl Machine {
         ensures { let p : Program = program_of tables.now script.now in LeadsOn p script.now store.now (once_ended p script.now frame (job_end_of end) self.old) self.old store.now self.new result }
     {
         match returned(alloc, tables, script, frame, end) {
-            Ok(next) => self.goes_on(tables, script, store, next),
+            Ok(next) => self.asks_or_goes_on(alloc, tables, script, store, next),
             Err(_) => Turn::Memory,
         }
     }
 
     /// The turn of an end with a value. Where nothing is done with it, the next statements go on.
     #[inline(never)]
-    fn gives_value(
+    pub(crate) fn gives_value(
         &mut self,
         alloc: Global,
         tables: &Tables,

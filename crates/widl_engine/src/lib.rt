@@ -15,6 +15,7 @@ mod calls;
 mod calls_at_once;
 mod charges;
 mod contexts;
+mod conversations;
 mod due;
 mod ends;
 mod entering;
