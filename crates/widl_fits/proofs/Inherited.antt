@@ -1,11 +1,11 @@
 -- Which dictionaries have a required member, in an order in which the parent of each stands before it.
 use Rattle.std.proofs.Common.{◌≡◌, ◌≢◌, ◌⊎◌, ◌↔◌, inl, inr, ℕ, ◌+◌, ◌<◌, ◌≤◌, Bool, true, false, ◌||◌, zero, suc, List, [], ◌∷◌, length, map, get_or, set, slice_get, Option, None, Some, option_map, arith, refl, sym, ap, subst, ◌∙◌, nat_lt, replicate}
-use Rattle.std.specs.List.{Contains, list_any}
+use Rattle.std.specs.List.{list_any}
 use Rattle.std.specs.Option.{option_to_list}
 use Rattle.std.proofs.lemmas.List.{get_or-set_same, get_or-set_other, length-map, length-set, length-replicate}
 use Rattle.std.proofs.lemmas.Option.{slice_get_within, slice_get-map, slice_get_read, slice_get-get_or}
 use Rattle.widl_graph.specs.Order.{IsOrder, StandsBefore}
-use Rattle.widl_graph.specs.Reaching.{Step, Reaches, ReachesItself, one, more, successors_of}
+use Rattle.widl_graph.specs.Reaching.{Step, Reaches, ReachesItself, one, more}
 use Rattle.widl_graph.specs.declared.walk.Walk.{Walk}
 use Rattle.widl_graph.proofs.Orders.{earlier_place}
 use Rattle.widl_idl.specs.declared.dictionary.Dict.{Dict}
@@ -13,6 +13,7 @@ use Rattle.widl_idl.specs.declared.dictionary.Member.{Member}
 use Rattle.widl_idl.specs.DefinitionTerms.{DictTerm, MemberTerm, dict_term, member_term}
 use Rattle.widl_overload.specs.Dictionaries.{HasRequired, dictionary_parents}
 use Rattle.widl_fits.specs.Hierarchies.{IsHierarchy}
+use Rattle.widl_fits.proofs.ParentSteps.{first_step, parent_step, step_parent}
 use Rattle.widl_fits.specs.Required.{AreKnown, AreParentsFirst, TellsRequired, has_own, is_flagged, parent_flagged, required_by}
 
 -- the members of a dictionary and their terms are required alike
@@ -54,52 +55,18 @@ either_true false b h = inr h
 some_is : {A : Type 0} {a b : A} → Some a ≡ Some b → a ≡ b
 some_is e = (cc)
 
-only_item : (x y : ℕ) → Contains (x ∷ []) y → x ≡ y
-only_item x y c = by_place c.0 c.1 c.2
-  where
-    by_place : (k : ℕ) → k < length (x ∷ []) → get_or (x ∷ []) k y ≡ y → x ≡ y
-    by_place zero below e = e
-    by_place (suc k) below e = absurd (omega arith)
-
-first_step : {graph : List (List ℕ)} {x z : ℕ} → Reaches graph x z → (y : ℕ) × Step graph x y × ((y ≡ z) ⊎ Reaches graph y z)
-first_step (one {y = y} s) = (y, s, inl refl)
-first_step (more {y = y} s r) = (y, s, inr r)
-
--- the parent of a dictionary, if there is a dictionary and it has one
-abbrev parent_in : Option DictTerm → List ℕ
-parent_in None = []
-parent_in (Some d) = option_to_list d.parent
-
-parent_at : (dicts : List DictTerm) (x : ℕ) → successors_of (dictionary_parents dicts) x ≡ parent_in (slice_get dicts x)
-parent_at [] x = refl
-parent_at (d ∷ dicts) zero = refl
-parent_at (d ∷ dicts) (suc x) = parent_at dicts x
-
 module _ (dicts : List DictTerm) where
-  -- a step leads to the parent
-  to_parent : (x y : ℕ) (d : DictTerm) → slice_get dicts x ≡ Some d → d.parent ≡ Some y → Step (dictionary_parents dicts) x y
-  to_parent x y d is parent = subst (λ ys. Contains ys y) (sym (parent_at dicts x ∙ ap parent_in is ∙ ap option_to_list parent)) (0, omega arith, refl)
-
-  pub step_parent : (x y : ℕ) → Step (dictionary_parents dicts) x y → (d : DictTerm) × (slice_get dicts x ≡ Some d) × (d.parent ≡ Some y)
-  step_parent x y s = by_dictionary (slice_get dicts x) refl (subst (λ ys. Contains ys y) (parent_at dicts x) s)
-    where
-      by_parent : (d : DictTerm) (parent : Option ℕ) → d.parent ≡ parent → slice_get dicts x ≡ Some d → Contains (option_to_list parent) y → (d : DictTerm) × (slice_get dicts x ≡ Some d) × (d.parent ≡ Some y)
-      by_parent d None e is c = absurd (let l = c.1 in omega arith)
-      by_parent d (Some p) e is c = (d, is, e ∙ ap Some (only_item p y c))
-
-      by_dictionary : (o : Option DictTerm) → slice_get dicts x ≡ o → Contains (parent_in o) y → (d : DictTerm) × (slice_get dicts x ≡ Some d) × (d.parent ≡ Some y)
-      by_dictionary None is c = absurd (let l = c.1 in omega arith)
-      by_dictionary (Some d) is c = by_parent d d.parent refl is c
-
   -- what the parent requires is inherited
   inherited : (x y : ℕ) (d : DictTerm) → slice_get dicts x ≡ Some d → d.parent ≡ Some y → HasRequired dicts y → HasRequired dicts x
-  inherited x y d is parent h = record {
-    declaring = h.declaring;
-    dictionary = h.dictionary;
-    of_line = elim h.of_line [ inl e ↦ inr (one (subst (Step (dictionary_parents dicts) x) e (to_parent x y d is parent))) | inr r ↦ inr (more (to_parent x y d is parent) r) ];
-    is = h.is;
-    required = h.required;
-  }
+  inherited x y d is parent h =
+      let up : Step (dictionary_parents dicts) x y = parent_step (λ (t : DictTerm). t.parent) dicts x y d is parent in
+      record {
+        declaring = h.declaring;
+        dictionary = h.dictionary;
+        of_line = elim h.of_line [ inl e ↦ inr (one (subst (Step (dictionary_parents dicts) x) e up)) | inr r ↦ inr (more up r) ];
+        is = h.is;
+        required = h.required;
+      }
 
   -- the flags tell whether the parents of a dictionary have required members
   abbrev ParentsTold : List Bool → ℕ → Type 0
@@ -111,7 +78,7 @@ module _ (dicts : List DictTerm) where
     where
       by_parent : (parent : Option ℕ) → d.parent ≡ parent → parent_flagged flags parent ≡ true → HasRequired dicts x
       by_parent None e up = absurd (let f : false ≡ true = up in (cc))
-      by_parent (Some y) e up = inherited x y d is e ((told y (to_parent x y d is e)).0 up)
+      by_parent (Some y) e up = inherited x y d is e ((told y (parent_step (λ (t : DictTerm). t.parent) dicts x y d is e)).0 up)
 
   requires_flagged : (flags : List Bool) (x : ℕ) → ParentsTold flags x → HasRequired dicts x → required_by flags (slice_get dicts x) ≡ true
   requires_flagged flags x told h = elim h.of_line [ inl e ↦ own e | inr r ↦ further (first_step r) ]
@@ -121,7 +88,7 @@ module _ (dicts : List DictTerm) where
 
       further : (y : ℕ) × Step (dictionary_parents dicts) x y × ((y ≡ h.declaring) ⊎ Reaches (dictionary_parents dicts) y h.declaring) → required_by flags (slice_get dicts x) ≡ true
       further w =
-          let p = step_parent x w.0 w.1 in
+          let p = step_parent (λ (t : DictTerm). t.parent) dicts x w.0 w.1 in
           let above : HasRequired dicts w.0 = record { declaring = h.declaring; dictionary = h.dictionary; of_line = w.2; is = h.is; required = h.required } in
           ap (required_by flags) p.1 ∙ ap (λ b. has_own p.0 || b) (ap (parent_flagged flags) p.2 ∙ (told w.0 w.1).1 above) ∙ or_true (has_own p.0)
 
@@ -133,7 +100,7 @@ module _ (dicts : List DictTerm) where
       clash d is = let l = slice_get_within dicts x d is in omega (arith, l, past)
 
       beyond : (y : ℕ) × Step (dictionary_parents dicts) x y × ((y ≡ h.declaring) ⊎ Reaches (dictionary_parents dicts) y h.declaring) → ⊥
-      beyond w = let p = step_parent x w.0 w.1 in clash p.0 p.1
+      beyond w = let p = step_parent (λ (t : DictTerm). t.parent) dicts x w.0 w.1 in clash p.0 p.1
 
 module _ (dicts : List DictTerm) (order : List ℕ) (first : AreParentsFirst dicts order) where
   -- the parents of the next dictionary of the order are known

@@ -2,6 +2,7 @@ pub mod KeptValues
 pub mod Inherited
 pub mod Fits
 pub mod DefaultValues
-pub mod DeclaredDictionaries
+pub mod ParentSteps
+pub mod MainDefinitions
 pub mod MergedParents
 pub mod MergedHierarchies

@@ -1,11 +1,12 @@
 -- No definition of a set of files with a merged list inherits from itself.
-use Rattle.std.proofs.Common.{◌≡◌, ℕ, zero, suc, List, [], ◌∷◌, map, Some, slice_get, arith, refl, Contains}
-use Rattle.widl_graph.specs.Reaching.{Reaches, ReachesItself, Step, more, one}
+use Rattle.std.proofs.Common.{ℕ, List, arith, refl, Contains}
+use Rattle.widl_graph.specs.Reaching.{ReachesItself}
 use Rattle.widl_idl.specs.declared.violation.Violation.{Violation}
 use Rattle.widl_idl.specs.First.{violation_at}
 use Rattle.widl_idl.specs.Meanings.{declared_name, kind_of}
 use Rattle.widl_idl.specs.MergingRules.{AtName, ComesBack, parent_links, parent_numbers, parent_of}
 use Rattle.widl_idl.specs.PlainTrees.{PlainDefinition, PlainKind, DictionaryDefinition, InterfaceDefinition}
+use Rattle.widl_fits.proofs.ParentSteps.{first_step, from_step}
 
 module _ (definitions : List PlainDefinition) (known : (s : Violation) → ComesBack (parent_links definitions) definitions s → ⊥) where
   -- a definition with a parent has a name
@@ -13,16 +14,6 @@ module _ (definitions : List PlainDefinition) (known : (s : Violation) → Comes
   named (InterfaceDefinition i) y c = (violation_at i.name.at, (tt, refl))
   named (DictionaryDefinition d) y c = (violation_at d.name.at, (tt, refl))
   named kind y c = absurd (let below = c.1 in omega arith)
-
-  first_step : {graph : List (List ℕ)} {x z : ℕ} → Reaches graph x z → (y : ℕ) × Step graph x y
-  first_step (one {y = y} s) = (y, s)
-  first_step (more {y = y} s r) = (y, s)
-
-  -- the definition from which a step leads
-  from_step : (f : PlainDefinition → List ℕ) (xs : List PlainDefinition) (x y : ℕ) → Step (map f xs) x y → (d : PlainDefinition) × (slice_get xs x ≡ Some d) × Contains (f d) y
-  from_step f [] x y s = absurd (let below = s.1 in omega arith)
-  from_step f (d ∷ xs) zero y s = (d, refl, s)
-  from_step f (d ∷ xs) (suc x) y s = from_step f xs x y s
 
   pub none_back : (x : ℕ) → ReachesItself (parent_links definitions) x → ⊥
   none_back x back =

@@ -12,4 +12,5 @@ mod required_members;
 mod tables;
 
 pub use literals::{any_takes, literal_fits};
+pub use ranges::is_in_range;
 pub use tables::Tables;

@@ -2,18 +2,19 @@
 use Rattle.std.proofs.Common.{◌≡◌, inl, inr, ℕ, zero, suc, ◌+◌, ◌<◌, Bool, true, false, not, List, [], length, slice_get, Option, None, Some, arith, refl, sym, ap, subst, ◌∙◌}
 use Rattle.std.specs.Option.{is_some}
 use Rattle.std.proofs.lemmas.Bool.{cases_eq}
+use Rattle.widl_fits.proofs.ParentSteps.{child_within, up_step}
+use Rattle.widl_fits.specs.Hierarchies.{IsForest}
 use Rattle.widl_graph.specs.Search.{Has}
 use Rattle.widl_inheritance.specs.Children.{AreLeft}
-use Rattle.widl_inheritance.specs.Spans.{AreInOrder, AreWhole, IsForest, parent_graph, parent_in, span_of}
+use Rattle.widl_inheritance.specs.Spans.{AreInOrder, AreWhole, parent_graph, parent_in, span_of}
 use Rattle.widl_inheritance.specs.SpanWalks.{IsUnderWay}
 use Rattle.widl_inheritance.specs.declared.span_walk.Walk.{Walk}
 use Rattle.widl_inheritance.specs.declared.spans.Span.{Span}
-use Rattle.widl_inheritance.proofs.Coming.{parent_step}
 use Rattle.widl_inheritance.proofs.ParentChains.{Climbs, climbs_more, few}
 use Rattle.widl_inheritance.proofs.Rooms.{node_below}
-use Rattle.widl_inheritance.proofs.Taking.{child_within, none_in, parent_within}
+use Rattle.widl_inheritance.proofs.Taking.{none_in, parent_within}
 
-module _ (parents : List (Option ℕ)) (spans : List (Option Span)) (order path : List ℕ) (children : List (List ℕ)) (forest : IsForest parents) (size : length spans ≡ length parents) (in_order : AreInOrder spans order) (left : AreLeft parents order path children) (over : path ≡ []) (roots : (n : ℕ) → n < length parents → parent_in parents n ≡ None → Has order n) where
+module _ (parents : List (Option ℕ)) (spans : List (Option Span)) (order path : List ℕ) (children : List (List ℕ)) (forest : IsForest (parent_graph parents)) (size : length spans ≡ length parents) (in_order : AreInOrder spans order) (left : AreLeft parents order path children) (over : path ≡ []) (roots : (n : ℕ) → n < length parents → parent_in parents n ≡ None → Has order n) where
   -- a child of a node that was visited was visited
   closed : (n p : ℕ) → parent_in parents n ≡ Some p → Has order p → Has order n
   closed n p e h = elim (left.each p n (let below = node_below spans order in_order h.0 p h.1 in omega (arith, below, size)) e) [
@@ -48,7 +49,7 @@ module _ (parents : List (Option ℕ)) (spans : List (Option Span)) (order path 
 
   too_far : (n : ℕ) → n < length parents → span_of spans n ≡ None → ⊥
   too_far n below none =
-      let most = few (parent_in parents) (parent_graph parents) forest.acyclic (parent_step parents) (length parents) (child_within parents) n (suc (length parents)) (climbs (suc (length parents)) n below none) in
+      let most = few (parent_in parents) (parent_graph parents) forest.acyclic (up_step (λ p. p) parents) (length parents) (child_within (λ p. p) parents) n (suc (length parents)) (climbs (suc (length parents)) n below none) in
       omega (arith, most)
 
   pub all_spanned : AreWhole spans

@@ -4,6 +4,7 @@ use Rattle.std.specs.List.{Contains, list_any}
 use Rattle.std.proofs.lemmas.List.{get_or-set_same, get_or-set_other, get_or_past, length-replicate, length-set}
 use Rattle.std.proofs.lemmas.List.Folds.{list_any_at}
 use Rattle.std.proofs.lemmas.Option.{slice_get_within, slice_get-get_or}
+use Rattle.widl_fits.proofs.ParentSteps.{first_step}
 use Rattle.widl_graph.specs.declared.walk.Walk.{Walk}
 use Rattle.widl_graph.specs.Order.{IsOrder, StandsBefore}
 use Rattle.widl_graph.specs.Reaching.{Step, Reaches, one, more, successors_of}
@@ -33,10 +34,6 @@ right_or false b e = e
 or_cases : (a b : Bool) → (a || b) ≡ true → (a ≡ true) ⊎ (b ≡ true)
 or_cases true b e = inl refl
 or_cases false b e = inr e
-
-first_step : {graph : List (List ℕ)} {x z : ℕ} → Reaches graph x z → (y : ℕ) × Step graph x y × ((y ≡ z) ⊎ Reaches graph y z)
-first_step (one {y = y} s) = (y, s, inl refl)
-first_step (more {y = y} s r) = (y, s, inr r)
 
 -- what a node reaches, by its successors
 module _ (graph : List (List ℕ)) (flags found : List Bool) (x : ℕ) (known : (y : ℕ) → Step graph x y → (get_or found y false ≡ true) ↔ ReachesFlag graph flags y) where

@@ -2,6 +2,7 @@
 use Rattle.std.proofs.Common.{◌≡◌, ◌⊎◌, inl, inr, ℕ, ◌+◌, ◌-◌, ◌<◌, Bool, true, false, List, length, slice_get, Some, arith, refl, ap, subst, ◌∙◌, nat_lt}
 use Rattle.std.specs.List.{Contains}
 use Rattle.std.proofs.lemmas.Option.{slice_get-get_or}
+use Rattle.widl_fits.proofs.ParentSteps.{parent_step}
 use Rattle.widl_fits.specs.Hierarchies.{IsHierarchy}
 use Rattle.widl_graph.specs.Reaching.{Reaches, ReachesItself, Step, one, more}
 use Rattle.widl_graph.proofs.Reach.{joined}
@@ -10,7 +11,7 @@ use Rattle.widl_idl.specs.DefinitionTerms.{DictTerm}
 use Rattle.widl_idl.specs.First.{violation_at}
 use Rattle.widl_inheritance.specs.declared.holding.Holdings.{Holdings}
 use Rattle.widl_inheritance.specs.HoldingGraph.{AreHoldings, IsHoldingGraph}
-use Rattle.widl_inheritance.proofs.HoldingSteps.{MemberStep, dictionary_at, from_members, parent_step, reached_leads}
+use Rattle.widl_inheritance.proofs.HoldingSteps.{MemberStep, dictionary_at, from_members, reached_leads}
 use Rattle.widl_overload.specs.Dictionaries.{Inherits}
 use Rattle.widl_overload.specs.DictionaryRules.{HoldsItself}
 
@@ -29,7 +30,7 @@ module _ (dicts : List DictTerm) (graph : List (List ℕ)) (linked : IsHoldingGr
       by_goal : MemberStep dicts n y → Inherits dicts n m ⊎ PassesType x y
       by_goal g = elim g.goes [
         | inl h ↦ absurd (let l = h.1 in omega (arith, l, y_is))
-        | inr h ↦ let same : h.0 ≡ m = (let e = h.2 in omega (arith, e, y_is)) in inl (one (parent_step dicts n m g.dictionary g.is (h.1 ∙ ap Some same)))
+        | inr h ↦ let same : h.0 ≡ m = (let e = h.2 in omega (arith, e, y_is)) in inl (one (parent_step (λ (t : DictTerm). t.parent) dicts n m g.dictionary g.is (h.1 ∙ ap Some same)))
       ]
   way_up (more {x = x} {y = z} {z = y} s r) n m below x_is y_is = by_goal (from_members dicts graph linked n z below (subst (λ k. Step graph k z) x_is s)) (λ p l e. way_up r p m l e y_is)
     where
@@ -39,7 +40,7 @@ module _ (dicts : List DictTerm) (graph : List (List ℕ)) (linked : IsHoldingGr
       by_goal : MemberStep dicts n z → ((p : ℕ) → p < length dicts → z ≡ length dicts + p → Inherits dicts p m ⊎ PassesType z y) → Inherits dicts n m ⊎ PassesType x y
       by_goal g later = elim g.goes [
         | inl h ↦ inr (record { node = z; below = h.1; before = one s; after = r })
-        | inr h ↦ elim (later h.0 h.3 h.2) [ inl i ↦ inl (more (parent_step dicts n h.0 g.dictionary g.is h.1) i) | inr p ↦ inr (passes p) ]
+        | inr h ↦ elim (later h.0 h.3 h.2) [ inl i ↦ inl (more (parent_step (λ (t : DictTerm). t.parent) dicts n h.0 g.dictionary g.is h.1) i) | inr p ↦ inr (passes p) ]
       ]
 
   module _ (hierarchy : IsHierarchy dicts) (none : (s : Violation) → HoldsItself dicts s → ⊥) where

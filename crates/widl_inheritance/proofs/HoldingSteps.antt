@@ -1,9 +1,10 @@
 -- What the steps of the graph of dictionaries lead to, and what holds of a dictionary that holds itself.
-use Rattle.std.proofs.Common.{◌≡◌, ◌⊎◌, inl, inr, ℕ, ◌+◌, ◌-◌, ◌<◌, Bool, true, false, zero, suc, List, [], ◌∷◌, length, map, get_or, slice_get, Option, None, Some, arith, refl, sym, ap, subst, ◌∙◌, nat_lt}
+use Rattle.std.proofs.Common.{◌≡◌, ◌⊎◌, inl, inr, ℕ, ◌+◌, ◌-◌, ◌<◌, Bool, true, false, zero, suc, List, [], ◌∷◌, length, map, slice_get, Option, None, Some, arith, refl, sym, ap, subst, ◌∙◌, nat_lt}
 use Rattle.std.specs.List.{Contains}
 use Rattle.std.specs.Option.{option_to_list}
 use Rattle.std.proofs.lemmas.List.Elements.{Contains-append_left, Contains-append_right, Contains-append_cases}
-use Rattle.std.proofs.lemmas.Option.{slice_get_within}
+use Rattle.std.proofs.lemmas.Option.{same_Some, slice_get_within}
+use Rattle.widl_fits.proofs.ParentSteps.{first_step, listed_parent, parent_step, step_parent}
 use Rattle.widl_graph.specs.Reaching.{AreNodes, Reaches, Step, one, more}
 use Rattle.widl_graph.proofs.Complete.{step_within}
 use Rattle.widl_graph.proofs.Reach.{joined}
@@ -12,16 +13,8 @@ use Rattle.widl_inheritance.specs.HoldingGraph.{IsHoldingGraph}
 use Rattle.widl_overload.specs.Dictionaries.{HoldsIn, Inherits, LeadsTo, at_once, dictionaries_of_members, dictionary_parents, further}
 
 -- the only item of a list of one
-pub only_item : (x y : ℕ) → Contains (x ∷ []) y → y ≡ x
-only_item x y c = by_place c.0 c.1 c.2
-  where
-    by_place : (k : ℕ) → k < length (x ∷ []) → get_or (x ∷ []) k y ≡ y → y ≡ x
-    by_place zero below e = sym e
-    by_place (suc k) below e = absurd (omega arith)
-
-pub first_step : {graph : List (List ℕ)} {x z : ℕ} → Reaches graph x z → (y : ℕ) × Step graph x y × ((y ≡ z) ⊎ Reaches graph y z)
-first_step (one {y = y} s) = (y, s, inl refl)
-first_step (more {y = y} s r) = (y, s, inr r)
+only_item : (x y : ℕ) → Contains (x ∷ []) y → y ≡ x
+only_item x y c = sym (same_Some x y (listed_parent (Some x) y c))
 
 -- the number of a parent as that of the node of its members
 above_cases : (count : ℕ) (parent : Option ℕ) (y : ℕ) → Contains (map (λ p. count + p) (option_to_list parent)) y → (p : ℕ) × (parent ≡ Some p) × (y ≡ count + p)
@@ -30,24 +23,6 @@ above_cases count (Some p) y c = (p, refl, only_item (count + p) y c)
 
 above_has : (count : ℕ) (parent : Option ℕ) (p : ℕ) → parent ≡ Some p → Contains (map (λ q. count + q) (option_to_list parent)) (count + p)
 above_has count parent p is = subst (λ o. Contains (map (λ q. count + q) (option_to_list o)) (count + p)) (sym is) (0, omega arith, refl)
-
-has_one : (parent : Option ℕ) (m : ℕ) → Contains (option_to_list parent) m → parent ≡ Some m
-has_one None m c = absurd (let l = c.1 in omega arith)
-has_one (Some p) m c = ap Some (sym (only_item p m c))
-
--- a step from a dictionary to that from which it inherits
-parent_of_step : (dicts : List DictTerm) (n m : ℕ) → Step (dictionary_parents dicts) n m → (d : DictTerm) × (slice_get dicts n ≡ Some d) × (d.parent ≡ Some m)
-parent_of_step [] n m s = absurd (let l = s.1 in omega arith)
-parent_of_step (d ∷ dicts) zero m s = (d, refl, has_one d.parent m s)
-parent_of_step (d ∷ dicts) (suc n) m s = parent_of_step dicts n m s
-
-pub parent_step : (dicts : List DictTerm) (n m : ℕ) (d : DictTerm) → slice_get dicts n ≡ Some d → d.parent ≡ Some m → Step (dictionary_parents dicts) n m
-parent_step [] n m d is above = absurd (cc)
-parent_step (e ∷ dicts) zero m d is above = subst (λ o. Contains (option_to_list o) m) (sym (ap (λ x. x.parent) (some_is is) ∙ above)) (0, omega arith, refl)
-  where
-    some_is : Some e ≡ Some d → e ≡ d
-    some_is f = (cc)
-parent_step (e ∷ dicts) (suc n) m d is above = parent_step dicts n m d is above
 
 pub dictionary_at : (dicts : List DictTerm) (n : ℕ) → n < length dicts → (d : DictTerm) × (slice_get dicts n ≡ Some d)
 dictionary_at [] n below = absurd (omega (arith, below))
@@ -64,8 +39,8 @@ module _ (dicts : List DictTerm) where
   holds_above n p m d is above h = record { declaring = h.declaring; dictionary = h.dictionary; of_line = inr (by_line h.of_line); is = h.is; inside = h.inside }
     where
       by_line : (p ≡ h.declaring) ⊎ Inherits dicts p h.declaring → Inherits dicts n h.declaring
-      by_line (inl e) = one (subst (λ k. Step (dictionary_parents dicts) n k) e (parent_step dicts n p d is above))
-      by_line (inr r) = more (parent_step dicts n p d is above) r
+      by_line (inl e) = one (subst (λ k. Step (dictionary_parents dicts) n k) e (parent_step (λ (t : DictTerm). t.parent) dicts n p d is above))
+      by_line (inr r) = more (parent_step (λ (t : DictTerm). t.parent) dicts n p d is above) r
 
   -- there are no other ones
   pub holds_cases : (n m : ℕ) → HoldsIn dicts n m → (d : DictTerm) × (slice_get dicts n ≡ Some d) × (Contains (dictionaries_of_members d) m ⊎ ((p : ℕ) × (d.parent ≡ Some p) × HoldsIn dicts p m))
@@ -73,7 +48,7 @@ module _ (dicts : List DictTerm) where
     where
       inherited : (y : ℕ) × Step (dictionary_parents dicts) n y × ((y ≡ h.declaring) ⊎ Inherits dicts y h.declaring) → (d : DictTerm) × (slice_get dicts n ≡ Some d) × (Contains (dictionaries_of_members d) m ⊎ ((p : ℕ) × (d.parent ≡ Some p) × HoldsIn dicts p m))
       inherited f =
-          let above = parent_of_step dicts n f.0 f.1 in
+          let above = step_parent (λ (t : DictTerm). t.parent) dicts n f.0 f.1 in
           (above.0, above.1, inr (f.0, above.2, record { declaring = h.declaring; dictionary = h.dictionary; of_line = f.2; is = h.is; inside = h.inside }))
 
       by_line : (n ≡ h.declaring) ⊎ Inherits dicts n h.declaring → (d : DictTerm) × (slice_get dicts n ≡ Some d) × (Contains (dictionaries_of_members d) m ⊎ ((p : ℕ) × (d.parent ≡ Some p) × HoldsIn dicts p m))
@@ -147,8 +122,8 @@ module _ (dicts : List DictTerm) (graph : List (List ℕ)) (linked : IsHoldingGr
 
   -- the members of a dictionary lead to those of each from which it inherits
   above_reached : {n m : ℕ} → Inherits dicts n m → Reaches graph (length dicts + n) (length dicts + m)
-  above_reached (one {x = n} {y = m} s) = let d = parent_of_step dicts n m s in one (to_above n m d.0 d.1 d.2)
-  above_reached (more {x = n} {y = k} s r) = let d = parent_of_step dicts n k s in more (to_above n k d.0 d.1 d.2) (above_reached r)
+  above_reached (one {x = n} {y = m} s) = let d = step_parent (λ (t : DictTerm). t.parent) dicts n m s in one (to_above n m d.0 d.1 d.2)
+  above_reached (more {x = n} {y = k} s r) = let d = step_parent (λ (t : DictTerm). t.parent) dicts n k s in more (to_above n k d.0 d.1 d.2) (above_reached r)
 
   -- and a dictionary to each that it holds
   held_reached : (n m : ℕ) → HoldsIn dicts n m → Reaches graph n m

@@ -6,9 +6,10 @@ use Rattle.std.proofs.lemmas.Bool.{lt-ltb, ltb-true}
 use Rattle.std.proofs.lemmas.List.{get_or_default, length-map}
 use Rattle.std.proofs.lemmas.List.Folds.{list_any_more}
 use Rattle.std.proofs.lemmas.Option.{same_Some, slice_get-map, slice_get_read, slice_get_within}
+use Rattle.std.proofs.lemmas.Simd.{map-map}
 use Rattle.widl_graph.proofs.Gets.{take_still, take_was}
-use Rattle.widl_fits.specs.Hierarchies.{IsHierarchy}
-use Rattle.widl_graph.specs.Reaching.{AreNodes, Reaches}
+use Rattle.widl_fits.specs.Hierarchies.{IsForest, IsHierarchy}
+use Rattle.widl_graph.specs.Reaching.{Reaches}
 use Rattle.widl_idl.specs.DefinitionTerms.{DictTerm, MemberTerm, dict_term}
 use Rattle.widl_idl.specs.declared.dictionary.Dict.{Dict}
 use Rattle.widl_idl.specs.declared.violation.Violation.{Violation}
@@ -17,9 +18,8 @@ use Rattle.widl_idl.proofs.Order.{first_same}
 use Rattle.widl_idl.proofs.Steps.{first_next, first_start}
 use Rattle.widl_overload.specs.Dictionaries.{dictionary_parents}
 use Rattle.widl_overload.specs.DictionaryRules.{HasNameTwice, InheritsMember, RepeatsName, has_member}
-use Rattle.widl_inheritance.specs.ReachedFlags.{IsAcyclic}
 use Rattle.widl_inheritance.specs.MemberEnds.{RepeatsKept, RepeatsKnown, has_after, members_at, past_at}
-use Rattle.widl_inheritance.specs.Spans.{AreSpans, AreWhole, IsForest, parent_graph, span_of}
+use Rattle.widl_inheritance.specs.Spans.{AreSpans, AreWhole, parent_graph, span_of}
 use Rattle.widl_inheritance.specs.declared.spans.Span.{Span}
 
 -- the dictionaries from which these inherit directly
@@ -27,12 +27,11 @@ abbrev pub parents_in : List DictTerm → List (Option ℕ)
 parents_in dicts = map (λ (d : DictTerm). d.parent) dicts
 
 same_graph : (dicts : List DictTerm) → parent_graph (parents_in dicts) ≡ dictionary_parents dicts
-same_graph [] = refl
-same_graph (d ∷ dicts) = ap (λ g. option_to_list d.parent ∷ g) (same_graph dicts)
+same_graph dicts = map-map option_to_list (λ (d : DictTerm). d.parent) dicts
 
 -- the parents of dictionaries without a circle are a forest
-pub hierarchy_forest : (dicts : List DictTerm) (parents : List (Option ℕ)) → parents ≡ parents_in dicts → IsHierarchy dicts → IsForest parents
-hierarchy_forest dicts parents is hierarchy = subst IsForest (sym is) (record { listed = subst AreNodes (sym (same_graph dicts)) hierarchy.listed; acyclic = subst IsAcyclic (sym (same_graph dicts)) hierarchy.acyclic })
+pub hierarchy_forest : (dicts : List DictTerm) (parents : List (Option ℕ)) → parents ≡ parents_in dicts → IsHierarchy dicts → IsForest (parent_graph parents)
+hierarchy_forest dicts parents is hierarchy = subst IsForest (sym (ap parent_graph is ∙ same_graph dicts)) hierarchy
 
 any_at_by : (test : ℕ → Bool) (x : ℕ) (xs : List ℕ) (b : Bool) → test x ≡ b → (list_any test xs ≡ true → (k : ℕ) × (y : ℕ) × (slice_get xs k ≡ Some y) × (test y ≡ true)) → (b || list_any test xs) ≡ true → (k : ℕ) × (y : ℕ) × (slice_get (x ∷ xs) k ≡ Some y) × (test y ≡ true)
 any_at_by test x xs true e rest h = (0, x, refl, e)

@@ -1,5 +1,5 @@
 -- The dictionaries in the types of the members of a merged list's dictionaries are dictionaries of the list.
-use Rattle.std.proofs.Common.{◌≡◌, inl, inr, ℕ, zero, suc, ◌<◌, ◌++◌, Bool, true, false, cond, List, [], ◌∷◌, length, map, filter_map, Option, None, Some, slice_get, arith, refl, sym, ap, subst}
+use Rattle.std.proofs.Common.{◌≡◌, inl, inr, ℕ, zero, suc, ◌<◌, ◌++◌, Bool, true, false, cond, List, [], ◌∷◌, length, map, filter_map, Option, None, Some, slice_get, arith, refl, sym, ap, subst, ◌∙◌}
 use Rattle.std.specs.List.{Contains, cons_option, flat_map}
 use Rattle.std.specs.Option.{option_to_list}
 use Rattle.std.proofs.lemmas.List.{length-map}
@@ -7,8 +7,8 @@ use Rattle.std.proofs.lemmas.List.Elements.{Contains-append_cases}
 use Rattle.std.proofs.lemmas.Option.{same_Some}
 use Rattle.widl_text.specs.declared.place.Place.{Place}
 use Rattle.widl_fits.specs.Hierarchies.{IsHierarchy}
-use Rattle.widl_fits.proofs.DeclaredDictionaries.{dictionaries, is_declared, main_below, meant_main}
-use Rattle.widl_fits.proofs.MergedHierarchies.{merged_hierarchy}
+use Rattle.widl_fits.proofs.MergedHierarchies.{dictionary_listed, merged_hierarchy}
+use Rattle.widl_fits.proofs.ParentSteps.{listed_parent, parent_step}
 use Rattle.widl_idl.specs.declared.defs.Defs.{Defs}
 use Rattle.widl_idl.specs.declared.kind.Kind.{Kind}
 use Rattle.widl_idl.specs.declared.kind.Kind.TheVariants as kinds
@@ -17,21 +17,34 @@ use Rattle.widl_idl.specs.declared.tree.types.Container.{Container}
 use Rattle.widl_idl.specs.declared.tree.types.Container.TheVariants as container
 use Rattle.widl_idl.specs.DefinitionTerms.{DefsTerm, DictTerm, MemberTerm}
 use Rattle.widl_idl.specs.Meanings.{definitions_of, meaning, meant_kind}
+use Rattle.widl_idl.specs.MergedList.{dictionary_if, dictionary_of, each_main}
 use Rattle.widl_idl.specs.MergedMembers.{member_of}
 use Rattle.widl_idl.specs.MergedSets.{IsMerged}
 use Rattle.widl_idl.specs.Parts.{merged_dictionary_members}
-use Rattle.widl_idl.specs.PlainTrees.{PlainDefinition, PlainDictionaryMember, PlainKind, TypedefDefinition}
+use Rattle.widl_idl.specs.PlainTrees.{PlainDefinition, PlainDictionaryMember, PlainKind, DictionaryDefinition, TypedefDefinition}
 use Rattle.widl_idl.specs.PlainTypes.{PlainName, PlainAttribute, PlainForm, PlainType, PlainAnnotated, PlainMembers, PlainNamed, PlainContainer, PlainRecord, PlainPromise, PlainUnion, plain_type, plain_annotated, no_plain, more_plain}
 use Rattle.widl_idl.specs.Resolution.{Note, Typedef, WrittenType, WrittenMembers, WithoutParts, TypedefName, SequenceOf, RecordOf, PromiseOf, NullableOf, UnionOf, no_members, more_members, annotated, is_nullable_twice, nullable_of, resolved, resolved_members, resolved_typedef, typedef_in}
 use Rattle.widl_idl.specs.Terms.{TypeTerm, TypeTerms, IntegerType, NullableType, StringType}
 use Rattle.widl_idl.specs.WrittenTypes.{container_of, meaning_of_type, meaning_with, notes_of, nullable_if, number_among, type_of_meaning, typedef_if, typedef_in_tree, typedefs, written_form, written_members, written_type}
-use Rattle.widl_overload.specs.Dictionaries.{dictionaries_in, dictionaries_in_all, dictionary_parents, dictionary_terms}
+use Rattle.widl_overload.specs.Dictionaries.{dictionaries_in, dictionaries_in_all, dictionaries_of_members, dictionary_terms}
 use Rattle.widl_inheritance.specs.HoldingGraph.{AreWithin}
-use Rattle.widl_inheritance.proofs.HoldingSteps.{only_item, parent_step}
+
+-- each item that is chosen from a list was made of one of its items
+chosen_from : {X Y : Type 0} (choose : X → Option Y) (xs : List X) (n : ℕ) (y : Y) → slice_get (filter_map choose xs) n ≡ Some y → (x : X) × (choose x ≡ Some y)
+chosen_from {X = X} {Y = Y} choose [] n y e = absurd (let f : None ≡ Some y = e in (cc))
+chosen_from {X = X} {Y = Y} choose (x ∷ xs) n y e = by_choice (choose x) refl n e (λ m f. chosen_from choose xs m y f)
+  where
+    by_choice : (made : Option Y) → choose x ≡ made → (n : ℕ) → slice_get (cons_option made (filter_map choose xs)) n ≡ Some y → ((m : ℕ) → slice_get (filter_map choose xs) m ≡ Some y → (x : X) × (choose x ≡ Some y)) → (x : X) × (choose x ≡ Some y)
+    by_choice None is m f later = later m f
+    by_choice (Some z) is zero f later = (x, is ∙ f)
+    by_choice (Some z) is (suc m) f later = later m f
 
 module _ (definitions : List PlainDefinition) where
+  abbrev dictionaries : List DictTerm
+  dictionaries = each_main definitions (dictionary_if definitions)
+
   abbrev count : ℕ
-  count = length (dictionaries definitions)
+  count = length dictionaries
 
   -- each dictionary in a type is one of the list
   abbrev Within : TypeTerm → Type 0
@@ -64,7 +77,7 @@ module _ (definitions : List PlainDefinition) where
   named_by name None kind means is = none_within
   named_by name (Some k) None means is = none_within
   named_by name (Some k) (Some kinds.Typedef) means is = tt
-  named_by name (Some k) (Some kinds.Dictionary) means is = λ m c. subst (λ n. n < count) (sym (only_item (number_among definitions kinds.Dictionary k) m c)) (main_below definitions (number_among definitions kinds.Dictionary k) k (meant_main definitions name.text k means is))
+  named_by name (Some k) (Some kinds.Dictionary) means is = λ m c. subst (λ n. n < count) (same_Some (number_among definitions kinds.Dictionary k) m (listed_parent (Some (number_among definitions kinds.Dictionary k)) m c)) (dictionary_listed definitions name.text k means is)
   named_by name (Some k) (Some kind) means is = none_within
 
   container_within : (kind : Container) (notes : List Note) (inner : WrittenType) → NamesWithin inner → NamesWithin (container_of kind notes inner)
@@ -94,14 +107,12 @@ module _ (definitions : List PlainDefinition) where
   tree_within : (t : PlainAnnotated) → NamesWithin (typedef_in_tree definitions t).written
   tree_within (plain_annotated at attributes inner) = type_within inner
 
-  one_typedef : (kind : PlainKind) (rest : List Typedef) (n : ℕ) (t : Typedef) → ((m : ℕ) → slice_get rest m ≡ Some t → NamesWithin t.written) → slice_get (cons_option (typedef_if definitions kind) rest) n ≡ Some t → NamesWithin t.written
-  one_typedef (TypedefDefinition d) rest zero t later e = subst (λ (u : Typedef). NamesWithin u.written) (same_Some (typedef_in_tree definitions d.ty) t e) (tree_within d.ty)
-  one_typedef (TypedefDefinition d) rest (suc n) t later e = later n e
-  one_typedef kind rest n t later e = later n e
+  one_typedef : (kind : PlainKind) (t : Typedef) → typedef_if definitions kind ≡ Some t → NamesWithin t.written
+  one_typedef (TypedefDefinition d) t e = subst (λ (u : Typedef). NamesWithin u.written) (same_Some (typedef_in_tree definitions d.ty) t e) (tree_within d.ty)
+  one_typedef kind t e = absurd (let f : None ≡ Some t = e in (cc))
 
-  typedefs_within : (xs : List PlainDefinition) (n : ℕ) (t : Typedef) → slice_get (filter_map (λ (d : PlainDefinition). typedef_if definitions d.kind) xs) n ≡ Some t → NamesWithin t.written
-  typedefs_within [] n t e = absurd (let f : None ≡ Some t = e in (cc))
-  typedefs_within (d ∷ xs) n t e = one_typedef d.kind (filter_map (λ (x : PlainDefinition). typedef_if definitions x.kind) xs) n t (λ m f. typedefs_within xs m t f) e
+  typedefs_within : (n : ℕ) (t : Typedef) → slice_get (typedefs definitions) n ≡ Some t → NamesWithin t.written
+  typedefs_within n t e = let d = chosen_from (λ (d : PlainDefinition). typedef_if definitions d.kind) definitions n t e in one_typedef d.0.kind t d.1
 
   -- 2. What it means
 
@@ -138,7 +149,7 @@ module _ (definitions : List PlainDefinition) where
     where
       by_typedef : (found : Option Typedef) → slice_get (typedefs definitions) n ≡ found → ((m : ℕ) (ns : List Note) → Within (typedef_in (typedefs definitions) levels m ns)) → Within (resolved_typedef (typedef_in (typedefs definitions) levels) notes found)
       by_typedef None e below = none_within
-      by_typedef (Some t) e below = resolved_within (typedef_in (typedefs definitions) levels) below (notes ++ t.notes) t.written (typedefs_within definitions n t e)
+      by_typedef (Some t) e below = resolved_within (typedef_in (typedefs definitions) levels) below (notes ++ t.notes) t.written (typedefs_within n t e)
 
   meaning_within : (notes : List Note) (t : PlainType) → Within (meaning_of_type definitions notes t)
   meaning_within notes t = resolved_within (typedef_in (typedefs definitions) (length (typedefs definitions))) (λ n ns. typedef_within (length (typedefs definitions)) n ns) notes (written_type definitions t) (type_within t)
@@ -150,16 +161,21 @@ module _ (definitions : List PlainDefinition) where
   listed_within [] m c = none_within m c
   listed_within (x ∷ members) m c = elim (Contains-append_cases (dictionaries_in (meaning_with definitions x.attributes x.ty)) (flat_map (λ (t : MemberTerm). dictionaries_in t.ty) (map (member_of definitions) members)) m c) [ inl h ↦ meant_within x.attributes x.ty m h | inr h ↦ listed_within members m h ]
 
-  dictionary_within : IsHierarchy (dictionaries definitions) → AreWithin (dictionaries definitions)
-  dictionary_within hierarchy n y is =
-      let r = is_declared definitions n y is in
-      record {
-        inside = λ m c. listed_within (merged_dictionary_members definitions r.dictionary.name.text) m (subst (λ (t : DictTerm). Contains (flat_map (λ (x : MemberTerm). dictionaries_in x.ty) t.members) m) r.term_is c);
-        above = λ p e. main_listed p (hierarchy.listed.below n p (parent_step (dictionaries definitions) n p y is e));
-      }
+  one_dictionary : (kind : PlainKind) (y : DictTerm) → dictionary_if definitions kind ≡ Some y → (m : ℕ) → Contains (dictionaries_of_members y) m → m < count
+  one_dictionary (DictionaryDefinition d) y e = by_partial d.partial e
     where
-      main_listed : (p : ℕ) → p < length (dictionary_parents (dictionaries definitions)) → p < count
-      main_listed p l = subst (λ k. p < k) (length-map (dictionaries definitions) (λ (d : DictTerm). option_to_list d.parent)) l
+      by_partial : (b : Bool) → cond b None (Some (dictionary_of definitions d)) ≡ Some y → (m : ℕ) → Contains (dictionaries_of_members y) m → m < count
+      by_partial true f = absurd (let g : None ≡ Some y = f in (cc))
+      by_partial false f = λ m c. listed_within (merged_dictionary_members definitions d.name.text) m (subst (λ (t : DictTerm). Contains (dictionaries_of_members t) m) (sym (same_Some (dictionary_of definitions d) y f)) c)
+  one_dictionary kind y e = absurd (let f : None ≡ Some y = e in (cc))
+
+  dictionary_within : IsHierarchy dictionaries → AreWithin dictionaries
+  dictionary_within hierarchy n y is =
+      let d = chosen_from (λ (d : PlainDefinition). dictionary_if definitions d.kind) definitions n y is in
+      record {
+        inside = one_dictionary d.0.kind y d.1;
+        above = λ p e. subst (λ k. p < k) (length-map dictionaries (λ (t : DictTerm). option_to_list t.parent)) (hierarchy.listed.below n p (parent_step (λ (t : DictTerm). t.parent) dictionaries n p y is e));
+      }
 
 -- the dictionaries of a merged list name none past the last of them
 pub merged_within : (defs : Defs) (fragments : List Fragment) → IsMerged defs fragments → AreWithin (dictionary_terms defs)

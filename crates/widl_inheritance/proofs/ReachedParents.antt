@@ -1,42 +1,13 @@
 -- An interface inherits from those that it reaches through parents.
-use Rattle.std.proofs.Common.{◌≡◌, ◌↔◌, ℕ, ◌<◌, ◌≤◌, zero, suc, Bool, true, false, nat_eq, List, [], ◌∷◌, length, Option, None, Some, arith, refl, ap, subst, ◌∙◌}
+use Rattle.std.proofs.Common.{◌≡◌, ◌↔◌, ℕ, ◌≤◌, zero, suc, Bool, true, false, nat_eq, List, length, Option, None, Some, arith, refl, ap, subst, ◌∙◌}
 use Rattle.std.specs.Prelude.{if◌then◌else◌}
-use Rattle.std.specs.List.{Contains}
-use Rattle.std.specs.Option.{option_to_list}
+use Rattle.widl_fits.proofs.ParentSteps.{child_within, step_up, up_step}
+use Rattle.widl_fits.specs.Hierarchies.{interface_parents}
 use Rattle.widl_graph.specs.Reaching.{Reaches, Step, one, more}
 use Rattle.widl_idl.specs.declared.interface.Iface.{Iface}
 use Rattle.widl_overload.specs.Inheritance.{inherits, is_among, parent_of}
-use Rattle.widl_inheritance.specs.InterfaceParents.{interface_parents}
 use Rattle.widl_inheritance.specs.ReachedFlags.{IsAcyclic}
 use Rattle.widl_inheritance.proofs.ParentChains.{Climbs, above, climbs_more, climbs_on, few, next, next_is}
-
-some_is : {a b : ℕ} → Some a ≡ Some b → a ≡ b
-some_is e = (cc)
-
-listed : (p : Option ℕ) (y : ℕ) → Contains (option_to_list p) y → p ≡ Some y
-listed None y c = absurd (let below = c.1 in omega (arith, below))
-listed (Some x) y (zero, below, is) = ap Some is
-listed (Some x) y (suc i, below, is) = absurd (omega (arith, below))
-
-listed_one : (p : Option ℕ) (y : ℕ) → p ≡ Some y → Contains (option_to_list p) y
-listed_one None y e = absurd (cc)
-listed_one (Some x) y e = (0, omega arith, some_is e)
-
--- a step of the graph leads to the parent
-parent_at : (ifaces : List Iface) (x y : ℕ) → Step (interface_parents ifaces) x y → parent_of ifaces x ≡ Some y
-parent_at [] x y s = absurd (let below = s.1 in omega (arith, below))
-parent_at (i ∷ ifaces) zero y s = listed i.parent y s
-parent_at (i ∷ ifaces) (suc x) y s = parent_at ifaces x y s
-
-step_to : (ifaces : List Iface) (x y : ℕ) → parent_of ifaces x ≡ Some y → Step (interface_parents ifaces) x y
-step_to [] x y e = absurd (cc)
-step_to (i ∷ ifaces) zero y e = listed_one i.parent y e
-step_to (i ∷ ifaces) (suc x) y e = step_to ifaces x y e
-
-parent_within : (ifaces : List Iface) (x y : ℕ) → parent_of ifaces x ≡ Some y → x < length ifaces
-parent_within [] x y e = absurd (cc)
-parent_within (i ∷ ifaces) zero y e = omega arith
-parent_within (i ∷ ifaces) (suc x) y e = let below = parent_within ifaces x y e in omega (arith, below)
 
 module _ (ifaces : List Iface) where
   -- one of so many parents is reached
@@ -45,8 +16,8 @@ module _ (ifaces : List Iface) where
   reached (suc links) m n e = by_parent (parent_of ifaces m) refl e (λ q h. reached links q n h)
     where
       by_test : (q : ℕ) (b : Bool) → nat_eq q n ≡ b → parent_of ifaces m ≡ Some q → (if b then true else is_among ifaces links n (parent_of ifaces q)) ≡ true → ((q : ℕ) → is_among ifaces links n (parent_of ifaces q) ≡ true → Reaches (interface_parents ifaces) q n) → Reaches (interface_parents ifaces) m n
-      by_test q true same is h rest = let there : q ≡ n = grind arith in one (subst (Step (interface_parents ifaces) m) there (step_to ifaces m q is))
-      by_test q false other is h rest = more (step_to ifaces m q is) (rest q h)
+      by_test q true same is h rest = let there : q ≡ n = grind arith in one (subst (Step (interface_parents ifaces) m) there (up_step (λ (i : Iface). i.parent) ifaces m q is))
+      by_test q false other is h rest = more (up_step (λ (i : Iface). i.parent) ifaces m q is) (rest q h)
 
       by_parent : (p : Option ℕ) → parent_of ifaces m ≡ p → is_among ifaces (suc links) n p ≡ true → ((q : ℕ) → is_among ifaces links n (parent_of ifaces q) ≡ true → Reaches (interface_parents ifaces) q n) → Reaches (interface_parents ifaces) m n
       by_parent None is h rest = absurd (cc)
@@ -70,10 +41,10 @@ module _ (ifaces : List Iface) where
 
   way_of : {m n : ℕ} → Reaches (interface_parents ifaces) m n → Way m n
   way_of (one {x = m} {y = n} s) =
-      let e = parent_at ifaces m n s in
+      let e = step_up (λ (i : Iface). i.parent) ifaces m n s in
       record { count = 0; climbs = climbs_more (parent_of ifaces) m n 0 e (λ i below. absurd (omega (arith, below))); last = next_is (parent_of ifaces) m n e }
   way_of (more {x = m} {y = y} {z = n} s r) =
-      let e = parent_at ifaces m y s in
+      let e = step_up (λ (i : Iface). i.parent) ifaces m y s in
       let w = way_of r in
       record { count = suc w.count; climbs = climbs_more (parent_of ifaces) m y (suc w.count) e w.climbs; last = ap (above (parent_of ifaces) (suc w.count)) (next_is (parent_of ifaces) m y e) ∙ w.last }
 
@@ -89,7 +60,7 @@ module _ (ifaces : List Iface) where
 
   module _ (acyclic : IsAcyclic (interface_parents ifaces)) where
     few_parents : (m count : ℕ) → Climbs (parent_of ifaces) m count → count ≤ length ifaces
-    few_parents m count c = few (parent_of ifaces) (interface_parents ifaces) acyclic (step_to ifaces) (length ifaces) (parent_within ifaces) m count c
+    few_parents m count c = few (parent_of ifaces) (interface_parents ifaces) acyclic (up_step (λ (i : Iface). i.parent) ifaces) (length ifaces) (child_within (λ (i : Iface). i.parent) ifaces) m count c
 
     pub inherits_reaching : (m n : ℕ) → (inherits ifaces m n ≡ true) ↔ Reaches (interface_parents ifaces) m n
     inherits_reaching m n = (reached (length ifaces) m n, λ r. let w = way_of r in more_links (suc w.count) (length ifaces) n (parent_of ifaces m) (few_parents m (suc w.count) w.climbs) (among w.count m n w.climbs w.last))

@@ -7,24 +7,19 @@ use Rattle.std.proofs.lemmas.List.{append-nil, get_or-map, get_or-set_other, get
 use Rattle.std.proofs.lemmas.List.Sums.{sum_by-set}
 use Rattle.std.proofs.lemmas.Option.{same_Some, slice_get-get_or}
 use Rattle.std.proofs.Math.Seq.{map-set_same}
+use Rattle.widl_fits.proofs.ParentSteps.{child_within, up_step}
 use Rattle.widl_graph.specs.Reaching.{AreNodes, successors_of}
 use Rattle.widl_graph.specs.Search.{Has}
 use Rattle.widl_graph.proofs.Gets.{push_cases, push_last, push_old}
 use Rattle.widl_inheritance.specs.Children.{AreChildren, AreLeft, IsAdded, IsTaken, IsVisited}
 use Rattle.widl_inheritance.specs.Spans.{parent_graph, parent_in}
-use Rattle.widl_inheritance.proofs.Coming.{parent_step}
 
 pub none_in : (i n : ℕ) → slice_get [] i ≡ Some n → ⊥
 none_in i n at = let f : None ≡ Some n = at in (cc)
 
--- a node that has a parent is one of the nodes, and its parent is another
-pub child_within : (parents : List (Option ℕ)) (n p : ℕ) → parent_in parents n ≡ Some p → n < length parents
-child_within [] n p e = absurd (let f : None ≡ Some p = e in (cc))
-child_within (o ∷ parents) zero p e = omega arith
-child_within (o ∷ parents) (suc n) p e = let below = child_within parents n p e in omega (arith, below)
-
+-- a parent is one of the nodes
 pub parent_within : (parents : List (Option ℕ)) (n p : ℕ) → AreNodes (parent_graph parents) → parent_in parents n ≡ Some p → p < length parents
-parent_within parents n p nodes e = let below = nodes.below n p (parent_step parents n p e) in omega (arith, below, length-map parents (λ (o : Option ℕ). option_to_list o))
+parent_within parents n p nodes e = let below = nodes.below n p (up_step (λ p. p) parents n p e) in omega (arith, below, length-map parents (λ (o : Option ℕ). option_to_list o))
 
 pub parent_read : (parents : List (Option ℕ)) (n : ℕ) (o : Option ℕ) → n < length parents → get_or parents n None ≡ o → parent_in parents n ≡ o
 parent_read parents n o below is = ap (option_and_then (λ p. p)) (slice_get-get_or parents n None below) ∙ is
@@ -119,7 +114,7 @@ pub all_left : (parents : List (Option ℕ)) (children : List (List ℕ)) → Ar
 all_left parents children a = record {
   size = a.size;
   own = a.own;
-  each = λ p n within e. inr (a.each p n within (child_within parents n p e) e);
+  each = λ p n within e. inr (a.each p n within (child_within (λ p. p) parents n p e) e);
   on_path = λ p n h o. absurd (none_in o.0 p o.1);
 }
 

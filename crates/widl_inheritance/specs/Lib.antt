@@ -11,4 +11,3 @@ pub mod MemberEnds
 pub mod InterfaceMembers
 pub mod ReachedFlags
 pub mod Iterations
-pub mod InterfaceParents

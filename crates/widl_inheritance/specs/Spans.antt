@@ -1,8 +1,7 @@
 -- For proofs alone. The spans of the nodes of a forest: where each stands in an order in which those that come from a node follow it, and where the last of these stands.
 use Rattle.std.specs.Prelude.{◌≡◌, ◌⊎◌, ℕ, ◌<◌, ◌≤◌, List, length, map, slice_get, Option, Some, option_and_then}
 use Rattle.std.specs.Option.{option_to_list}
-use Rattle.widl_graph.specs.Reaching.{AreNodes, Reaches}
-use Rattle.widl_inheritance.specs.ReachedFlags.{IsAcyclic}
+use Rattle.widl_graph.specs.Reaching.{Reaches}
 use Rattle.widl_inheritance.specs.declared.spans.Span.{Span}
 
 -- the parent of a node, if it has one
@@ -12,11 +11,6 @@ parent_in parents n = option_and_then (λ p. p) (slice_get parents n)
 -- the graph in which each node is followed by its parent
 abbrev pub parent_graph : List (Option ℕ) → List (List ℕ)
 parent_graph parents = map option_to_list parents
-
--- nodes with these parents are a forest: each parent is one of them, and none comes from itself
-pub record IsForest (parents : List (Option ℕ)) : Type 0 where
-  pub listed : AreNodes (parent_graph parents)
-  pub acyclic : IsAcyclic (parent_graph parents)
 
 -- the span of a node, if it has one
 abbrev pub span_of : List (Option Span) → ℕ → Option Span
@@ -35,6 +29,7 @@ pub record AreInOrder (spans : List (Option Span)) (order : List ℕ) : Type 0 w
 pub record AreSpans (parents : List (Option ℕ)) (spans : List (Option Span)) (order : List ℕ) : Type 0 where
   pub size : length spans ≡ length parents
   pub filled : (n : ℕ) (s : Span) → span_of spans n ≡ Some s → s.start < s.past
+  pub bounded : (n : ℕ) (s : Span) → span_of spans n ≡ Some s → s.past ≤ length spans
   pub in_order : AreInOrder spans order
   pub within : (n m : ℕ) (s t : Span) → span_of spans n ≡ Some s → span_of spans m ≡ Some t → Reaches (parent_graph parents) n m → (t.start < s.start) × (s.start < t.past)
   pub comes : (n m : ℕ) (s t : Span) → span_of spans n ≡ Some s → span_of spans m ≡ Some t → t.start < s.start → s.start < t.past → Reaches (parent_graph parents) n m

@@ -26,13 +26,13 @@ impl Children {
     /// # Errors
     ///
     /// `AllocError` where there is no memory.
-    pub fn of(alloc: Global, parents: &[Option<usize>]) -> Result<Children, AllocError>
+    pub fn of(alloc: Global, parents: &[Option<u32>]) -> Result<Children, AllocError>
         ensures { IfOk result (λ children. AreChildren parents.now (length parents.now) children) }
     {
         let mut children = Children::none(alloc, parents.len())?;
         for number in 0..parents.len() {
             if let Some(parent) = parents[number] {
-                children.add(parent, number)?;
+                children.add(parent as usize, number)?;
             }
         }
         Ok(children)

@@ -1,9 +1,9 @@
 //! A law on inheritance: a function that takes no step, whose contract is the law.
 
 ghost use Rattle.std.specs.Prelude.{◌≡◌, ◌↔◌, ℕ, List, true};
+ghost use Rattle.widl_fits.specs.Hierarchies.{interface_parents};
 ghost use Rattle.widl_graph.specs.Reaching.{Reaches};
 ghost use Rattle.widl_idl.specs.declared.interface.Iface.{Iface as IfaceType};
-ghost use Rattle.widl_inheritance.specs.InterfaceParents.{interface_parents};
 ghost use Rattle.widl_inheritance.specs.ReachedFlags.{IsAcyclic};
 ghost use Rattle.widl_overload.specs.Inheritance.{inherits};
 

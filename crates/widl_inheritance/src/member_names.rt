@@ -36,23 +36,14 @@ pub fn first_repeated_member(alloc: Global, dicts: &[Dict]) -> Result<Option<Vio
 }
 
 /// The numbers of the dictionaries from which these inherit directly.
-fn parents_of(alloc: Global, dicts: &[Dict]) -> Result<Vec<Option<usize>>, AllocError>
+fn parents_of(alloc: Global, dicts: &[Dict]) -> Result<Vec<Option<u32>>, AllocError>
     ensures { IfOk result (λ parents. parents.items ≡ map (λ (d : DictTerm). d.parent) (map dict_term dicts.now)) }
 {
     let mut parents = Vec::new(alloc);
     for dict in dicts {
-        parents.push(parent_of(dict))?;
+        parents.push(dict.parent)?;
     }
     Ok(parents)
-}
-
-fn parent_of(dict: &Dict) -> Option<usize>
-    ensures { result ≡ dict.now.parent }
-{
-    match dict.parent {
-        None => None,
-        Some(parent) => Some(parent as usize),
-    }
 }
 
 /// The first place, where each dictionary has a span.

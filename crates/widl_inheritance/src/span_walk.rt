@@ -2,10 +2,11 @@
 //! those that come from it.
 
 ghost use Rattle.std.specs.Prelude.{◌≡◌, ◌↔◌, ◌∷◌, ◌++◌, ◌-◌, ◌<◌, ℕ, [], IfOk, OnOk, IsTrue, None, Some, length, slice_get};
+ghost use Rattle.widl_fits.specs.Hierarchies.{IsForest};
 ghost use Rattle.widl_graph.specs.Search.{Has};
 ghost use Rattle.widl_inheritance.specs.Children.{IsVisited};
 ghost use Rattle.widl_inheritance.specs.SpanWalks.{IsUnderWay, work_of};
-ghost use Rattle.widl_inheritance.specs.Spans.{AreNested, AreSpans, AreWhole, IsForest, IsWalk, parent_in, span_of};
+ghost use Rattle.widl_inheritance.specs.Spans.{AreSpans, AreWhole, IsWalk, parent_graph, parent_in, span_of};
 ghost use Rattle.widl_inheritance.specs.declared.spans.Span as declared;
 
 use crate::children::Children;
@@ -17,10 +18,10 @@ use std::alloc::{AllocError, Global};
 /// # Errors
 ///
 /// `AllocError` where there is no memory.
-pub fn walked(alloc: Global, parents: &[Option<usize>]) -> Result<Spans, AllocError>
+pub fn walked(alloc: Global, parents: &[Option<u32>]) -> Result<Spans, AllocError>
+    requires { IsForest (parent_graph parents.now) }
     ensures spans { IfOk result (λ found. AreSpans parents.now found.by_node.items found.order.items) }
-    ensures nested { IfOk result (λ found. AreNested parents.now found.by_node.items) }
-    ensures whole { IfOk result (λ found. IsForest parents.now → AreWhole found.by_node.items) }
+    ensures whole { IfOk result (λ found. AreWhole found.by_node.items) }
 {
     let mut walk = Walk::begun(alloc, parents)?;
     for number in 0..parents.len() {
@@ -50,7 +51,7 @@ struct Walk {
 
 impl Walk {
     /// The walk before its first visit.
-    fn begun(alloc: Global, parents: &[Option<usize>]) -> Result<Walk, AllocError>
+    fn begun(alloc: Global, parents: &[Option<u32>]) -> Result<Walk, AllocError>
         ensures under_way { IfOk result (λ walk. IsUnderWay parents.now walk) }
         ensures idle { IfOk result (λ walk. walk.path.items ≡ []) }
     {
@@ -63,7 +64,7 @@ impl Walk {
     }
 
     /// Visits a node without a parent, and all that come from it.
-    fn visit_all(&mut self, parents: &[Option<usize>], root: usize) -> Result<(), AllocError>
+    fn visit_all(&mut self, parents: &[Option<u32>], root: usize) -> Result<(), AllocError>
         requires under_way { IsUnderWay parents.now self.old }
         requires idle { self.old.path.items ≡ [] }
         requires below { root < length parents.now }
@@ -78,7 +79,7 @@ impl Walk {
     }
 
     /// Goes on until the path is empty.
-    fn finish(&mut self, parents: &[Option<usize>]) -> Result<(), AllocError>
+    fn finish(&mut self, parents: &[Option<u32>]) -> Result<(), AllocError>
         requires { IsUnderWay parents.now self.old }
         ensures under_way { OnOk result (IsUnderWay parents.now self.new) }
         ensures idle { OnOk result (self.new.path.items ≡ []) }
@@ -98,7 +99,7 @@ impl Walk {
     }
 
     /// Visits a child of the last node of the path, or leaves that node where no child is left.
-    fn advance(&mut self, parents: &[Option<usize>], last: usize) -> Result<(), AllocError>
+    fn advance(&mut self, parents: &[Option<u32>], last: usize) -> Result<(), AllocError>
         requires under_way { IsUnderWay parents.now self.old }
         requires last { slice_get self.old.path.items (length self.old.path.items - 1) ≡ Some last }
         ensures under_way { OnOk result (IsUnderWay parents.now self.new) }
@@ -115,7 +116,7 @@ impl Walk {
     }
 
     /// Leaves the last node of the path: all that come from it were visited.
-    fn leave(&mut self, parents: &[Option<usize>])
+    fn leave(&mut self, parents: &[Option<u32>])
         requires walk { IsWalk parents.now self.old.spans.items self.old.order.items self.old.path.items }
         requires some { 0 < length self.old.path.items }
         ensures walk { IsWalk parents.now self.new.spans.items self.new.order.items self.new.path.items }
@@ -138,7 +139,7 @@ impl Walk {
 
     /// Visits a node whose parent is the end of the path, or none where the path is empty, unless it was
     /// visited before.
-    fn enter(&mut self, parents: &[Option<usize>], number: usize) -> Result<(), AllocError>
+    fn enter(&mut self, parents: &[Option<u32>], number: usize) -> Result<(), AllocError>
         requires walk { IsWalk parents.now self.old.spans.items self.old.order.items self.old.path.items }
         requires below { number < length parents.now }
         requires parent { parent_in parents.now number ≡ slice_get self.old.path.items (length self.old.path.items - 1) }

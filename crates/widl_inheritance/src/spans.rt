@@ -1,7 +1,8 @@
 //! Which nodes of a forest come from which, told by two comparisons.
 
 ghost use Rattle.std.specs.Prelude.{◌≡◌, IfOk};
-ghost use Rattle.widl_inheritance.specs.Spans.{AreNested, AreSpans, AreWhole, IsForest, span_of};
+ghost use Rattle.widl_fits.specs.Hierarchies.{IsForest};
+ghost use Rattle.widl_inheritance.specs.Spans.{AreSpans, AreWhole, parent_graph, span_of};
 
 use crate::span_walk::walked;
 use std::alloc::{AllocError, Global};
@@ -18,12 +19,12 @@ pub struct Span {
 /// The spans of the nodes of a forest, where each node has at most one parent.
 ///
 /// A node that comes from another one stands in the span of that other, after its start, and nothing
-/// else stands there. A node has no span where its parents lead round in a circle or past the last node.
+/// else stands there.
 #[derive(Drop)]
 pub struct Spans {
-    /// The span of each node that has one, by the numbers of the nodes.
+    /// The span of each node, by the numbers of the nodes.
     pub by_node: Vec<Option<Span>>,
-    /// The numbers of the nodes that have a span, in the order of their starts.
+    /// The numbers of the nodes, in the order of their starts.
     pub order: Vec<usize>,
 }
 
@@ -33,10 +34,10 @@ impl Spans {
     /// # Errors
     ///
     /// `AllocError` where there is no memory.
-    pub fn of(alloc: Global, parents: &[Option<usize>]) -> Result<Spans, AllocError>
+    pub fn of(alloc: Global, parents: &[Option<u32>]) -> Result<Spans, AllocError>
+        requires { IsForest (parent_graph parents.now) }
         ensures spans { IfOk result (λ found. AreSpans parents.now found.by_node.items found.order.items) }
-        ensures nested { IfOk result (λ found. AreNested parents.now found.by_node.items) }
-        ensures whole { IfOk result (λ found. IsForest parents.now → AreWhole found.by_node.items) }
+        ensures whole { IfOk result (λ found. AreWhole found.by_node.items) }
     {
         walked(alloc, parents)
     }

@@ -1,5 +1,5 @@
 -- Where the rules on lists of arguments are broken, by what the program knows of the arguments before.
-use Rattle.std.proofs.Common.{◌≡◌, ◌<◌, Bool, true, false, cond, ◌&&◌, List, length, get_or, slice_get, Option, None, Some, option_map, arith, refl, sym, ap, subst, ◌∙◌, length-take-le}
+use Rattle.std.proofs.Common.{◌≡◌, ◌<◌, Bool, true, false, cond, ◌&&◌, List, length, get_or, slice_get, Option, None, Some, option_map, arith, refl, sym, ap, ◌∙◌, length-take-le}
 use Rattle.std.specs.List.{list_any}
 use Rattle.std.proofs.lemmas.Option.{slice_get-map, slice_get_read, slice_get_within}
 use Rattle.widl_idl.specs.declared.violation.Violation.{Violation}

@@ -13,7 +13,7 @@ pub mod OwnerViolations
 mod IndistinguishableKinds
 mod IndistinguishablePairs
 mod AnyPair
-mod NestedSpans
+mod RelatedSpans
 mod PairCounts
 mod TouchingSpans
 pub mod FlatMembers

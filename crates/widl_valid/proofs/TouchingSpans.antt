@@ -1,18 +1,16 @@
 -- Spans that touch, seen in the order of their starts, and as those of interfaces.
-use Rattle.std.proofs.Common.{◌≡◌, ℕ, zero, suc, ◌+◌, ◌<◌, ◌≤◌, ◌++◌, Bool, true, false, ◌||◌, ◌&&◌, ltb, nat_lt, max, List, [], ◌∷◌, length, take, drop, map, get_or, Option, Some, arith, refl, sym, ap, ◌∙◌}
+use Rattle.std.proofs.Common.{◌≡◌, ℕ, zero, suc, ◌+◌, ◌<◌, ◌≤◌, Bool, true, false, ◌||◌, ◌&&◌, ltb, nat_lt, max, List, [], ◌∷◌, length, take, map, get_or, Option, arith, refl, sym, ap, ◌∙◌}
 use Rattle.std.proofs.lemmas.Bool.{lt-ltb}
-use Rattle.std.proofs.lemmas.List.{get_or_default, map-append}
+use Rattle.std.proofs.lemmas.List.{get_or_default}
 use Rattle.std.proofs.lemmas.List.Folds.{list_any_more}
 use Rattle.std.proofs.lemmas.List.Sorted.{All-permutation}
 use Rattle.std.proofs.Math.Bool.{and-true}
 use Rattle.std.specs.List.{All, list_any}
 use Rattle.std.specs.List.Sorted.{IsNonDecreasingBy, IsPermutation}
 use Rattle.widl_idl.specs.declared.interface.Iface.{Iface}
-use Rattle.widl_names.proofs.PlainLists.{mapped_more}
 use Rattle.widl_valid.specs.IndistinguishablePairs.{any_pair, are_related}
-use Rattle.widl_inheritance.specs.Spans.{span_of}
 use Rattle.widl_inheritance.specs.declared.spans.Span.{Span}
-use Rattle.widl_valid.specs.Lineages.{TellRelated, begins_within, touches}
+use Rattle.widl_valid.specs.Lineages.{TellRelated, begins_within, lineage_of, touches}
 use Rattle.widl_valid.proofs.AnyPair.{pair_found, pair_none}
 use Rattle.widl_valid.proofs.PairCounts.{any_pair_permuted}
 
@@ -42,41 +40,19 @@ in_order (s ∷ spans) up h =
 pub sorted_touch : (spans sorted : List Span) → IsPermutation spans sorted → IsNonDecreasingBy (λ s. s.start) sorted → All (λ s. s.start < s.past) spans → any_pair begins_within sorted ≡ any_pair touches spans
 sorted_touch spans sorted p up h = in_order sorted up (All-permutation (λ (s : Span). s.start < s.past) spans sorted p h) ∙ any_pair_permuted touches symmetric spans sorted p
 
-cons_head : {X : Type 0} (x y : X) (xs ys : List X) → (x ∷ xs) ≡ (y ∷ ys) → x ≡ y
-cons_head x y xs ys e = ap (λ l. get_or l 0 x) e
-
-cons_tail : {X : Type 0} (x y : X) (xs ys : List X) → (x ∷ xs) ≡ (y ∷ ys) → xs ≡ ys
-cons_tail x y xs ys e = ap (λ l. drop 1 l) e
-
 module _ (ifaces : List Iface) (all : List (Option Span)) (told : TellRelated ifaces all) where
-  one_related : (n : ℕ) (s : Span) (numbers : List ℕ) (spans : List Span) → span_of all n ≡ Some s → map (span_of all) numbers ≡ map Some spans → list_any (touches s) spans ≡ list_any (are_related ifaces n) numbers
-  one_related n s [] [] is e = refl
-  one_related n s [] (t ∷ spans) is e = absurd (cc)
-  one_related n s (m ∷ numbers) [] is e = absurd (cc)
-  one_related n s (m ∷ numbers) (t ∷ spans) is e =
-      let one : span_of all m ≡ Some t = cons_head (span_of all m) (Some t) (map (span_of all) numbers) (map Some spans) e in
-      λ j. sym (told.tells n m s t is one) j || one_related n s numbers spans is (cons_tail (span_of all m) (Some t) (map (span_of all) numbers) (map Some spans) e) j
+  one_related : (n : ℕ) (numbers : List ℕ) → list_any (touches (lineage_of all n)) (map (lineage_of all) numbers) ≡ list_any (are_related ifaces n) numbers
+  one_related n [] = refl
+  one_related n (m ∷ numbers) = λ j. sym (told.tells n m) j || one_related n numbers j
 
-  pub spans_related : (numbers : List ℕ) (spans : List Span) → map (span_of all) numbers ≡ map Some spans → any_pair touches spans ≡ any_pair (are_related ifaces) numbers
-  spans_related [] [] e = refl
-  spans_related [] (t ∷ spans) e = absurd (cc)
-  spans_related (m ∷ numbers) [] e = absurd (cc)
-  spans_related (m ∷ numbers) (t ∷ spans) e =
-      let rest : map (span_of all) numbers ≡ map Some spans = cons_tail (span_of all m) (Some t) (map (span_of all) numbers) (map Some spans) e in
-      λ j. one_related m t numbers spans (cons_head (span_of all m) (Some t) (map (span_of all) numbers) (map Some spans) e) rest j || spans_related numbers spans rest j
+  pub spans_related : (numbers : List ℕ) → any_pair touches (map (lineage_of all) numbers) ≡ any_pair (are_related ifaces) numbers
+  spans_related [] = refl
+  spans_related (n ∷ numbers) = λ j. one_related n numbers j || spans_related numbers j
 
-  pub spans_filled : (numbers : List ℕ) (spans : List Span) → map (span_of all) numbers ≡ map Some spans → All (λ s. s.start < s.past) spans
-  spans_filled [] [] e k d l = absurd (omega arith)
-  spans_filled [] (t ∷ spans) e k d l = absurd (cc)
-  spans_filled (m ∷ numbers) [] e k d l = absurd (cc)
-  spans_filled (m ∷ numbers) (t ∷ spans) e zero d l = told.filled m t (cons_head (span_of all m) (Some t) (map (span_of all) numbers) (map Some spans) e)
-  spans_filled (m ∷ numbers) (t ∷ spans) e (suc k) d l = spans_filled numbers spans (cons_tail (span_of all m) (Some t) (map (span_of all) numbers) (map Some spans) e) k d (omega arith)
-
--- one span more is found
-pub spans_more : (f : ℕ → Option Span) (numbers : List ℕ) (i n : ℕ) (found now : List Span) (span : Span) → i < length numbers → n ≡ get_or numbers i n → f n ≡ Some span → now ≡ found ++ span ∷ []
-    → map f (take i numbers) ≡ map Some found → map f (take (i + 1) numbers) ≡ map Some now
-spans_more f numbers i n found now span below is read e so =
-    mapped_more f numbers i n below is ∙ (λ j. so j ++ read j ∷ []) ∙ sym (ap (map Some) e ∙ map-append Some found (span ∷ []))
+  pub spans_filled : (numbers : List ℕ) → All (λ s. s.start < s.past) (map (lineage_of all) numbers)
+  spans_filled [] k d l = absurd (omega arith)
+  spans_filled (n ∷ numbers) zero d l = told.filled n
+  spans_filled (n ∷ numbers) (suc k) d l = spans_filled numbers k d (omega arith)
 
 -- the greatest end so far tells whether one is past a place
 abbrev pub Reaches : ℕ → List Span → Type 0

@@ -1,7 +1,6 @@
 -- Where no refusal is found, no rule of validity is broken.
-use Rattle.std.proofs.Common.{◌≡◌, ℕ, Contains, Option, None, arith, refl, subst}
+use Rattle.std.proofs.Common.{◌≡◌, Contains, Option, None, arith, refl, subst}
 use Rattle.widl_idl.specs.declared.refusal.Refusal.{Refusal}
-use Rattle.widl_idl.specs.declared.violation.Violation.{Violation}
 use Rattle.widl_idl.specs.FirstRefusal.{refusal_at}
 use Rattle.widl_idl.specs.MergedSets.{MergedSet}
 use Rattle.widl_overload.specs.declared.validity_rule.ValidityRule.{ValidityRule}

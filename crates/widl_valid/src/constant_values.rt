@@ -6,12 +6,12 @@ ghost use Rattle.widl_idl.specs.PlainTrees.{ConstantMember, constant_of, plain_d
 ghost use Rattle.widl_idl.specs.PlainTypes.{value_of};
 ghost use Rattle.widl_idl.specs.Terms.{type_term};
 ghost use Rattle.widl_idl.specs.Nodes.{MemberNode};
-ghost use Rattle.widl_overload.specs.Ranges.{greatest_value, is_in_range, least_value};
 ghost use Rattle.widl_overload.specs.TypeRules.{HasOtherValue, takes_value};
 
 use std::alloc::{AllocError, Global};
+use widl_fits::is_in_range;
 use widl_idl::tree::{Constant, LiteralValue};
-use widl_idl::{IdlType, IntKind, Violation};
+use widl_idl::{IdlType, Violation};
 use widl_names::{MOST_TYPES, Resolver};
 use widl_text::integer_of;
 
@@ -45,39 +45,5 @@ fn takes_value(t: &IdlType, value: &LiteralValue) -> bool
             _ => false,
         },
         _ => false,
-    }
-}
-
-/// Whether an integer type has the value.
-fn is_in_range(kind: IntKind, value: i128) -> bool
-    ensures { result ≡ is_in_range kind value }
-{
-    least_value(kind) <= value && value <= greatest_value(kind)
-}
-
-fn least_value(kind: IntKind) -> i128
-    ensures { result ≡ least_value kind }
-{
-    match kind {
-        IntKind::Byte => i128::from(i8::MIN),
-        IntKind::Short => i128::from(i16::MIN),
-        IntKind::Long => i128::from(i32::MIN),
-        IntKind::LongLong => i128::from(i64::MIN),
-        IntKind::Octet | IntKind::UShort | IntKind::ULong | IntKind::ULongLong => 0,
-    }
-}
-
-fn greatest_value(kind: IntKind) -> i128
-    ensures { result ≡ greatest_value kind }
-{
-    match kind {
-        IntKind::Byte => i128::from(i8::MAX),
-        IntKind::Octet => i128::from(u8::MAX),
-        IntKind::Short => i128::from(i16::MAX),
-        IntKind::UShort => i128::from(u16::MAX),
-        IntKind::Long => i128::from(i32::MAX),
-        IntKind::ULong => i128::from(u32::MAX),
-        IntKind::LongLong => i128::from(i64::MAX),
-        IntKind::ULongLong => i128::from(u64::MAX),
     }
 }

@@ -1,6 +1,7 @@
 //! The joined list of the rules of validity.
 
 ghost use Rattle.std.specs.Prelude.{◌≡◌, [], ◌∷◌, IfOk};
+ghost use Rattle.widl_fits.specs.Hierarchies.{IsForest, interface_parents};
 ghost use Rattle.widl_idl.specs.PlainTrees.{plain_definitions};
 ghost use Rattle.widl_overload.specs.declared.validity_rule.ValidityRule.TheVariants as rule;
 ghost use Rattle.widl_valid.specs.Invalidity.{IsInvalidity, Joins, JoinsOver};
@@ -68,7 +69,8 @@ fn join_uses<'a>(
     resolver: &Resolver<'_, '_, 'a>,
     best: Option<Refusal>,
 ) -> Result<Option<Refusal>, AllocError>
-    requires { resolver.now ≡ meanings.now }
+    requires same { resolver.now ≡ meanings.now }
+    requires forest { IsForest (interface_parents defs.now.ifaces) }
     ensures { IfOk result (λ earliest. JoinsOver (rule.OtherConstantType ∷ rule.CopiedAttribute ∷ rule.UndefinedInside ∷ rule.WronglyNullable ∷ rule.SeveralNullableMembers ∷ rule.NullableBesideDictionary ∷ rule.AnnotatedUnionMember ∷ rule.NullableDictionary ∷ rule.MisplacedAnnotation ∷ rule.ClampAndEnforceRange ∷ rule.IndistinguishableUnionMembers ∷ []) defs.now (plain_definitions meanings.now) best earliest) }
 {
     let violations = find_in_types(alloc, defs, meanings, resolver)?;

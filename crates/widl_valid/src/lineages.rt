@@ -1,16 +1,15 @@
 //! Which of many interfaces are related, told by two comparisons.
 
 ghost use Rattle.std.specs.Prelude.{◌≡◌, map, IfOk};
+ghost use Rattle.widl_fits.specs.Hierarchies.{IsForest, interface_parents};
 ghost use Rattle.widl_idl.specs.declared.interface.Iface.{Iface as IfaceType};
-ghost use Rattle.widl_inheritance.specs.Spans.{span_of};
-ghost use Rattle.widl_valid.specs.Lineages.{AreSpansOf, TellRelated};
+ghost use Rattle.widl_valid.specs.Lineages.{TellRelated, lineage_of};
 
 use std::alloc::{AllocError, Global};
 use widl_idl::{Defs, Iface};
 use widl_inheritance::{Span, Spans};
 
-/// The spans of interfaces, by their numbers. An interface has none where its parents lead round in a
-/// circle or to no interface.
+/// The spans of interfaces, by their numbers.
 #[derive(Drop)]
 pub struct Lineages {
     /// The spans.
@@ -24,6 +23,7 @@ impl Lineages {
     ///
     /// `AllocError` where there is no memory.
     pub fn of(alloc: Global, defs: &Defs) -> Result<Lineages, AllocError>
+        requires { IsForest (interface_parents defs.now.ifaces) }
         ensures { IfOk result (λ all. TellRelated defs.now.ifaces all.spans.items) }
     {
         let parents = parents_of(alloc, defs.ifaces.as_slice())?;
@@ -32,51 +32,41 @@ impl Lineages {
         Ok(Lineages { spans: by_node })
     }
 
-    /// The span of an interface.
-    pub fn span(&self, number: u32) -> Option<Span>
-        ensures { result ≡ span_of self.now.spans.items number }
+    /// The span of an interface. A number of none has a place of its own after all of them.
+    pub fn span(&self, number: u32) -> Span
+        ensures { result ≡ lineage_of self.now.spans.items number }
     {
-        match self.spans.get(number as usize) {
-            None => None,
-            Some(span) => *span,
-        }
+        let number = number as usize;
+        let alone = Span {
+            start: self.spans.len() + number,
+            past: self.spans.len() + number + 1,
+        };
+        self.spans.get(number).copied().flatten().unwrap_or(alone)
     }
 
-    /// The spans of the interfaces with these numbers, if each of them has one.
+    /// The spans of the interfaces with these numbers.
     ///
     /// # Errors
     ///
     /// `AllocError` where there is no memory.
-    pub fn spans_of(&self, alloc: Global, numbers: &[u32]) -> Result<Option<Vec<Span>>, AllocError>
-        ensures { IfOk result (λ found. AreSpansOf self.now.spans.items numbers.now found) }
+    pub fn spans_of(&self, alloc: Global, numbers: &[u32]) -> Result<Vec<Span>, AllocError>
+        ensures { IfOk result (λ found. found.items ≡ map (lineage_of self.now.spans.items) numbers.now) }
     {
         let mut spans = Vec::new(alloc);
         for number in numbers {
-            match self.span(*number) {
-                None => return Ok(None),
-                Some(span) => spans.push(span)?,
-            }
+            spans.push(self.span(*number))?;
         }
-        Ok(Some(spans))
+        Ok(spans)
     }
 }
 
 /// The numbers of the interfaces from which these inherit directly.
-fn parents_of(alloc: Global, ifaces: &[Iface]) -> Result<Vec<Option<usize>>, AllocError>
+fn parents_of(alloc: Global, ifaces: &[Iface]) -> Result<Vec<Option<u32>>, AllocError>
     ensures { IfOk result (λ parents. parents.items ≡ map (λ (i : IfaceType). i.parent) ifaces.now) }
 {
     let mut parents = Vec::new(alloc);
     for iface in ifaces {
-        parents.push(parent_of(iface))?;
+        parents.push(iface.parent)?;
     }
     Ok(parents)
-}
-
-fn parent_of(iface: &Iface) -> Option<usize>
-    ensures { result ≡ iface.now.parent }
-{
-    match iface.parent {
-        None => None,
-        Some(parent) => Some(parent as usize),
-    }
 }

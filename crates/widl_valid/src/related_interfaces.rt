@@ -1,7 +1,7 @@
 //! Interfaces of which one is another one, or inherits from it.
 
-ghost use Rattle.std.specs.Prelude.{◌≡◌, ◌<◌, IfOk, OnOk, length, slice_index, take, nat_lt};
-ghost use Rattle.std.specs.List.{All, list_any};
+ghost use Rattle.std.specs.Prelude.{◌≡◌, ◌<◌, IfOk, OnOk};
+ghost use Rattle.std.specs.List.{All};
 ghost use Rattle.std.specs.List.Sorted.{IsNonDecreasingBy, IsPermutation};
 ghost use Rattle.widl_valid.specs.IndistinguishablePairs.{any_pair, are_related};
 ghost use Rattle.widl_valid.specs.Lineages.{TellRelated, begins_within, touches};
@@ -10,10 +10,9 @@ use crate::lineages::Lineages;
 use std::alloc::{AllocError, Global};
 use widl_idl::Iface;
 use widl_inheritance::Span;
-use widl_overload::inherits;
 
-/// Whether one of the interfaces with these numbers is another one, or inherits from it. It takes the
-/// time of a sort, but where an interface has no span: then each is compared with each.
+/// Whether one of the interfaces with these numbers is another one, or inherits from it, in the time of a
+/// sort.
 ///
 /// # Errors
 ///
@@ -27,10 +26,8 @@ pub fn any_related(
     requires { TellRelated ifaces.now lineages.now.spans.items }
     ensures { IfOk result (λ found. found ≡ any_pair (are_related ifaces.now) numbers.now) }
 {
-    match lineages.spans_of(alloc, numbers)? {
-        None => Ok(any_pair_related(ifaces, numbers)),
-        Some(spans) => any_touch(spans),
-    }
+    let spans = lineages.spans_of(alloc, numbers)?;
+    any_touch(spans)
 }
 
 /// Whether two of the spans have a place in common.
@@ -62,36 +59,6 @@ fn any_begins_within(spans: &[Span]) -> bool
             return true;
         }
         reach = reach.max(spans[place].past);
-    }
-    false
-}
-
-/// Whether one of the interfaces is another one, or inherits from it, by a walk along the parents for
-/// each two.
-fn any_pair_related(ifaces: &[Iface], numbers: &[u32]) -> bool
-    ensures { result ≡ any_pair (are_related ifaces.now) numbers.now }
-{
-    for place in 0..numbers.len() {
-        if relates_before(ifaces, numbers, place) {
-            return true;
-        }
-    }
-    false
-}
-
-/// Whether the interface at a place is one of those before it, inherits from it, or the other way round.
-fn relates_before(ifaces: &[Iface], numbers: &[u32], place: usize) -> bool
-    requires { place < length numbers.now }
-    ensures { result ≡ list_any (λ m. are_related ifaces.now m (slice_index numbers.now place)) (take place numbers.now) }
-{
-    let number = numbers[place];
-    for other in &numbers[..place] {
-        if *other == number
-            || inherits(ifaces, *other, number)
-            || inherits(ifaces, number, *other)
-        {
-            return true;
-        }
     }
     false
 }

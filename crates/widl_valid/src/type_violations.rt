@@ -4,6 +4,7 @@
 //! hand in the processor's cache when the last rule reads them.
 
 ghost use Rattle.std.specs.Prelude.{◌≡◌, map, IfOk};
+ghost use Rattle.widl_fits.specs.Hierarchies.{IsForest, interface_parents};
 ghost use Rattle.widl_idl.specs.PlainTrees.{plain_definitions};
 ghost use Rattle.widl_valid.specs.Lineages.{TellRelated};
 ghost use Rattle.widl_valid.specs.TypeViolations.{AreTypeViolations, earlier_violations, no_violations};
@@ -60,7 +61,8 @@ pub fn find_in_types<'a>(
     meanings: &Meanings<'_, 'a>,
     resolver: &Resolver<'_, '_, 'a>,
 ) -> Result<TypeViolations, AllocError>
-    requires { resolver.now ≡ meanings.now }
+    requires same { resolver.now ≡ meanings.now }
+    requires forest { IsForest (interface_parents defs.now.ifaces) }
     ensures { IfOk result (AreTypeViolations defs.now.ifaces (plain_definitions meanings.now) (all_uses (plain_definitions meanings.now))) }
 {
     let lineages = Lineages::of(alloc, defs)?;

@@ -30,11 +30,8 @@ loop-number-preserved c =
 pub returns-clause-spans : goal.returns-clause-spans
 returns-clause-spans c = found_spans c.args.parents.now c.loop-number.walk.spans.items c.loop-number.walk.order.items c.loop-number.walk.path.items c.loop-number.invariant.under_way.visits
 
-pub returns-clause-nested : goal.returns-clause-nested
-returns-clause-nested c = c.loop-number.invariant.under_way.visits.on_path.nested
-
 pub returns-clause-whole : goal.returns-clause-whole
 returns-clause-whole c =
     let walk = c.loop-number.walk in
     let now = c.loop-number.invariant in
-    λ forest. all_spanned c.args.parents.now walk.spans.items walk.order.items walk.path.items walk.children forest now.under_way.visits.size now.under_way.visits.in_order now.under_way.left now.idle (λ n below. now.roots n (omega (arith, below)))
+    all_spanned c.args.parents.now walk.spans.items walk.order.items walk.path.items walk.children c.requires now.under_way.visits.size now.under_way.visits.in_order now.under_way.left now.idle (λ n below. now.roots n (omega (arith, below)))

@@ -5,8 +5,8 @@ use Rattle.widl_idl.specs.Meanings.{definitions_of}
 use Rattle.widl_idl.specs.MergingRules.{parent_links}
 use Rattle.widl_idl.specs.PlainTrees.{definition_of, plain_definitions}
 use Rattle.widl_idl.specs.declared.merging_rule.MergingRule.TheVariants as merging
-use Rattle.widl_fits.specs.Hierarchies.{IsHierarchy}
-use Rattle.widl_fits.proofs.MergedHierarchies.{merged_hierarchy}
+use Rattle.widl_fits.specs.Hierarchies.{IsForest, IsHierarchy, interface_parents}
+use Rattle.widl_fits.proofs.MergedHierarchies.{merged_hierarchy, merged_interfaces}
 use Rattle.widl_fits.proofs.MergedParents.{none_back}
 use Rattle.widl_inheritance.specs.HoldingGraph.{AreWithin}
 use Rattle.widl_inheritance.specs.ReachedFlags.{IsAcyclic}
@@ -51,6 +51,11 @@ pub join_defaults-requires-clause-hierarchy : goal.join_defaults-requires-clause
 join_defaults-requires-clause-hierarchy c =
     let set = c.args.merged.now in
     subst (λ (d : Defs). IsHierarchy (dictionary_terms d)) (sym c.defs-defs.ensures.defs) (merged_hierarchy set.defs set.fragments c.defs-defs.ensures.merged)
+
+pub join_uses-requires-clause-forest : goal.join_uses-requires-clause-forest
+join_uses-requires-clause-forest c =
+    let set = c.args.merged.now in
+    subst (λ (d : Defs). IsForest (interface_parents d.ifaces)) (sym c.defs-defs.ensures.defs) (merged_interfaces set.defs set.fragments c.defs-defs.ensures.merged)
 
 pub returns : goal.returns
 returns c =

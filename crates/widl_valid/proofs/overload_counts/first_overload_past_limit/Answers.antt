@@ -1,4 +1,4 @@
-use Rattle.std.proofs.Common.{◌≡◌, arith}
+use Rattle.std.proofs.Common.{arith}
 use Rattle.widl_idl.specs.PlainTrees.{member_of}
 use Rattle.widl_valid.specs.MemberTables.{is_constructor, is_overload, overload_count}
 use Rattle.widl_valid.proofs.Counted.{counted_end, counted_step, nothing_counted, within_next}

@@ -2,9 +2,10 @@ use Rattle.std.proofs.Common.{◌-◌, length, vec_items, arith, ap, sym, subst,
 use Rattle.std.specs.List.{sum_by}
 use Rattle.std.proofs.lemmas.List.{length_push}
 use Rattle.std.proofs.lemmas.Result.{on_ok_weaker}
+use Rattle.widl_fits.proofs.ParentSteps.{child_within}
 use Rattle.widl_inheritance.specs.Children.{AreLeft}
 use Rattle.widl_inheritance.proofs.Rooms.{path_below}
-use Rattle.widl_inheritance.proofs.Taking.{both_ok, child_within, left_behind, left_taken, left_visited, taken_child, taken_fewer, visited_kept, visited_path, visited_there}
+use Rattle.widl_inheritance.proofs.Taking.{both_ok, left_behind, left_taken, left_visited, taken_child, taken_fewer, visited_kept, visited_path, visited_there}
 use Rattle.widl_inheritance.proofs.span_walk.Walk.advance.Goals as goal
 
 pub take-requires : goal.take-requires
@@ -17,7 +18,7 @@ take-requires c =
 pub enter-requires-clause-below : goal.enter-requires-clause-below
 enter-requires-clause-below c =
     let own = c.requires.under_way.left.own c.args.last c.in-Some.child (taken_child c.args.self.now.children c.take.new.self c.args.last c.in-Some.child c.in-Some.ensures) in
-    child_within c.args.parents.now c.in-Some.child c.args.last own
+    child_within (λ p. p) c.args.parents.now c.in-Some.child c.args.last own
 
 pub enter-requires-clause-parent : goal.enter-requires-clause-parent
 enter-requires-clause-parent c =
