@@ -9,7 +9,6 @@ ghost use Rattle.widl_text.specs.Limits.{most_file_bytes};
 use crate::conversions::is_given;
 use crate::files::read_short;
 use crate::first::FIRST;
-use crate::let_go::{let_go_answer, let_go_ask, let_go_call, let_go_script, let_go_tables};
 use crate::numbers::number_of;
 use crate::sets::tables_of;
 use anyhow::{Result, bail};
@@ -82,7 +81,7 @@ fn answered(ask: Ask) -> Result<Answer, Next>
 {
     match answer_to(&ask) {
         Some(answer) => {
-            let_go_ask(ask);
+            drop(ask);
             Ok(answer)
         }
         None => Err(Next::Ask(ask)),
@@ -119,7 +118,7 @@ fn converse(tables: &Tables, script: &Script, asker: &mut CallAsker) -> bool
             Err(end) => return is_given(end),
         }
     }
-    let_go_answer(answer);
+    drop(answer);
     false
 }
 
@@ -127,7 +126,7 @@ fn converse(tables: &Tables, script: &Script, asker: &mut CallAsker) -> bool
 fn is_called(alloc: Global, tables: &Tables, script: &Script) -> Result<bool> {
     let mut asker = call_of(alloc, FIRST, arguments(alloc)?)?;
     let called = converse(tables, script, &mut asker);
-    let_go_call(asker);
+    drop(asker);
     Ok(called)
 }
 
@@ -162,7 +161,7 @@ fn called(alloc: Global, tables: &Tables, script: &[u8], rounds: usize) -> Resul
 {
     let script = script_of(alloc, script, tables.list())?;
     let called = calls(alloc, tables, &script, rounds);
-    let_go_script(script);
+    drop(script);
     called
 }
 
@@ -175,8 +174,7 @@ pub fn run(rt: &HostRuntime, args: &[String]) -> Result<()> {
     let rounds = number_of(rounds.as_str())?;
     let script = read_short(rt, script.as_str())?;
     let tables = tables_of(rt, names)?;
-    let called = called(rt.alloc(), &tables, script.as_slice(), rounds);
-    let_go_tables(tables);
-    println!(rt; "{} called", called?)?;
+    let called = called(rt.alloc(), &tables, script.as_slice(), rounds)?;
+    println!(rt; "{called} called")?;
     Ok(())
 }

@@ -3,7 +3,6 @@
 //! the first one.
 
 use crate::first::{FIRST, first_type};
-use crate::let_go::{let_go_kept, let_go_tables};
 use crate::numbers::number_of;
 use crate::sets::tables_of;
 use anyhow::{Result, bail};
@@ -39,9 +38,7 @@ fn kept_of(alloc: Global, list: &Accepted, callee: &Callee, args: u32) -> Result
 /// How many overloads are kept.
 fn kept_count(alloc: Global, list: &Accepted, args: u32) -> Result<usize> {
     let kept = kept_of(alloc, list, &FIRST, args)?;
-    let count = kept.overloads.len();
-    let_go_kept(kept);
-    Ok(count)
+    Ok(kept.overloads.len())
 }
 
 /// How many overloads are kept in all rounds together.
@@ -69,9 +66,7 @@ fn refused_of(defs: &Defs, kept: &Kept, rounds: usize) -> usize {
 /// How many picks of an overload are refused, in all rounds.
 fn pick(alloc: Global, list: &Accepted, args: u32, rounds: usize) -> Result<usize> {
     let kept = kept_of(alloc, list, &FIRST, args)?;
-    let refused = refused_of(list.defs(), &kept, rounds);
-    let_go_kept(kept);
-    Ok(refused)
+    Ok(refused_of(list.defs(), &kept, rounds))
 }
 
 /// The union that is the type of the first argument.
@@ -145,8 +140,7 @@ pub fn run(rt: &HostRuntime, args: &[String]) -> Result<()> {
         bail!("these are too many arguments");
     };
     let tables = tables_of(rt, names)?;
-    let counted = counted(rt.alloc(), &tables, what.as_str(), count, rounds);
-    let_go_tables(tables);
-    println!(rt; "{} counted", counted?)?;
+    let counted = counted(rt.alloc(), &tables, what.as_str(), count, rounds)?;
+    println!(rt; "{counted} counted")?;
     Ok(())
 }

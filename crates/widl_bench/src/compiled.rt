@@ -1,6 +1,5 @@
 //! The word `compile`: what a run looks up in a set of files is made, or for comparison the set is only read.
 
-use crate::let_go::{let_go_list, let_go_tables};
 use crate::sets::{set_of, tables_of};
 use anyhow::{Result, bail};
 use widl_overload::Accepted;
@@ -15,17 +14,13 @@ fn show(rt: &HostRuntime, list: &Accepted) -> Result<()> {
 /// Reads the set of the files.
 fn read(rt: &HostRuntime, names: &[String]) -> Result<()> {
     let list = set_of(rt, names)?;
-    let shown = show(rt, &list);
-    let_go_list(list);
-    shown
+    show(rt, &list)
 }
 
 /// Reads the set of the files and makes its tables.
 fn make(rt: &HostRuntime, names: &[String]) -> Result<()> {
     let tables = tables_of(rt, names)?;
-    let shown = show(rt, tables.list());
-    let_go_tables(tables);
-    shown
+    show(rt, tables.list())
 }
 
 /// Reads the set of the files, makes its tables if the first argument is `tables`, and leaves it at that if it is

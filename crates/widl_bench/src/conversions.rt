@@ -6,7 +6,6 @@ ghost use Rattle.widl_convert.specs.AskTerms.{BeginAnswer, Fits, answer_term, as
 ghost use Rattle.widl_convert.specs.Stack.{Expects, pending};
 
 use crate::first::{FIRST, first_type};
-use crate::let_go::{let_go_ask, let_go_asker, let_go_tables, let_go_value};
 use crate::numbers::number_of;
 use crate::replies::{Given, Reply, given_of};
 use crate::sets::tables_of;
@@ -49,7 +48,7 @@ fn answered(ask: Ask, reply: Reply) -> Result<Answer, Next>
 {
     match answer_to(&ask, reply) {
         Some(answer) => {
-            let_go_ask(ask);
+            drop(ask);
             Ok(answer)
         }
         None => Err(Next::Ask(ask)),
@@ -70,7 +69,9 @@ fn turn(tables: &Tables, asker: &mut Asker, answer: Answer, reply: Reply) -> Res
 
 /// Whether a conversation ends so that it gives something.
 pub fn is_given(end: Next) -> bool {
-    matches!(end, Next::Done(_))
+    let given = matches!(end, Next::Done(_));
+    drop(end);
+    given
 }
 
 /// Whether a conversation gives something, where these are the replies to its asks.
@@ -97,7 +98,7 @@ fn is_converted(
 ) -> Result<bool> {
     let mut asker = Asker::start_convert(alloc, ty, value)?;
     let converted = converse(tables, &mut asker, replies);
-    let_go_asker(asker);
+    drop(asker);
     Ok(converted)
 }
 
@@ -125,7 +126,7 @@ fn converted(alloc: Global, tables: &Tables, given: Given, rounds: usize) -> Res
     let replies = given.replies(alloc)?;
     let value = given.value(alloc)?;
     let converted = converted_copies(alloc, tables, ty, &value, replies.as_slice(), rounds);
-    let_go_value(value);
+    drop(value);
     converted
 }
 
@@ -139,8 +140,7 @@ pub fn run(rt: &HostRuntime, args: &[String]) -> Result<()> {
     let given = given_of(what.as_str(), number_of(count.as_str())?)?;
     let rounds = number_of(rounds.as_str())?;
     let tables = tables_of(rt, names)?;
-    let converted = converted(rt.alloc(), &tables, given, rounds);
-    let_go_tables(tables);
-    println!(rt; "{} converted", converted?)?;
+    let converted = converted(rt.alloc(), &tables, given, rounds)?;
+    println!(rt; "{converted} converted")?;
     Ok(())
 }

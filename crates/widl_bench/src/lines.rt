@@ -3,6 +3,7 @@
 use crate::sets::no_files;
 use anyhow::Result;
 use std::alloc::Global;
+use std::mem::ManuallyDrop;
 use widl_text::Units;
 use widl_trace::{Event, line};
 use widl_value::{Number, ObjRef, Shape, Value, Values};
@@ -45,8 +46,8 @@ fn long_text(alloc: Global) -> Result<Event> {
 /// Writes the line of a call and that of a return, again and again, and counts their bytes.
 fn write_calls(alloc: Global) -> Result<usize> {
     let list = no_files(alloc)?;
-    let call = call(alloc)?;
-    let end = Event::Ret(Value::Num(Number::Whole(500)));
+    let call = ManuallyDrop::new(call(alloc)?);
+    let end = ManuallyDrop::new(Event::Ret(Value::Num(Number::Whole(500))));
     let mut bytes = 0usize;
     for _ in 0..CALLS {
         let first = line(alloc, &list, &call)?;
@@ -60,7 +61,7 @@ fn write_calls(alloc: Global) -> Result<usize> {
 /// Makes a long text, and where this is asked for writes its line and counts its bytes.
 fn write_text(alloc: Global, written: bool) -> Result<usize> {
     let list = no_files(alloc)?;
-    let shown = long_text(alloc)?;
+    let shown = ManuallyDrop::new(long_text(alloc)?);
     if !written {
         return Ok(0);
     }

@@ -6,6 +6,9 @@
 //! chooses overloads, members of unions and values of enumerations, `convert` converts values, `resolve` converts the
 //! arguments of the overload that is chosen, and `call` calls an operation. It stands on the crates of these parts and
 //! serves to measure them: the programs in `bench/` run it.
+//!
+//! Values of many forms are dropped by name, as an ask or a script is: what stands behind a drop at the end of a scope is proved
+//! once for each form of the value. What a run makes once, as a set or a store, is left to the end of the program.
 #![tactic(auto)]
 
 mod calls;
@@ -14,7 +17,6 @@ mod compiled;
 mod conversions;
 mod files;
 mod first;
-mod let_go;
 mod lines;
 mod nodes;
 mod numbers;

@@ -1,7 +1,10 @@
 //! The word `nodes`: a long chain of members is put into the tables of a script.
 
+ghost use Rattle.std.specs.Prelude.{◌<◌, length};
+
 use anyhow::{Result, bail};
 use std::alloc::Global;
+use std::mem;
 use widl_script_tree::{Expression, MemberKey, MemberOf, ScriptTables};
 use widl_text::Units;
 
@@ -27,19 +30,22 @@ fn put_member(tables: &mut ScriptTables, of: u32, name: u32) -> Result<u32> {
 }
 
 /// Puts `o.o.o..`, and counts its nodes.
-fn put_chain(alloc: Global) -> Result<u32> {
-    let mut tables = ScriptTables::new(alloc);
+fn put_chain(alloc: Global, tables: &mut ScriptTables) -> Result<u32>
+    requires { length tables.old.names < u32.MAX }
+{
     let name = tables.put_name(Units::of_str(alloc, "o")?)?;
-    let mut place = put_name(&mut tables, name)?;
+    let mut place = put_name(tables, name)?;
     for _ in 1..NODES {
-        place = put_member(&mut tables, place, name)?;
+        place = put_member(tables, place, name)?;
     }
     Ok(tables.expression_count())
 }
 
-/// Prints how many nodes were put.
+/// Prints how many nodes were put. The memory of the tables is left to the end of the program.
 pub fn run(rt: &HostRuntime) -> Result<()> {
-    let nodes = put_chain(rt.alloc())?;
-    println!(rt; "{nodes} nodes")?;
+    let mut tables = ScriptTables::new(rt.alloc());
+    let nodes = put_chain(rt.alloc(), &mut tables);
+    mem::forget(tables);
+    println!(rt; "{} nodes", nodes?)?;
     Ok(())
 }

@@ -28,9 +28,10 @@ pub fn run(rt: &HostRuntime, args: &[String]) -> Result<()> {
     let Ok(count) = count.parse::<usize>() else {
         bail!("{count} is no count");
     };
-    let list = set_of(rt, names)?;
-    if has_operations_alone(&list) {
-        let stores = stores_of(rt.alloc(), &list, count)?;
+    let set = set_of(rt, names)?;
+    let list: &Accepted = &set;
+    if has_operations_alone(list) {
+        let stores = stores_of(rt.alloc(), list, count)?;
         println!(rt; "{} stores", stores.len())?;
         Ok(())
     } else {

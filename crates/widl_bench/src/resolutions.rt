@@ -6,7 +6,6 @@ ghost use Rattle.widl_convert.specs.AskTerms.{BeginAnswer};
 ghost use Rattle.widl_convert.specs.Stack.{Expects};
 
 use crate::first::FIRST;
-use crate::let_go::{let_go_asker, let_go_end, let_go_tables};
 use crate::numbers::number_of;
 use crate::sets::tables_of;
 use anyhow::{Result, bail};
@@ -53,8 +52,8 @@ fn chosen(alloc: Global, tables: &Tables, count: usize) -> Result<usize> {
     let mut asker = resolution(alloc, FIRST, sevens(alloc, count)?)?;
     let end = asker.resume(tables, Answer::Begin);
     let values = values_of(&end);
-    let_go_end(end);
-    let_go_asker(asker);
+    drop(end);
+    drop(asker);
     Ok(values)
 }
 
@@ -77,8 +76,7 @@ pub fn run(rt: &HostRuntime, args: &[String]) -> Result<()> {
     let count = number_of(count.as_str())?;
     let rounds = number_of(rounds.as_str())?;
     let tables = tables_of(rt, names)?;
-    let values = all_chosen(rt.alloc(), &tables, count, rounds);
-    let_go_tables(tables);
-    println!(rt; "{} values", values?)?;
+    let values = all_chosen(rt.alloc(), &tables, count, rounds)?;
+    println!(rt; "{values} values")?;
     Ok(())
 }

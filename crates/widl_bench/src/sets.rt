@@ -1,4 +1,5 @@
-//! Accepted sets of files, and their tables.
+//! Accepted sets of files, and their tables. Their memory is left to the end of the program, where the system takes it all back
+//! at once.
 
 ghost use Rattle.std.specs.Prelude.{◌≡◌, ◌≤◌, [], OnOk, length};
 ghost use Rattle.widl_front.specs.Texts.{AreShort};
@@ -7,14 +8,15 @@ ghost use Rattle.widl_text.specs.Limits.{most_files};
 use crate::files::read_short;
 use anyhow::{Result, bail};
 use std::alloc::Global;
+use std::mem::{self, ManuallyDrop};
 use widl_front::{Texts, Verdict, judge};
 use widl_overload::Accepted;
 use widl_tables::{Tables, compile};
 use widl_text::limits::MOST_FILES;
 
 /// The set of no files.
-pub fn no_files(alloc: Global) -> Result<Accepted> {
-    accepted(alloc, &no_texts(alloc))
+pub fn no_files(alloc: Global) -> Result<ManuallyDrop<Accepted>> {
+    Ok(ManuallyDrop::new(accepted(alloc, &no_texts(alloc))?))
 }
 
 fn no_texts(alloc: Global) -> Texts
@@ -26,7 +28,11 @@ fn no_texts(alloc: Global) -> Texts
 }
 
 /// The set of the files of these names.
-pub fn set_of(rt: &HostRuntime, names: &[String]) -> Result<Accepted> {
+pub fn set_of(rt: &HostRuntime, names: &[String]) -> Result<ManuallyDrop<Accepted>> {
+    Ok(ManuallyDrop::new(accepted_of(rt, names)?))
+}
+
+fn accepted_of(rt: &HostRuntime, names: &[String]) -> Result<Accepted> {
     let mut texts = no_texts(rt.alloc());
     for name in names {
         add_file(rt, &mut texts, name.as_str())?;
@@ -35,8 +41,9 @@ pub fn set_of(rt: &HostRuntime, names: &[String]) -> Result<Accepted> {
 }
 
 /// The tables of the set of the files of these names.
-pub fn tables_of(rt: &HostRuntime, names: &[String]) -> Result<Tables> {
-    Ok(compile(rt.alloc(), set_of(rt, names)?)?)
+pub fn tables_of(rt: &HostRuntime, names: &[String]) -> Result<ManuallyDrop<Tables>> {
+    let tables = compile(rt.alloc(), accepted_of(rt, names)?)?;
+    Ok(ManuallyDrop::new(tables))
 }
 
 /// Adds the text of the file of this name.
@@ -61,6 +68,9 @@ fn accepted(alloc: Global, texts: &Texts) -> Result<Accepted>
 {
     match judge(alloc, texts)? {
         Verdict::Accepted(list) => Ok(list),
-        Verdict::Fault(_) | Verdict::Broken(_) => bail!("the set of files is refused"),
+        refused => {
+            mem::forget(refused);
+            bail!("the set of files is refused")
+        }
     }
 }

@@ -2,7 +2,17 @@
 
 use crate::files::{read_short, words_of};
 use anyhow::Result;
+use std::alloc::Global;
+use widl_lines::ScriptWords;
 use widl_script::build::build;
+
+/// How many statements stand in the tables of a script.
+fn statements_of(alloc: Global, words: &ScriptWords<'_>) -> Result<usize> {
+    let built = build(alloc, words)?;
+    let count = built.tables.statement_count() as usize;
+    drop(built);
+    Ok(count)
+}
 
 /// Prints how many bytes the scripts have, how many lines with words, and how many statements stand in their tables
 /// with those of the rows of blocks.
@@ -15,9 +25,7 @@ pub fn run(rt: &HostRuntime, names: &[String]) -> Result<()> {
         bytes = bytes.saturating_add(script.len());
         if let Some(words) = words_of(rt.alloc(), name.as_str(), script.as_slice())? {
             lines = lines.saturating_add(words.lines().len());
-            let built = build(rt.alloc(), &words)?;
-            let count = built.tables.statement_count() as usize;
-            statements = statements.saturating_add(count);
+            statements = statements.saturating_add(statements_of(rt.alloc(), &words)?);
         }
     }
     println!(rt; "{bytes} bytes, {lines} lines, {statements} statements")?;

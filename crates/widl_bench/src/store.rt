@@ -8,7 +8,8 @@ use crate::numbers::number_of;
 use crate::sets::no_files;
 use anyhow::{Result, bail};
 use std::alloc::Global;
-use widl_overload::has_operations_alone;
+use std::mem;
+use widl_overload::{Accepted, has_operations_alone};
 use widl_store::laws::{first_store_is_bounded, references_stay_live};
 use widl_store::{Found, Inner, Put, Store, realm};
 use widl_text::{Key, Units};
@@ -17,18 +18,25 @@ use widl_value::{Number, ObjRef, Shape, Value};
 /// How many prototypes there may be.
 const MOST_PROTOTYPES: usize = 1_000_000;
 
+/// The first store of a set.
+fn store_of(alloc: Global, list: &Accepted) -> Result<Store>
+    ensures { IfOk result (λ store. length store.objects ≤ 1000018) }
+{
+    first_store_is_bounded();
+    let _defs = list.defs();
+    if has_operations_alone(list) {
+        Ok(realm(alloc, list)?)
+    } else {
+        bail!("the first store of the set of no files is not supported")
+    }
+}
+
 /// A store without definitions.
 fn first_store(alloc: Global) -> Result<Store>
     ensures { IfOk result (λ store. length store.objects ≤ 1000018) }
 {
     let list = no_files(alloc)?;
-    first_store_is_bounded();
-    let _defs = list.defs();
-    if has_operations_alone(&list) {
-        Ok(realm(alloc, &list)?)
-    } else {
-        bail!("the first store of the set of no files is not supported")
-    }
+    store_of(alloc, &list)
 }
 
 /// Adds a plain object.
@@ -112,26 +120,28 @@ fn scattered(alloc: Global, count: usize, few: usize) -> Result<Vec<Key>> {
 }
 
 /// Puts `count` properties, and finds `few` of them in each round.
-fn keys(alloc: Global, count: usize, few: usize, rounds: usize) -> Result<usize> {
-    let mut store = first_store(alloc)?;
-    let obj = add_plain(&mut store, None)?;
-    put_keys(alloc, &mut store, obj, count)?;
+fn keys(alloc: Global, store: &mut Store, count: usize, few: usize, rounds: usize) -> Result<usize>
+    requires { length store.old.objects ≤ 1000018 }
+{
+    let obj = add_plain(store, None)?;
+    put_keys(alloc, store, obj, count)?;
     let keys = scattered(alloc, count, few)?;
-    Ok(find_keys(&store, obj, keys.as_slice(), rounds))
+    Ok(find_keys(store, obj, keys.as_slice(), rounds))
 }
 
 /// Puts `count` properties, finds each, and deletes each, in their order.
-fn deletions(alloc: Global, count: usize) -> Result<usize> {
-    let mut store = first_store(alloc)?;
-    let obj = add_plain(&mut store, None)?;
-    put_keys(alloc, &mut store, obj, count)?;
+fn deletions(alloc: Global, store: &mut Store, count: usize) -> Result<usize>
+    requires { length store.old.objects ≤ 1000018 }
+{
+    let obj = add_plain(store, None)?;
+    put_keys(alloc, store, obj, count)?;
     let mut keys = Vec::new(alloc);
     for number in 0..count {
         keys.push(key(alloc, number)?)?;
     }
-    let found = find_keys(&store, obj, keys.as_slice(), 1);
+    let found = find_keys(store, obj, keys.as_slice(), 1);
     for key in keys.as_slice() {
-        delete_key(&mut store, obj, key)?;
+        delete_key(store, obj, key)?;
     }
     Ok(found)
 }
@@ -154,32 +164,52 @@ fn add_below(store: &mut Store, first: ObjRef, count: usize) -> Result<ObjRef>
 }
 
 /// Finds a key in each round at the far end of `count` prototypes, and misses another.
-fn prototypes(alloc: Global, count: usize, rounds: usize) -> Result<usize> {
-    let mut store = first_store(alloc)?;
-    let first = add_plain(&mut store, None)?;
-    let last = add_below(&mut store, first, count)?;
-    put_key(alloc, &mut store, first, 0)?;
-    let keys = [key(alloc, 0)?, key(alloc, 1)?];
-    Ok(find_keys(&store, last, &keys, rounds))
+fn prototypes(alloc: Global, store: &mut Store, count: usize, rounds: usize) -> Result<usize>
+    requires { length store.old.objects ≤ 1000018 }
+{
+    let first = add_plain(store, None)?;
+    let last = add_below(store, first, count)?;
+    put_key(alloc, store, first, 0)?;
+    let mut keys = Vec::new(alloc);
+    for number in 0..2 {
+        keys.push(key(alloc, number)?)?;
+    }
+    Ok(find_keys(store, last, keys.as_slice(), rounds))
+}
+
+/// How many properties were found, where this is done with the store as often as the numbers say.
+fn found(alloc: Global, store: &mut Store, what: &str, numbers: [usize; 3]) -> Result<usize>
+    requires { length store.old.objects ≤ 1000018 }
+{
+    let [count, few, rounds] = numbers;
+    match what {
+        "keys" => keys(alloc, store, count, few, rounds),
+        "deletions" => deletions(alloc, store, count),
+        "prototypes" => prototypes(alloc, store, count, few),
+        _ => bail!("keys, deletions or prototypes are wanted"),
+    }
+}
+
+/// The numbers that the arguments say; those that are left out are 0.
+fn numbers_of(args: &[String]) -> Result<[usize; 3]> {
+    let mut numbers = [0usize; 3];
+    for (number, text) in numbers.iter_mut().zip(args) {
+        *number = number_of(text.as_str())?;
+    }
+    Ok(numbers)
 }
 
 /// Does what the first argument says as often as the others say, and prints how many properties were found:
-/// `keys COUNT FEW ROUNDS`, `deletions COUNT`, or `prototypes COUNT ROUNDS`.
+/// `keys COUNT FEW ROUNDS`, `deletions COUNT`, or `prototypes COUNT ROUNDS`. The memory of the store is left to the end of the
+/// program.
 pub fn run(rt: &HostRuntime, args: &[String]) -> Result<()> {
     let Some((what, rest)) = args.split_first() else {
         bail!("keys, deletions or prototypes, and numbers, are wanted");
     };
-    let mut numbers = [0usize; 3];
-    for (number, text) in numbers.iter_mut().zip(rest) {
-        *number = number_of(text.as_str())?;
-    }
-    let [count, few, rounds] = numbers;
-    let found = match what.as_str() {
-        "keys" => keys(rt.alloc(), count, few, rounds)?,
-        "deletions" => deletions(rt.alloc(), count)?,
-        "prototypes" => prototypes(rt.alloc(), count, few)?,
-        _ => bail!("keys, deletions or prototypes are wanted"),
-    };
-    println!(rt; "{found} found")?;
+    let numbers = numbers_of(rest)?;
+    let mut store = first_store(rt.alloc())?;
+    let found = found(rt.alloc(), &mut store, what.as_str(), numbers);
+    mem::forget(store);
+    println!(rt; "{} found", found?)?;
     Ok(())
 }

@@ -19,7 +19,10 @@ fn is_unbroken(alloc: Global, script: &[u8], list: &Accepted) -> Result<bool>
     requires rules { HasOperationsAlone (defs_term list.now.defs) }
 {
     match read_script(alloc, script, list) {
-        Ok(_) => Ok(true),
+        Ok(read) => {
+            drop(read);
+            Ok(true)
+        }
         Err(ScriptFault::Refused(_)) => Ok(false),
         Err(ScriptFault::Memory) => bail!("out of memory"),
     }
@@ -32,16 +35,17 @@ pub fn run(rt: &HostRuntime, args: &[String]) -> Result<()> {
         bail!("a file of Web IDL is wanted, and then scripts");
     }
     let (file, names) = args.split_at(1);
-    let list = set_of(rt, file)?;
+    let set = set_of(rt, file)?;
+    let list: &Accepted = &set;
     let mut bytes = 0usize;
     let mut unbroken = 0usize;
     for name in names {
         let script = read_short(rt, name.as_str())?;
         bytes = bytes.saturating_add(script.len());
-        if !has_operations_alone(&list) {
+        if !has_operations_alone(list) {
             bail!("scripts are not read over this set yet");
         }
-        if is_unbroken(rt.alloc(), script.as_slice(), &list)? {
+        if is_unbroken(rt.alloc(), script.as_slice(), list)? {
             unbroken = unbroken.saturating_add(1);
         }
     }
