@@ -7,7 +7,6 @@ ghost use Rattle.widl_convert.specs.Stack.{Expects, pending};
 use crate::answers::{Answers, tell_end};
 use crate::fault::Fault;
 use crate::idl::first_type;
-use crate::let_go::{let_go_answer, let_go_ask, let_go_end, let_go_type};
 use crate::literals::idl_value_of;
 use crate::values::{value_of, values_of};
 use std::alloc::Global;
@@ -28,7 +27,7 @@ pub fn conversion(alloc: Global, tables: &Tables, given: &str) -> Result<Asker, 
 {
     let ty = first_type(alloc, tables)?;
     let asker = conversion_to(alloc, &ty, given);
-    let_go_type(ty);
+    drop(ty);
     asker
 }
 
@@ -45,7 +44,7 @@ pub fn result_of(alloc: Global, tables: &Tables, given: &str) -> Result<Asker, F
 {
     let ty = first_type(alloc, tables)?;
     let asker = result_of_type(alloc, &ty, given);
-    let_go_type(ty);
+    drop(ty);
     asker
 }
 
@@ -140,12 +139,12 @@ fn turn(
     match next_ask(tables, asker, answer) {
         Ok(ask) => {
             let next = answers.answer(&ask, told);
-            let_go_ask(ask);
+            drop(ask);
             next
         }
         Err(end) => {
             let ended = tell_end(&end, told);
-            let_go_end(end);
+            drop(end);
             ended?;
             Ok(None)
         }
@@ -172,6 +171,6 @@ pub fn talk(
             None => return Ok(()),
         }
     }
-    let_go_answer(answer);
+    drop(answer);
     Err(Fault::Line("a conversation doesn't end"))
 }

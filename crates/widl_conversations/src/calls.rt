@@ -8,7 +8,6 @@ use crate::answers::{Answers, tell_end};
 use crate::asker::callee_of;
 use crate::fault::Fault;
 use crate::idl::OPERATION;
-use crate::let_go::{let_go_answer, let_go_ask, let_go_end};
 use crate::values::{value_of, values_of};
 use std::alloc::Global;
 use widl_calls::CallAsker;
@@ -85,12 +84,12 @@ fn turn(
     match next_ask(tables, script, asker, answer) {
         Ok(ask) => {
             let next = answers.answer(&ask, told);
-            let_go_ask(ask);
+            drop(ask);
             next
         }
         Err(end) => {
             let ended = tell_end(&end, told);
-            let_go_end(end);
+            drop(end);
             ended?;
             Ok(None)
         }
@@ -115,6 +114,6 @@ pub fn talk(
             None => return Ok(()),
         }
     }
-    let_go_answer(answer);
+    drop(answer);
     Err(Fault::Line("a call doesn't end"))
 }

@@ -3,7 +3,8 @@
 //! conversions and calls (`widl_convert`, `widl_calls`), and above `widl_front`, which reads the definitions that
 //! they need. The gate runs it on `stdin` and compares what it prints with `stdout`, where each end is worked from
 //! the steps of the standards; the head of `stdin` says how rows are written. A line that can't be read ends the
-//! program, so that no row is passed over.
+//! program, so that no row is passed over. Values of many forms are dropped by name: what stands behind a drop at the end of a
+//! scope is proved once for each form of the value.
 #![tactic(auto)]
 
 mod answers;
@@ -11,7 +12,6 @@ mod asker;
 mod calls;
 mod fault;
 mod idl;
-mod let_go;
 mod literals;
 mod many;
 mod page;

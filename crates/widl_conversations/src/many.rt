@@ -7,7 +7,6 @@ ghost use Rattle.widl_convert.specs.Stack.{pending};
 use crate::answers::Answers;
 use crate::asker::{conversion, next_ask, talk};
 use crate::fault::Fault;
-use crate::let_go::{let_go_ask, let_go_asker, let_go_end};
 use crate::rows::Row;
 use crate::task::many_of;
 use std::alloc::Global;
@@ -28,8 +27,8 @@ fn wait(alloc: Global, tables: &Tables, row: &Row<'_>) -> Result<Waiting, Fault>
     match next_ask(tables, &mut asker, Answer::Begin) {
         Ok(ask) => Ok(Waiting { asker, ask }),
         Err(end) => {
-            let_go_end(end);
-            let_go_asker(asker);
+            drop(end);
+            drop(asker);
             Err(Fault::Line("a conversion that asks is wanted"))
         }
     }
@@ -63,8 +62,8 @@ fn told_by(
     let mut told = String::new(alloc);
     let mut answers = Answers::new(alloc, row.answers);
     let end = go_on(tables, &mut asker, &ask, &mut answers, &mut told);
-    let_go_ask(ask);
-    let_go_asker(asker);
+    drop(ask);
+    drop(asker);
     end?;
     Ok(told)
 }

@@ -9,7 +9,6 @@ use crate::asker::{callee_of, conversion, resolution, result_of, scalar, talk};
 use crate::calls;
 use crate::fault::Fault;
 use crate::idl::{OPERATION, tables_for};
-use crate::let_go::{let_go_asker, let_go_call, let_go_script, let_go_tables};
 use crate::many::tell_many;
 use crate::repeats::expanded;
 use crate::steps::script_of;
@@ -45,7 +44,7 @@ fn tell_call(
     let mut asker = asker;
     let mut answers = Answers::new(alloc, row.answers);
     let end = calls::talk(tables, script, &mut asker, &mut answers, told);
-    let_go_call(asker);
+    drop(asker);
     end
 }
 
@@ -86,7 +85,7 @@ fn tell_in_script(
         Task::Functions => tell_function(alloc, tables, &script, row, told),
         _ => tell_operation(alloc, tables, &script, row, told),
     };
-    let_go_script(script);
+    drop(script);
     end
 }
 
@@ -103,7 +102,7 @@ fn tell_asker(
     let mut asker = asker;
     let mut answers = Answers::new(alloc, row.answers);
     let end = talk(tables, &mut asker, Answer::Begin, &mut answers, told);
-    let_go_asker(asker);
+    drop(asker);
     end
 }
 
@@ -184,6 +183,6 @@ pub fn tell_row(
     };
     let tables = tables_for(alloc, definitions, task, of.as_str())?;
     let end = tell_each(alloc, &tables, task, &whole, row.of, told);
-    let_go_tables(tables);
+    drop(tables);
     end
 }

@@ -60,8 +60,13 @@ fn block(alloc: Global, overload: u32, lines: StepLines) -> Result<StepsBlock, F
 /// Tables with a block.
 fn tables_with(alloc: Global, block: StepsBlock) -> Result<ScriptTables, Fault> {
     let mut tables = ScriptTables::new(alloc);
-    tables.put_steps(block)?;
-    Ok(tables)
+    match tables.put_steps(block) {
+        Ok(_) => Ok(tables),
+        Err(error) => {
+            drop(tables);
+            Err(Fault::from(error))
+        }
+    }
 }
 
 /// The numbers of the blocks for overloads: the first for this one.
@@ -94,9 +99,10 @@ fn overload_of(steps: &str) -> Result<(u32, &str), Fault> {
 /// A script with these steps for an overload of the first operation of the first namespace.
 fn script_with(alloc: Global, steps: &str) -> Result<Script, Fault> {
     let (overload, lines) = overload_of(steps)?;
+    let targets = targets(alloc, overload)?;
     let block = block(alloc, overload, step_lines_of(alloc, lines)?)?;
     let tables = tables_with(alloc, block)?;
-    Ok(finish(alloc, tables, targets(alloc, overload)?))
+    Ok(finish(alloc, tables, targets))
 }
 
 /// A script with these steps, if there are any.
