@@ -155,6 +155,11 @@ def quoted_at():
     return [places.get(number, 0) for number in range(SLOTS)]
 
 
+def signs():
+    """For each byte whether it is a quoted terminal by itself. With none of these does a longer piece begin."""
+    return ["true" if chr(byte) in QUOTED else "false" for byte in range(256)]
+
+
 def matches_empty(pattern):
     form = pattern[0]
     if form in ("never", "range"):
@@ -331,6 +336,9 @@ pub static QUOTED: [&[u8]; {len(QUOTED)}] = [
 
 /// For each slot of a text, the place above of the one quoted terminal that the text can be.
 pub static QUOTED_AT: [u8; {SLOTS}] = {rust_list(quoted_at())};
+
+/// Whether each byte is a sign that is a quoted terminal by itself, with which no longer piece begins.
+pub static SIGNS: [bool; 256] = {rust_list(signs())};
 
 /// How many states of UTF-8 there are.
 pub const UTF8_STATES: usize = {len(utf8_states)};

@@ -6,6 +6,7 @@ pub mod Labels
 pub mod OneCut
 pub mod QuotedTable
 pub mod Scans
+pub mod Signs
 pub mod Table
 pub mod Unclosed
 pub mod Utf8Table

@@ -1,6 +1,6 @@
 -- For proofs alone. The walk through the table of states, and what its patterns match.
 use Rattle.std.specs.Prelude.{ℕ, ◌<◌, ◌≤◌, List, [], ◌∷◌, Bool, true, false, Option, Some, None, ◌+◌, ◌*◌, ◌/◌, ◌%◌, map, slice_index, slice_index_or, length, take, codes}
-use Rattle.widl_lex.specs.declared.tables.TheConstants.{NEXT, ENDS, UTF8_CLASSES, UTF8_NEXT, QUOTED, QUOTED_AT}
+use Rattle.widl_lex.specs.declared.tables.TheConstants.{NEXT, ENDS, UTF8_CLASSES, UTF8_NEXT, QUOTED, QUOTED_AT, SIGNS}
 use Rattle.widl_lex.specs.declared.token.PieceKind.{PieceKind}
 use Rattle.widl_lex.specs.declared.token.PieceKind.TheVariants.{Token, Gap}
 use Rattle.widl_lex.specs.declared.token.TokenKind.TheVariants.{Quoted, Integer, Decimal, Identifier, Text, Other}
@@ -46,6 +46,10 @@ may_be_quoted (Token Quoted) = true
 may_be_quoted (Token Identifier) = true
 may_be_quoted (Token Other) = true
 may_be_quoted _ = false
+
+-- whether the byte is a quoted terminal with which no longer piece begins
+abbrev pub is_sign : ℕ → Bool
+is_sign byte = slice_index_or SIGNS byte false
 
 -- what ends at a place, or else the best so far
 abbrev pub better_of : Option (ℕ × PieceKind) → ℕ → Option PieceKind → Option (ℕ × PieceKind)

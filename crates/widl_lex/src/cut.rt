@@ -11,11 +11,12 @@ ghost use Rattle.widl_lex.specs.Cut.{Longest, IsLongestLength};
 ghost use Rattle.widl_lex.specs.Pattern.{Matches};
 ghost use Rattle.widl_lex.specs.Quoted.{IsQuoted};
 ghost use Rattle.widl_lex.specs.Lexical.{IsPiece};
-ghost use Rattle.widl_lex.specs.Walk.{may_be_quoted, scanned};
+ghost use Rattle.widl_lex.specs.Walk.{is_sign, may_be_quoted, scanned};
 
 use crate::fault::LexFault;
 use crate::longest::longest;
 use crate::quoted::is_quoted;
+use crate::tables::SIGNS;
 use crate::token::{PieceKind, Token, TokenKind};
 use widl_text::Place;
 
@@ -24,6 +25,13 @@ fn opens_comment(text: &[u8]) -> bool
     ensures { IsTrue result ↔ OpensComment text.now }
 {
     text.len() > 1 && text[0] == b'/' && text[1] == b'*'
+}
+
+/// Whether the byte is a sign that the grammar writes out and with which no longer piece begins.
+fn is_sign(byte: u8) -> bool
+    ensures { result ≡ is_sign byte }
+{
+    SIGNS[byte as usize]
 }
 
 /// Whether a quoted terminal may be scanned as the kind.
@@ -60,6 +68,9 @@ pub fn longest_piece(text: &[u8], closes: bool) -> (usize, PieceKind)
     requires unclosed { closes ≡ false → NeverCloses text.now }
     ensures { Longest result.1 result.0 text.now }
 {
+    if is_sign(text[0]) {
+        return (1, PieceKind::Token(TokenKind::Quoted));
+    }
     if !closes && opens_comment(text) {
         return (1, PieceKind::Token(TokenKind::Other));
     }
