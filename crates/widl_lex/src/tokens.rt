@@ -8,6 +8,9 @@ use std::alloc::Global;
 use std::marker::Model;
 use widl_text::Place;
 
+/// How many bytes of a file there are to a token, or more, in most files. Room is made by it.
+const BYTES_A_TOKEN: usize = 6;
+
 /// The tokens of a file in order, without white space and comments.
 #[derive(Drop)]
 pub struct Tokens<'a> {
@@ -52,7 +55,9 @@ impl<'a> Tokens<'a> {
                 at: place as u32,
             }));
         }
-        let mut items = Vec::new(alloc);
+        let Ok(mut items) = Vec::with_capacity(alloc, bytes.len() / BYTES_A_TOKEN) else {
+            return Err(LexFault::Memory);
+        };
         let mut rest = bytes;
         let mut closes = true;
         while !rest.is_empty() {
