@@ -1,12 +1,14 @@
 -- The tokens of an extended attribute after its name, which the machine of the grammar reads.
-use Rattle.std.proofs.Common.{◌≡◌, ℕ, ◌+◌, ◌<◌, ◌≤◌, Bool, true, false, Option, None, List, [], ◌∷◌, ◌++◌, length, refl, sym, ◌∙◌, ap, subst, arith, string_bytes}
+use Rattle.std.proofs.Common.{◌≡◌, ℕ, ◌+◌, ◌<◌, ◌≤◌, Bool, true, false, Option, None, Some, List, [], ◌∷◌, ◌++◌, length, refl, sym, ◌∙◌, ap, subst, arith, string_bytes}
 use Rattle.std.specs.Prelude.{map}
 use Rattle.widl_idl.specs.declared.tree.extended_attributes.SourceToken.{SourceToken}
 use Rattle.widl_lex.specs.Tokens.{Lexeme}
 use Rattle.widl_predictive.specs.Derivation.{Terminal as Token}
+use Rattle.widl_predictive.specs.Lookahead.{choice}
 use Rattle.widl_predictive.specs.Predictive.{ahead}
 use Rattle.widl_predictive.specs.Runs as runs
-use Rattle.widl_predictive.specs.Runs.{Takes, stripped}
+use Rattle.widl_predictive.specs.Runs.{Takes, plain, stripped}
+use Rattle.widl_predictive.proofs.Inversion.{runs_nonterminal}
 use Rattle.widl_grammar.specs.declared.rule.Rule.TheVariants as rule
 use Rattle.widl_grammar.specs.declared.terminal.Terminal.{Terminal}
 use Rattle.widl_grammar.specs.Rows.{grammar}
@@ -15,10 +17,10 @@ use Rattle.widl_grammar.specs.Source.{terminal_of}
 use Rattle.widl_syntax.specs.Signs.{Sign, UnparsesTo, AreTexts, OfText, all_signs, at, ◌⧺◌}
 use Rattle.widl_syntax.specs.UnparsedNames.{text_of, attribute_rest}
 use Rattle.widl_syntax.specs.Deriving.{AnyRuns}
-use Rattle.widl_syntax.specs.Reading.{Symbols, RunsOf, Reads, part, IfAhead, IsTaken}
+use Rattle.widl_syntax.specs.Reading.{Symbols, RunsOf, Reads, part, terminal_ahead, IfAhead, IsTaken}
 use Rattle.widl_syntax.proofs.Derived.{read_sentence}
 use Rattle.widl_syntax.proofs.Leveling.{AnyReads, leveled, any_levels, as_stack, reads_itself, reads_only, runs_taken}
-use Rattle.widl_syntax.proofs.Reading.{spells_append, took_text}
+use Rattle.widl_syntax.proofs.Reading.{ahead_is, is_other, spells_append, took_text}
 use Rattle.widl_syntax.proofs.Words.{taken_shorter}
 use Rattle.widl_syntax.proofs.Lists.{fewer_left, all_signs_more}
 
@@ -44,6 +46,16 @@ as_part tokens start now f = leveled (record {
       let g = f.reads others r in
       let texts = as_texts tokens start now g.0 in
       ((now, (texts, read_sentence f others r (map text_of tokens) texts), refl), g.1);
+})
+
+-- no tokens stand before one that picks the row of none
+pub no_tokens : (t : Terminal) {now : List Lexeme} → terminal_ahead now ≡ t → is_other t ≡ false → choice grammar sets rule.ExtendedAttributeRest (Some t) ≡ Some [] → Reads (part rule.ExtendedAttributeRest) (attribute_rest []) now now
+no_tokens t {now} is other none = as_part [] now now (record {
+  reads = λ others r.
+      let step = runs_nonterminal grammar sets r in
+      let row : Some step.0 ≡ Some [] = sym step.1 ∙ ap (choice grammar sets rule.ExtendedAttributeRest) (ahead_is t now other is) ∙ none in
+      let nothing : step.0 ≡ [] = cc in
+      (refl, subst (λ α. AnyRuns (plain α ++ others) now) nothing step.2);
 })
 
 -- the tokens so far stand between two tokens of the file, the stack is what is still to be read from the second on, and each turn took a token

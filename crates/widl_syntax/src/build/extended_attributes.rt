@@ -52,8 +52,22 @@ impl<'t, 's> Reader<'t, 's> {
         ensures shorter { IfOk result (λ _. length self.new ≤ length self.old) }
     {
         let name = self.name()?;
-        let arguments = self.attribute_arguments()?;
+        let arguments = self.attribute_rest()?;
         Ok(ExtendedAttribute { name, arguments })
+    }
+
+    /// The tokens of an attribute after its name. Most attributes have none.
+    fn attribute_rest(&mut self) -> Result<SourceTokens, AllocError>
+        ensures reads { IfOk result (λ tokens. Reads (part rule.ExtendedAttributeRest) (attribute_rest tokens) self.old self.new) }
+        ensures shorter { IfOk result (λ _. length self.new ≤ length self.old) }
+    {
+        if self.is_ahead(Terminal::CloseBracket) {
+            return Ok(SourceTokens::new(self.alloc()));
+        }
+        if self.is_ahead(Terminal::Comma) {
+            return Ok(SourceTokens::new(self.alloc()));
+        }
+        self.attribute_arguments()
     }
 
     /// The tokens of an attribute after its name. The machine of the grammar reads them, since they nest
