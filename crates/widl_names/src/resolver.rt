@@ -6,7 +6,7 @@
 //! than the chain has is it followed by one at a time. The recursion goes down into the parts of types
 //! alone, as deep as the type that results: at most 16 levels where no rule of merging is broken.
 
-ghost use Rattle.std.specs.Prelude.{◌≡◌, ◌<◌, ◌+◌, ◌^◌, ◌++◌, List, [], Some, IfOk, OnOk, length, map};
+ghost use Rattle.std.specs.Prelude.{◌≡◌, ◌<◌, ◌+◌, ◌^◌, ◌++◌, List, [], Some, IfOk, OnOk, false, length, map};
 ghost use Rattle.widl_idl.specs.Meanings.{meaning, meant_kind};
 ghost use Rattle.widl_idl.specs.declared.kind.Kind.{Kind as KindType};
 ghost use Rattle.widl_idl.specs.MergedList.{number_of_meaning};
@@ -276,7 +276,38 @@ impl<'m, 'd, 'a> Resolver<'m, 'd, 'a> {
         ensures last { IsLast (plain_definitions self.now) result.usage }
         ensures known { IsKnown (plain_definitions self.now) result }
     {
-        let mut reached = self.look_up(*start);
+        // Most types are no names, or names of other definitions.
+        let first = self.look_up(*start);
+        if self.leads_on(&first) {
+            self.follow_on(&first)
+        } else {
+            first
+        }
+    }
+
+    /// Whether a use of a type is the name of a typedef.
+    fn leads_on(&self, from: &KnownUse<'a>) -> bool
+        requires { IsKnown (plain_definitions self.now) from.now }
+        ensures { result ≡ false → IsLast (plain_definitions self.now) from.now.usage }
+    {
+        match from.meaning {
+            None => false,
+            Some(number) => match typedef_at(self.meanings, number) {
+                None => false,
+                Some(_) => true,
+            },
+        }
+    }
+
+    /// The same of a use of a type whose name is looked up.
+    #[inline(never)]
+    fn follow_on(&self, first: &KnownUse<'a>) -> KnownUse<'a>
+        requires { IsKnown (plain_definitions self.now) first.now }
+        ensures leads { Leads (plain_definitions self.now) first.now.usage result.usage }
+        ensures last { IsLast (plain_definitions self.now) result.usage }
+        ensures known { IsKnown (plain_definitions self.now) result }
+    {
+        let mut reached = *first;
         while let Some(next) = self.after(&reached) {
             reached = self.look_up(next);
         }

@@ -1,24 +1,11 @@
-use Rattle.std.proofs.Common.{arith, sym, ap, subst}
+use Rattle.std.proofs.Common.{sym, subst}
 use Rattle.widl_idl.specs.PlainTrees.{plain_definitions}
-use Rattle.widl_names.specs.TypeUses.{After, Leads}
-use Rattle.widl_names.proofs.TypeUses.{leads_here, leads_on}
+use Rattle.widl_names.specs.TypeUses.{Leads}
+use Rattle.widl_names.proofs.TypeUses.{leads_here}
 use Rattle.widl_names.proofs.resolver.Resolver.follow.Goals as goal
 
-pub loop-next-init : goal.loop-next-init
-loop-next-init c =
-    let definitions = plain_definitions c.args.self.now in
-    (subst (Leads definitions c.args.start.now) (sym c.look_up-reached.ensures.same) (leads_here definitions c.args.start.now), c.look_up-reached.ensures.known)
+pub returns-then-leads_on-clause-leads : goal.returns-then-leads_on-clause-leads
+returns-then-leads_on-clause-leads c = subst (λ u. Leads (plain_definitions c.args.self.now) u c.follow_on.result.usage) c.look_up-first.ensures.same c.follow_on.ensures.leads
 
-pub loop-next-preserved : goal.loop-next-preserved
-loop-next-preserved c =
-    let definitions = plain_definitions c.args.self.now in
-    let last = c.loop-next.reached.usage in
-    let found = subst (After definitions last) c.in-Some.is c.after.ensures in
-    (subst (Leads definitions c.args.start.now) (sym c.look_up-reached-in-Some.ensures.same) (leads_on definitions c.args.start.now last c.in-Some.next c.loop-next.invariant.0 found.0), c.look_up-reached-in-Some.ensures.known)
-
-pub loop-next-smaller : goal.loop-next-smaller
-loop-next-smaller c =
-    let found = subst (After (plain_definitions c.args.self.now) c.loop-next.reached.usage) c.in-Some.is c.after.ensures in
-    let fewer = found.1 in
-    let same = ap (λ u. u.typedefs) c.look_up-reached-in-Some.ensures.same in
-    omega (arith, fewer, same)
+pub returns-else-leads_on-clause-leads : goal.returns-else-leads_on-clause-leads
+returns-else-leads_on-clause-leads c = subst (Leads (plain_definitions c.args.self.now) c.args.start.now) (sym c.look_up-first.ensures.same) (leads_here (plain_definitions c.args.self.now) c.args.start.now)
