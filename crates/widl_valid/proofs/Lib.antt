@@ -1,4 +1,5 @@
 pub mod ResolvedUses
+pub mod SettledUses
 pub mod ListedUses
 pub mod MappedLoops
 pub mod RepeatedTexts

@@ -1,5 +1,6 @@
 -- The first violations at which the rules on types are broken, a definition at a time.
 use Rattle.std.proofs.Common.{◌≡◌, ℕ, ◌+◌, ◌<◌, ◌≤◌, ◌++◌, List, [], ◌∷◌, length, take, map, get_or, flat_map, Option, refl, sym, ap, subst, ◌∙◌, Bor}
+use Rattle.std.specs.Prelude.{filter}
 use Rattle.std.proofs.lemmas.List.{flat_map_more, map-append, take_all}
 use Rattle.widl_idl.specs.declared.interface.Iface.{Iface}
 use Rattle.widl_idl.specs.declared.violation.Violation.{Violation}
@@ -13,8 +14,10 @@ use Rattle.widl_names.proofs.PlainLists.{listed_more}
 use Rattle.widl_overload.specs.TypeRules.{HasClampAndEnforceRange, HasMisplacedAnnotation, HaveIndistinguishableMembers, HaveNullableAndDictionary, HaveSeveralNullable, IsAnnotatedMember, IsCopiedAttribute, IsNullableDictionary, IsOtherConstantType, IsUndefinedInside, IsWronglyNullable, OfUnion}
 use Rattle.widl_overload.specs.TypeUses.{TypeUse, meaning_of_use, type_uses_of, uses_in_definition}
 use Rattle.widl_valid.specs.declared.type_violations.TypeViolations.{TypeViolations}
+use Rattle.widl_valid.specs.SettledUses.{is_asked}
 use Rattle.widl_valid.specs.TypeViolations.{AreTypeViolations, InUses, earlier_violations, no_violations}
 use Rattle.widl_valid.proofs.ResolvedUses.{written_first}
+use Rattle.widl_valid.proofs.SettledUses.{of_all_uses}
 use Rattle.widl_valid.specs.UsesListed.{UseTerm, all_uses, uses_of, with_meaning}
 
 -- no type breaks a rule where there are no types
@@ -65,13 +68,13 @@ module _ (ifaces : List Iface) (definitions : List PlainDefinition) where
 
   module _ (list : List (Bor Definition)) where
     -- one definition more, as a loop over the definitions has it
-    pub types_step : (i : ℕ) (d : Bor Definition) (uses : List UseTerm) (best found now : TypeViolations) → i < length list → d ≡ get_or list i d → now ≡ earlier_violations best found → uses ≡ map (with_meaning definitions) (uses_in_definition (definition_of d.now).kind)
+    pub types_step : (i : ℕ) (d : Bor Definition) (uses : List UseTerm) (best found now : TypeViolations) → i < length list → d ≡ get_or list i d → now ≡ earlier_violations best found → uses ≡ map (with_meaning definitions) (filter is_asked (uses_in_definition (definition_of d.now).kind))
         → AreTypeViolations ifaces definitions uses found → AreTypeViolations ifaces definitions (uses_of definitions (listed_definitions (take i list))) best → AreTypeViolations ifaces definitions (uses_of definitions (listed_definitions (take (i + 1) list))) now
     types_step i d uses best found now below is e listed b a =
         let before = listed_definitions (take i list) in
         subst (AreTypeViolations ifaces definitions (uses_of definitions (listed_definitions (take (i + 1) list)))) (sym e)
         (subst (λ us. AreTypeViolations ifaces definitions us (earlier_violations best found)) (sym (ap (uses_of definitions) (listed_more list i d below is) ∙ uses_pushed before (definition_of d.now)))
-        (violations_both (uses_of definitions before) _ best found a (subst (λ us. AreTypeViolations ifaces definitions us found) listed b)))
+        (violations_both (uses_of definitions before) _ best found a (of_all_uses ifaces definitions (uses_in_definition (definition_of d.now).kind) found (subst (λ us. AreTypeViolations ifaces definitions us found) listed b))))
 
     -- at the end of the list
     pub types_all : (i : ℕ) (best : TypeViolations) → length list ≤ i → listed_definitions list ≡ definitions → AreTypeViolations ifaces definitions (uses_of definitions (listed_definitions (take i list))) best → AreTypeViolations ifaces definitions (all_uses definitions) best

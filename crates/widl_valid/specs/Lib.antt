@@ -1,4 +1,5 @@
 pub mod UsesListed
+pub mod SettledUses
 pub mod WrittenLists
 pub mod KnownTexts
 pub mod MemberTables

@@ -1,15 +1,19 @@
 //! What the types that are written in a definition mean.
 
-ghost use Rattle.std.specs.Prelude.{◌≡◌, List, map, IfOk};
+ghost use Rattle.std.specs.Prelude.{◌≡◌, ◌++◌, List, map, filter, IfOk};
 ghost use Rattle.widl_idl.specs.PlainTrees.{definition_kind_of, plain_definitions};
+ghost use Rattle.widl_idl.specs.PlainTypes.{attribute_of, form_term, type_of};
+ghost use Rattle.widl_overload.specs.TypeRules.{is_constant_role, takes_undefined};
 ghost use Rattle.widl_overload.specs.TypeUses.{uses_in_definition};
+ghost use Rattle.widl_valid.specs.SettledUses.{are_none, is_asked, is_settled, is_settled_form, is_settled_type};
 ghost use Rattle.widl_valid.specs.UsesListed.{resolved_use, use_of, with_meaning};
 
 use crate::type_uses::{TypeUse, list_type_uses};
 use std::alloc::{AllocError, Global};
 use widl_idl::IdlType;
-use widl_idl::tree::DefinitionKind;
+use widl_idl::tree::{DefinitionKind, ExtendedAttribute, TypeForm, WrittenType};
 use widl_names::{Annotations, MOST_TYPES, Resolver};
+use widl_overload::TypeRole;
 
 /// A type as it is written, with what it means there.
 #[derive(Drop)]
@@ -20,7 +24,8 @@ pub struct ResolvedUse<'a> {
     pub meaning: IdlType,
 }
 
-/// All types that are written in a definition, with what they mean.
+/// The types that are written in a definition and may break a rule, with what they mean. Most types break
+/// none, as is seen without that.
 ///
 /// # Errors
 ///
@@ -30,14 +35,80 @@ pub fn resolve_uses<'a>(
     resolver: &Resolver<'_, '_, 'a>,
     kind: &'a DefinitionKind,
 ) -> Result<Vec<ResolvedUse<'a>>, AllocError>
-    ensures { IfOk result (λ list. map resolved_use list.items ≡ map (with_meaning (plain_definitions resolver.now)) (uses_in_definition (definition_kind_of kind.now))) }
+    ensures { IfOk result (λ list. map resolved_use list.items ≡ map (with_meaning (plain_definitions resolver.now)) (filter is_asked (uses_in_definition (definition_kind_of kind.now)))) }
 {
     let uses = list_type_uses(alloc, kind)?;
     let mut resolved = Vec::new(alloc);
     for written in uses.iter() {
-        resolved.push(resolve_use(alloc, resolver, written)?)?;
+        if !is_settled(written) {
+            resolved.push(resolve_use(alloc, resolver, written)?)?;
+        }
     }
     Ok(resolved)
+}
+
+/// Whether a type breaks no rule on types, whatever else is written: it is one word that no rule speaks of,
+/// with no annotation and no `?`.
+fn is_settled(written: &TypeUse<'_>) -> bool
+    ensures { result ≡ is_settled (use_of written.now) }
+{
+    !is_constant(written.role)
+        && are_none(written.outer, written.own)
+        && is_settled_type(written.role, written.ty)
+}
+
+/// Whether there are no extended attributes.
+fn are_none(outer: &[ExtendedAttribute], own: &[ExtendedAttribute]) -> bool
+    ensures { result ≡ are_none (map attribute_of outer.now ++ map attribute_of own.now) }
+{
+    if outer.is_empty() {
+        own.is_empty()
+    } else {
+        false
+    }
+}
+
+fn is_constant(role: TypeRole) -> bool
+    ensures { result ≡ is_constant_role role }
+{
+    matches!(role, TypeRole::Constant)
+}
+
+fn is_settled_type(role: TypeRole, ty: &WrittenType) -> bool
+    ensures { result ≡ is_settled_type role (type_of ty.now) }
+{
+    match ty.question {
+        None => is_settled_form(role, &ty.form),
+        Some(_) => false,
+    }
+}
+
+fn is_settled_form(role: TypeRole, form: &TypeForm) -> bool
+    ensures { result ≡ is_settled_form role (form_term form.now) }
+{
+    match form {
+        TypeForm::Any
+        | TypeForm::Boolean
+        | TypeForm::Object
+        | TypeForm::Integer(_)
+        | TypeForm::Text(_) => true,
+        TypeForm::Undefined => takes_undefined(role),
+        TypeForm::Symbol
+        | TypeForm::BigInt
+        | TypeForm::Float(_)
+        | TypeForm::Buffer(_)
+        | TypeForm::Named(_)
+        | TypeForm::Container(_, _)
+        | TypeForm::Record(_, _)
+        | TypeForm::Promise(_)
+        | TypeForm::Union(_) => false,
+    }
+}
+
+fn takes_undefined(role: TypeRole) -> bool
+    ensures { result ≡ takes_undefined role }
+{
+    matches!(role, TypeRole::Returned | TypeRole::Promised)
 }
 
 /// One of these types with what it means.

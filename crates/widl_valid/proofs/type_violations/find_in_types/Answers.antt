@@ -1,7 +1,9 @@
 use Rattle.std.proofs.Common.{map, arith, ap, subst, ◌∙◌}
+use Rattle.std.specs.Prelude.{filter}
 use Rattle.widl_idl.specs.PlainTrees.{definition_of, plain_definitions}
 use Rattle.widl_names.proofs.PlainLists.{listed_same}
 use Rattle.widl_overload.specs.TypeUses.{uses_in_definition}
+use Rattle.widl_valid.specs.SettledUses.{is_asked}
 use Rattle.widl_valid.specs.TypeViolations.{AreTypeViolations}
 use Rattle.widl_valid.specs.UsesListed.{resolved_use, with_meaning}
 use Rattle.widl_valid.proofs.TypeViolations.{no_types, types_all, types_step}
@@ -14,7 +16,7 @@ pub loop-definition-preserved : goal.loop-definition-preserved
 loop-definition-preserved c =
     let definitions = plain_definitions c.args.meanings.now in (
       types_step c.args.defs.now.ifaces definitions c.all-definitions.result.now c.loop-definition.definition-index c.definition-item.result (map resolved_use c.as_slice-uses.result.now) c.loop-definition.best c.in_ok-found.found c.earlier_violations-best.result (omega arith) c.definition-item.is c.earlier_violations-best.ensures
-          (ap (map resolved_use) c.as_slice-uses.ensures.value ∙ c.in_ok-resolved.ensures ∙ ap (λ ds. map (with_meaning (plain_definitions ds)) (uses_in_definition (definition_of c.definition-item.result.now).kind)) c.requires.same)
+          (ap (map resolved_use) c.as_slice-uses.ensures.value ∙ c.in_ok-resolved.ensures ∙ ap (λ ds. map (with_meaning (plain_definitions ds)) (filter is_asked (uses_in_definition (definition_of c.definition-item.result.now).kind))) c.requires.same)
           (subst (λ ds. AreTypeViolations c.args.defs.now.ifaces (plain_definitions ds) (map resolved_use c.as_slice-uses.result.now) c.in_ok-found.found) c.requires.same c.in_ok-found.ensures)
           c.loop-definition.invariant.0,
       c.loop-definition.invariant.1,
