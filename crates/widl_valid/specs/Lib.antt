@@ -1,5 +1,6 @@
 pub mod UsesListed
 pub mod SettledUses
+pub mod ApartMembers
 pub mod WrittenLists
 pub mod KnownTexts
 pub mod MemberTables

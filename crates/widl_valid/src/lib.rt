@@ -6,6 +6,7 @@
 
 mod acceptance;
 mod annotation_rules;
+mod apart_members;
 mod argument_rules;
 mod clamp_rules;
 mod constant_values;

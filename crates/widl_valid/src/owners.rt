@@ -1,13 +1,15 @@
 //! The rules on the members of interfaces and namespaces in merged order.
 
-ghost use Rattle.std.specs.Prelude.{◌≡◌, true, Some, option_map, slice_get, IfOk};
-ghost use Rattle.widl_idl.specs.First.{FirstWhere};
+ghost use Rattle.std.specs.Prelude.{◌≡◌, true, List, None, Some, option_map, slice_get, IfOk};
+ghost use Rattle.widl_idl.specs.First.{AtOne, FirstWhere};
 ghost use Rattle.widl_idl.specs.Meanings.{kind_of};
-ghost use Rattle.widl_idl.specs.PlainTrees.{definition_kind_of, plain_definitions};
+ghost use Rattle.widl_idl.specs.PlainTrees.{PlainDefinition, definition_kind_of, plain_definitions};
 ghost use Rattle.widl_overload.specs.MemberRules.{HasKeptName, IsSecondStringifier, has_members_of_its_own, is_interface_kind};
 ghost use Rattle.widl_names.specs.Listings.{listed_members};
+ghost use Rattle.widl_valid.specs.ApartMembers.{SharesLabel};
 ghost use Rattle.widl_valid.specs.Owners.{AreMemberViolations, AreViolations, InMembers, InOwner, is_owner, earlier_violations, no_violations};
 
+use crate::apart_members::are_apart;
 use crate::kept_names::first_kept_name;
 use crate::overload_counts::first_overload_past_limit;
 use crate::promise_overloads::first_mixing_promises;
@@ -117,6 +119,9 @@ fn find_in_members<'a>(
     requires { has_members_of_its_own kind ≡ true }
     ensures { IfOk result (λ violations. AreViolations (InMembers kind (listed_members members.now)) (plain_definitions resolver.now) violations) }
 {
+    if are_apart(members) {
+        return Ok(find_in_apart(kind, members));
+    }
     let repeated = first_repeated_member(alloc, members)?;
     let overload = first_overload_past_limit(alloc, members)?;
     let promise = first_mixing_promises(alloc, resolver, members)?;
@@ -127,6 +132,21 @@ fn find_in_members<'a>(
         promise,
         stringifier: find_stringifier(kind, members),
     })
+}
+
+/// The same among members of which none has the name of an earlier one.
+fn find_in_apart(kind: Kind, members: &[&Member]) -> MemberViolations
+    requires kind { has_members_of_its_own kind ≡ true }
+    requires apart { FirstWhere (AtOne SharesLabel (listed_members members.now)) None }
+    ensures { (definitions : List PlainDefinition) → AreViolations (InMembers kind (listed_members members.now)) definitions result }
+{
+    MemberViolations {
+        repeated: None,
+        kept_name: find_kept_name(kind, members),
+        overload: None,
+        promise: None,
+        stringifier: find_stringifier(kind, members),
+    }
 }
 
 /// The first place of a name that a static member or a constant of an interface may not have.

@@ -4,6 +4,9 @@ use Rattle.widl_names.specs.Listings.{listed_members}
 use Rattle.widl_valid.proofs.OwnerViolations.{asked_first}
 use Rattle.widl_valid.proofs.owners.find_in_members.Goals as goal
 
+pub returns-then-are_apart : goal.returns-then-are_apart
+returns-then-are_apart c = c.find_in_apart.ensures (plain_definitions c.args.resolver.now)
+
 pub returns : goal.returns
 returns c =
     let members = listed_members c.args.members.now in
