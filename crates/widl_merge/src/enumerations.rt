@@ -30,7 +30,7 @@ pub fn enumeration_meant(alloc: Global, enumeration: &Enumeration) -> Result<Cho
 fn texts_of(alloc: Global, values: &[EnumerationValue]) -> Result<Texts, AllocError>
     ensures { IfOk result (λ texts. texts ≡ texts_of values.now) }
 {
-    let mut texts = Items::new(alloc);
+    let mut texts = Items::with_room(alloc, values.len())?;
     for value in values {
         texts.push(Units::of_str(alloc, value.text.as_str())?)?;
     }

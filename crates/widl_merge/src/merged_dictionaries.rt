@@ -55,7 +55,7 @@ fn members_meant<'a>(
 ) -> Result<Members, AllocError>
     ensures { IfOk result (λ members. map member_term members ≡ map (merged.member_of (plain_definitions resolver.now)) (map (λ m. dictionary_member_of m.now) list.now)) }
 {
-    let mut members = Members::new(alloc);
+    let mut members = Members::with_room(alloc, list.len())?;
     for member in list {
         let meant = dictionary_member_meant(alloc, resolver, steps, member)?;
         members.push(meant)?;

@@ -43,6 +43,42 @@ pub struct MergedMembers {
     pub order: Slots,
 }
 
+/// How many members of each kind there are. Room is made by it.
+#[derive(Clone, Copy)]
+struct MemberCounts {
+    constructors: usize,
+    operations: usize,
+    attributes: usize,
+    constants: usize,
+    all: usize,
+}
+
+impl MemberCounts {
+    fn of(members: &[&Member]) -> MemberCounts {
+        let mut counts = MemberCounts {
+            constructors: 0,
+            operations: 0,
+            attributes: 0,
+            constants: 0,
+            all: members.len(),
+        };
+        for member in members {
+            counts.add(&member.kind);
+        }
+        counts
+    }
+
+    fn add(&mut self, kind: &MemberKind) {
+        match kind {
+            MemberKind::Constructor(_) => self.constructors = self.constructors.saturating_add(1),
+            MemberKind::Operation(_) => self.operations = self.operations.saturating_add(1),
+            MemberKind::Attribute(_) => self.attributes = self.attributes.saturating_add(1),
+            MemberKind::Constant(_) => self.constants = self.constants.saturating_add(1),
+            _ => {}
+        }
+    }
+}
+
 /// Puts members together that stand in merged order.
 ///
 /// # Errors
@@ -59,7 +95,7 @@ pub fn put_together<'a>(
     requires { length members.now < 2 ^ 32 }
     ensures { IfOk result (λ m. ArePutTogether (plain_definitions resolver.now) (listed_members members.now) m) }
 {
-    let mut merged = MergedMembers::new(alloc);
+    let mut merged = MergedMembers::with_room(alloc, &MemberCounts::of(members))?;
     let mut numbers = OperationNumbers::new(alloc);
     for member in members {
         merged.add(alloc, resolver, steps, texts, &mut numbers, *member)?;
@@ -68,19 +104,19 @@ pub fn put_together<'a>(
 }
 
 impl MergedMembers {
-    /// No members.
-    fn new(alloc: Global) -> MergedMembers
-        ensures { result ≡ record { ctors = []; ops = []; attrs = []; consts = []; text = Stringify.No; pairs = None; order = [] } }
+    /// No members, with room for so many.
+    fn with_room(alloc: Global, counts: &MemberCounts) -> Result<MergedMembers, AllocError>
+        ensures { IfOk result (λ merged. merged ≡ record { ctors = []; ops = []; attrs = []; consts = []; text = Stringify.No; pairs = None; order = [] }) }
     {
-        MergedMembers {
-            ctors: Items::new(alloc),
-            ops: Items::new(alloc),
-            attrs: Items::new(alloc),
-            consts: Items::new(alloc),
+        Ok(MergedMembers {
+            ctors: Items::with_room(alloc, counts.constructors)?,
+            ops: Items::with_room(alloc, counts.operations)?,
+            attrs: Items::with_room(alloc, counts.attributes)?,
+            consts: Items::with_room(alloc, counts.constants)?,
             text: Stringify::No,
             pairs: None,
-            order: Items::new(alloc),
-        }
+            order: Items::with_room(alloc, counts.all)?,
+        })
     }
 
     /// Adds a member. An asynchronous iterable, a maplike and a setlike are no members of the list.

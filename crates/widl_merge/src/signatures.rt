@@ -94,7 +94,7 @@ pub fn args_meant<'a>(
 ) -> Result<Args, AllocError>
     ensures { IfOk result (λ args. map arg_term args ≡ map (arg_of (plain_definitions resolver.now)) (arguments_of arguments.now)) }
 {
-    let mut args = Args::new(alloc);
+    let mut args = Args::with_room(alloc, arguments.len())?;
     for argument in arguments {
         let arg = arg_meant(alloc, resolver, steps, texts, argument)?;
         args.push(arg)?;

@@ -31,6 +31,7 @@ pub fn list_members<'a>(
 fn add_members<'a>(list: &mut Vec<&'a Member>, members: &'a [Member]) -> Result<(), AllocError>
     ensures { OnOk result (listed_members list.new.items ≡ listed_members list.old.items ++ members_of members.now) }
 {
+    list.reserve(members.len())?;
     for member in members {
         list.push(member)?;
     }

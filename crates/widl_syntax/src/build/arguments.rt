@@ -31,10 +31,11 @@ impl<'t, 's> Reader<'t, 's> {
     fn argument_list(&mut self) -> Result<Arguments, AllocError>
         ensures { IfOk result (λ arguments. Reads (part rule.ArgumentList) (separated terminal.Comma argument arguments) self.old self.new) }
     {
-        let mut arguments = Arguments::new(self.alloc());
         if self.is_ahead(Terminal::CloseParen) {
-            return Ok(arguments);
+            return Ok(Arguments::new(self.alloc()));
         }
+        let commas = self.separators_ahead(Terminal::Comma, Terminal::CloseParen);
+        let mut arguments = Arguments::with_room(self.alloc(), commas.saturating_add(1))?;
         arguments.push(self.argument()?)?;
         self.more_arguments(&mut arguments)?;
         Ok(arguments)

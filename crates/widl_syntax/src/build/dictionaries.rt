@@ -61,7 +61,8 @@ impl<'t, 's> Reader<'t, 's> {
     fn dictionary_members(&mut self) -> Result<DictionaryMembers, AllocError>
         ensures { IfOk result (λ members. Reads (part rule.DictionaryMembers) (all_signs dictionary_member members) self.old self.new) }
     {
-        let mut members = DictionaryMembers::new(self.alloc());
+        let count = self.separators_ahead(Terminal::Semicolon, Terminal::CloseBrace);
+        let mut members = DictionaryMembers::with_room(self.alloc(), count)?;
         for _ in 0..self.left() {
             if self.is_ahead(Terminal::CloseBrace) {
                 break;

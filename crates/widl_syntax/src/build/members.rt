@@ -32,7 +32,8 @@ impl<'t, 's> Reader<'t, 's> {
     pub fn members(&mut self, list: MemberList) -> Result<Members, AllocError>
         ensures { IfOk result (λ members. Reads (part (members_rule list)) (all_signs member members) self.old self.new) }
     {
-        let mut members = Members::new(self.alloc());
+        let count = self.separators_ahead(Terminal::Semicolon, Terminal::CloseBrace);
+        let mut members = Members::with_room(self.alloc(), count)?;
         for _ in 0..self.left() {
             if self.is_ahead(Terminal::CloseBrace) {
                 break;

@@ -94,6 +94,31 @@ impl<'t, 's> Reader<'t, 's> {
         is_same(self.ahead, terminal)
     }
 
+    /// How many of these separators stand outside of brackets before the terminal that ends a list. Room for the
+    /// list's items is made by it.
+    pub fn separators_ahead(&self, separator: Terminal, end: Terminal) -> usize {
+        let mut depth: usize = 0;
+        let mut separators: usize = 0;
+        for number in self.next..self.terminals.len() {
+            let terminal = self.terminals[number];
+            if depth == 0 && is_same(terminal, end) {
+                break;
+            }
+            match terminal {
+                Terminal::OpenParen | Terminal::OpenBracket | Terminal::OpenBrace => {
+                    depth = depth.saturating_add(1);
+                }
+                Terminal::CloseParen | Terminal::CloseBracket | Terminal::CloseBrace => {
+                    depth = depth.saturating_sub(1);
+                }
+                _ => if depth == 0 && is_same(terminal, separator) {
+                    separators = separators.saturating_add(1);
+                },
+            }
+        }
+        separators
+    }
+
     /// How many tokens are left.
     pub fn left(&self) -> usize
         ensures { result ≡ length self.now }

@@ -9,7 +9,7 @@ use Rattle.widl_names.specs.Listings.{listed_members}
 pub loop-member-init : goal.loop-member-init
 loop-member-init c =
     let number = number_named c.new-numbers.result.regular c.new-numbers.result.fixed in
-    subst (λ m. Gathered (plain_definitions c.args.resolver.now) [] m number) (sym c.new-merged.ensures) (gathered_none (plain_definitions c.args.resolver.now) number c.new-numbers.ensures)
+    subst (λ m. Gathered (plain_definitions c.args.resolver.now) [] m number) (sym c.in_ok-merged.ensures) (gathered_none (plain_definitions c.args.resolver.now) number c.new-numbers.ensures)
 
 pub add-requires : goal.add-requires
 add-requires c =

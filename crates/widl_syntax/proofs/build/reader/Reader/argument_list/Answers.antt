@@ -10,11 +10,11 @@ use Rattle.widl_syntax.proofs.build.reader.Reader.argument_list.Goals as goal
 
 pub returns-then-is_ahead : goal.returns-then-is_ahead
 returns-then-is_ahead c =
-    subst (λ arguments. Reads (part rule.ArgumentList) (separated terminal.Comma argument arguments) c.args.self.now c.args.self.now) (sym c.new-arguments.ensures)
+    subst (λ arguments. Reads (part rule.ArgumentList) (separated terminal.Comma argument arguments) c.args.self.now c.args.self.now) (sym c.new.ensures)
     (by_row rule.ArgumentList terminal.CloseParen (c.is_ahead.ensures.yes c.if-is_ahead.true) refl refl nothing)
 
 pub returns : goal.returns
 returns c =
-    let one : c.push.new.self ≡ c.in_ok-argument.field-0 ∷ [] = c.in_ok-push.ensures.ok ∙ ap (λ l. l ++ c.in_ok-argument.field-0 ∷ []) c.new-arguments.ensures in
+    let one : c.push.new.self ≡ c.in_ok-argument.field-0 ∷ [] = c.in_ok-push.ensures.ok ∙ ap (λ l. l ++ c.in_ok-argument.field-0 ∷ []) c.in_ok-arguments.ensures in
     by_rest rule.ArgumentList (terminal.CloseParen ∷ []) 0 refl refl (other_than terminal.CloseParen _ (c.is_ahead.ensures.no c.if-is_ahead.false))
     (separated_items terminal.Comma one c.in_ok-argument.ensures c.in_ok-more_arguments.ensures)
