@@ -134,6 +134,10 @@ impl Units {
         ensures { IfOk result (λ units. units ≡ utf16_of (chars text.now)) }
     {
         // Names are mostly ASCII, whose characters are one byte and one unit each.
+        if text.is_ascii() {
+            let ascii = Units::of_ascii(alloc, text)?;
+            return Ok(ascii);
+        }
         let mut items = Vec::with_capacity(alloc, text.len())?;
         for character in text.chars() {
             push_character(&mut items, character)?;
@@ -165,7 +169,7 @@ impl Units {
     {
         let mut items = Vec::with_capacity(alloc, bytes.len())?;
         for byte in bytes {
-            items.push(u16::from(*byte))?;
+            items.push_reserved(u16::from(*byte));
         }
         of_items(items)
     }

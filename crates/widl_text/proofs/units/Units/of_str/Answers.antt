@@ -1,10 +1,12 @@
-use Rattle.std.proofs.Common.{◌≡◌, ℕ, ◌+◌, ◌<◌, List, [], ◌++◌, length, get_or, drop, sym, ap, ◌∙◌, arith, append_assoc, append-nil}
+use Rattle.std.proofs.Common.{◌≡◌, ℕ, ◌+◌, ◌<◌, List, [], ◌++◌, length, get_or, drop, sym, ap, subst, ◌∙◌, arith, append_assoc, append-nil}
 use Rattle.std.proofs.lemmas.Iterator.{YieldsList-from_chars}
 use Rattle.std.proofs.lemmas.List.{at_drop_more, at_drop_all, length_push}
 use Rattle.std.proofs.lemmas.Iterator.Consumers.{YieldsList-turn, YieldsList-end}
-use Rattle.std.specs.Str.{chars}
+use Rattle.std.specs.Prelude.{MatchBool}
+use Rattle.std.specs.Str.{chars, IsAscii, IsNotAscii}
 use Rattle.std.specs.Char.Escape.{encode_utf16}
 use Rattle.widl_text.specs.Utf16.{utf16_of}
+use Rattle.widl_text.proofs.AsciiTexts.{units_of_ascii}
 use Rattle.widl_text.proofs.units.Units.of_str.Goals as goal
 
 utf16_of-drop : (cs : List ℕ) (n c : ℕ) → (n < length cs) × (c ≡ get_or cs n c) → utf16_of (drop n cs) ≡ encode_utf16 c ++ utf16_of (drop (n + 1) cs)
@@ -22,6 +24,11 @@ one_more cs done now n m c h next added whole =
 
 all_done : (cs done : List ℕ) (n : ℕ) → utf16_of (drop n cs) ≡ [] → done ++ utf16_of (drop n cs) ≡ utf16_of cs → done ≡ utf16_of cs
 all_done cs done n none whole = sym (append-nil done) ∙ ap (λ l. done ++ l) (sym none) ∙ whole
+
+pub returns-then-is_ascii : goal.returns-then-is_ascii
+returns-then-is_ascii c =
+    let are = subst (λ b. MatchBool b (IsAscii c.args.text.now) (IsNotAscii c.args.text.now)) c.if-is_ascii.true c.is_ascii.ensures.cases in
+    c.in_ok-ascii.ensures ∙ sym (units_of_ascii c.args.text.now are)
 
 pub loop-character-preserved : goal.loop-character-preserved
 loop-character-preserved c =
