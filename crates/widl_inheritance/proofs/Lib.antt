@@ -20,7 +20,6 @@ pub mod Keeping
 pub mod Inheriting
 pub mod NumberedMembers
 pub mod MemberFlags
-pub mod ParentGraphs
 pub mod FlagSteps
 pub mod IterationSteps
 pub mod BrokenInterfaces

@@ -17,10 +17,10 @@ ghost use Rattle.widl_inheritance.specs.HoldingGraph.{AreHoldings, AreWithin, Is
 ghost use Rattle.widl_overload.specs.Dictionaries.{dictionaries_in, dictionaries_in_all, dictionaries_of_members};
 ghost use Rattle.widl_overload.specs.DictionaryRules.{HoldsItself};
 
-use crate::parent_graph::add_linked;
 use std::alloc::{AllocError, Global};
 use widl_graph::{Graph, Walk};
 use widl_idl::{Dict, IdlType, Violation, earlier_violation};
+use widl_names::add_linked;
 
 /// Which dictionaries stand in the types of the members of which.
 #[derive(Drop)]

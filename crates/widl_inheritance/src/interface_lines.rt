@@ -9,11 +9,10 @@ ghost use Rattle.widl_overload.specs.IterableRules.{has_iterable, has_iteration_
 
 use crate::interface_members::interface_members;
 use crate::iterations::{has_iterable, has_iteration_name};
-use crate::parent_graph::parent_graph;
 use crate::reached_flags::flags_reached;
 use std::alloc::{AllocError, Global};
 use widl_graph::Walk;
-use widl_names::{Meanings, Parts};
+use widl_names::{Meanings, Parts, parent_graph};
 
 /// Flags of interfaces, by the numbers of their definitions.
 #[derive(Drop)]

@@ -20,7 +20,6 @@ mod iterations;
 pub mod laws;
 mod long_chains;
 mod member_names;
-mod parent_graph;
 mod reached_flags;
 mod span_walk;
 mod spans;

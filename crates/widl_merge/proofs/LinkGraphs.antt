@@ -1,41 +1,21 @@
 -- The links between definitions as graphs: what each leads to is a definition.
-use Rattle.std.proofs.Common.{◌≡◌, inl, inr, ℕ, ◌+◌, ◌<◌, ◌≤◌, ◌++◌, Bool, true, false, cond, zero, suc, List, [], ◌∷◌, length, take, map, get_or, Option, None, Some, option_map, arith, refl, sym, ap, subst, ◌∙◌, length-append}
+use Rattle.std.proofs.Common.{◌≡◌, inl, inr, ℕ, ◌<◌, ◌++◌, cond, List, [], ◌∷◌, length, Option, None, Some, option_map, refl, sym, ap, ◌∙◌}
 use Rattle.std.specs.Prelude.{option_to_list}
 use Rattle.std.specs.List.{Contains, flat_map}
-use Rattle.std.proofs.lemmas.List.{length-map, take_more, take_all, take-map, map-append}
 use Rattle.std.proofs.lemmas.Grind.{flat_map-append}
 use Rattle.std.proofs.lemmas.List.Elements.{Contains-append_cases}
 use Rattle.widl_names.proofs.NameMeanings.{meaning_below}
-use Rattle.widl_graph.specs.Lists.{with_successor}
-use Rattle.widl_graph.specs.Reaching.{AreNodes, Step}
-use Rattle.widl_graph.proofs.Building.{with_successor-append}
-use Rattle.widl_idl.specs.declared.kind.Kind.{Kind}
+use Rattle.widl_names.proofs.ParentGraphs.{AllBelow, links_within, none_in, none_listed, one_in}
+use Rattle.widl_graph.specs.Reaching.{AreNodes}
 use Rattle.widl_idl.specs.declared.kind.Kind.TheVariants as kinds
 use Rattle.widl_idl.specs.declared.tree.types.AnnotatedType.{AnnotatedType}
-use Rattle.widl_idl.specs.Meanings.{meaning, meant, meant_kind, kind_of, same_kind}
-use Rattle.widl_idl.specs.MergingRules.{is_kind, parent_links, parent_numbers, parent_of, number_of_kind}
+use Rattle.widl_idl.specs.Meanings.{meaning, meant, kind_of, same_kind}
+use Rattle.widl_idl.specs.MergingRules.{is_kind}
 use Rattle.widl_idl.specs.Nesting.{typedef_links, typedef_named, typedefs_in, number_if_typedef, annotated_names, union_names}
 use Rattle.widl_idl.specs.PlainTypes.{PlainName, annotated_of, union_of}
 use Rattle.widl_idl.specs.PlainTrees.{PlainDefinition, PlainKind, TypedefDefinition}
 
-some_is : {A : Type 0} {a b : A} → Some a ≡ Some b → a ≡ b
-some_is e = (cc)
-
-none_listed : (b : Bool) → option_to_list {X = ℕ} (cond b None None) ≡ []
-none_listed true = refl
-none_listed false = refl
-
-one_listed : (b : Bool) (n : ℕ) → option_to_list (cond b (Some n) None) ≡ cond b (n ∷ []) []
-one_listed true n = refl
-one_listed false n = refl
-
--- the number that a name means, where that is of the kind
-pub number_listed : (kind : Kind) (other : Option Kind) (number : Option ℕ) → option_to_list (cond (is_kind kind other) number None) ≡ number_of_kind kind other number
-number_listed kind None number = refl
-number_listed kind (Some other) None = none_listed (same_kind kind other)
-number_listed kind (Some other) (Some n) = one_listed (same_kind kind other) n
-
--- the same, where it is of a typedef
+-- the number that a name means, where that is of a typedef
 pub typedef_listed : (number : Option ℕ) (kind : Option PlainKind) → option_to_list (cond (is_kind kinds.Typedef (option_map kind_of kind)) number None) ≡ number_if_typedef number kind
 typedef_listed (Some n) (Some (TypedefDefinition d)) = refl
 typedef_listed (Some n) (Some kind) = refl
@@ -43,47 +23,7 @@ typedef_listed (Some n) None = refl
 typedef_listed None (Some kind) = none_listed (same_kind kinds.Typedef (kind_of kind))
 typedef_listed None None = refl
 
--- each number in the list is below the count
-abbrev AllBelow : ℕ → List ℕ → Type 0
-AllBelow count xs = (y : ℕ) → Contains xs y → y < count
-
-none_in : (count : ℕ) → AllBelow count []
-none_in count y c = absurd (let l = c.1 in omega arith)
-
-one_in : (count x : ℕ) → x < count → AllBelow count (x ∷ [])
-one_in count x l y c = by_place c.0 c.1 c.2
-  where
-    by_place : (k : ℕ) → k < length (x ∷ []) → get_or (x ∷ []) k y ≡ y → y < count
-    by_place zero below e = let same : x ≡ y = e in omega (arith, same, l)
-    by_place (suc k) below e = absurd (omega arith)
-
-module _ (f : PlainDefinition → List ℕ) (count : ℕ) (within : (d : PlainDefinition) → AllBelow count (f d)) where
-  each_below : (definitions : List PlainDefinition) (x y : ℕ) → Step (map f definitions) x y → y < count
-  each_below [] x y s = none_in count y s
-  each_below (d ∷ more) zero y s = within d y s
-  each_below (d ∷ more) (suc x) y s = each_below more x y s
-
--- links whose numbers are those of definitions are a graph
-links_within : (definitions : List PlainDefinition) (f : PlainDefinition → List ℕ) → ((d : PlainDefinition) → AllBelow (length definitions) (f d)) → AreNodes (map f definitions)
-links_within definitions f within = record { below = λ x y s. subst (λ n. y < n) (sym (length-map definitions f)) (each_below f (length definitions) within definitions x y s) }
-
 module _ (definitions : List PlainDefinition) where
-  by_kind : (kind : Kind) (other : Option Kind) (number : Option ℕ) → ((k : ℕ) → number ≡ Some k → k < length definitions) → AllBelow (length definitions) (number_of_kind kind other number)
-  by_kind kind None number l = none_in (length definitions)
-  by_kind kind (Some other) None l = none_in (length definitions)
-  by_kind kind (Some other) (Some k) l = by_case (same_kind kind other)
-    where
-      by_case : (b : Bool) → AllBelow (length definitions) (cond b (k ∷ []) [])
-      by_case true = one_in (length definitions) k (l k refl)
-      by_case false = none_in (length definitions)
-
-  parents_below : (kind : Kind) (name : Option PlainName) → AllBelow (length definitions) (parent_numbers definitions kind name)
-  parents_below kind None = none_in (length definitions)
-  parents_below kind (Some name) = by_kind kind (meant_kind definitions name.text) (meaning definitions name.text) (meaning_below definitions name.text)
-
-  pub parents_are_nodes : AreNodes (parent_links definitions)
-  parents_are_nodes = links_within definitions (λ d. parent_numbers definitions (kind_of d.kind) (parent_of d.kind)) (λ d. parents_below (kind_of d.kind) (parent_of d.kind))
-
   if_typedef : (number : Option ℕ) (kind : Option PlainKind) → ((k : ℕ) → number ≡ Some k → k < length definitions) → AllBelow (length definitions) (number_if_typedef number kind)
   if_typedef (Some k) (Some (TypedefDefinition d)) l = one_in (length definitions) k (l k refl)
   if_typedef number kind l = none_in (length definitions)
@@ -98,33 +38,6 @@ module _ (definitions : List PlainDefinition) where
 
   pub typedefs_are_nodes : AreNodes (typedef_links definitions)
   typedefs_are_nodes = links_within definitions (λ d. typedefs_in definitions d.kind) (λ d. typedefs_below d.kind)
-
--- the links of one definition more, as a loop over the definitions has it: xs is walked, and the links are those of ys
-module _ {X Y : Type 0} (f : X → Y) (xs : List X) (ys : List Y) (same : map f xs ≡ ys) (g : Y → List ℕ) where
-  seen : (n : ℕ) → take n ys ≡ map f (take n xs)
-  seen n = ap (take n) (sym same) ∙ take-map f n xs
-
-  pub links_more : (i : ℕ) (x : X) (old new : List (List ℕ)) → i < length xs → x ≡ get_or xs i x → new ≡ old ++ g (f x) ∷ [] → old ≡ map g (take i ys) → new ≡ map g (take (i + 1) ys)
-  links_more i x old new below is added so =
-      added ∙ ap (λ l. l ++ g (f x) ∷ []) (so ∙ ap (map g) (seen i)) ∙ sym (map-append g (map f (take i xs)) (f x ∷ []))
-      ∙ ap (map g) (sym (map-append f (take i xs) (x ∷ [])) ∙ ap (map f) (sym (take_more xs i x below ∙ ap (λ y. take i xs ++ y ∷ []) (sym is))) ∙ sym (seen (i + 1)))
-
-  pub links_all : (i : ℕ) (new : List (List ℕ)) → length xs ≤ i → new ≡ map g (take i ys) → new ≡ map g ys
-  links_all i new past so = so ∙ ap (map g) (take_all i ys (let size : length xs ≡ length ys = sym (length-map xs f) ∙ ap length same in omega (arith, size)))
-
--- one more successor of the last node, as a loop over them has it
-pub successor_more : (start : List (List ℕ)) (xs : List ℕ) (i x : ℕ) (old new : List (List ℕ)) → i < length xs → x ≡ get_or xs i x → new ≡ with_successor old x → old ≡ start ++ take i xs ∷ [] → new ≡ start ++ take (i + 1) xs ∷ []
-successor_more start xs i x old new below is added so =
-    added ∙ ap (λ g. with_successor g x) so ∙ with_successor-append start (take i xs) x
-    ∙ ap (λ l. start ++ l ∷ []) (sym (take_more xs i x below ∙ ap (λ y. take i xs ++ y ∷ []) (sym is)))
-
--- after the last successor
-pub successors_all : (start : List (List ℕ)) (xs : List ℕ) (i : ℕ) (new : List (List ℕ)) → length xs ≤ i → new ≡ start ++ take i xs ∷ [] → new ≡ start ++ xs ∷ []
-successors_all start xs i new past so = so ∙ ap (λ l. start ++ l ∷ []) (take_all i xs past)
-
--- a graph with one more node has nodes
-pub has_last : (start : List (List ℕ)) (last : List ℕ) (graph : List (List ℕ)) → graph ≡ start ++ last ∷ [] → 0 < length graph
-has_last start last graph so = let size : length graph ≡ length start + length (last ∷ []) = ap length so ∙ length-append start (last ∷ []) in omega (arith, size)
 
 -- what the names in a union's members give, as a loop over the members has it
 pub union_named : (g : PlainName → List ℕ) (members : List AnnotatedType) → flat_map (λ m. flat_map g (annotated_names (annotated_of m))) members ≡ flat_map g (union_names (union_of members))

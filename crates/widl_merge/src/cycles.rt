@@ -1,6 +1,6 @@
 //! Definitions that links between them lead back to.
 
-ghost use Rattle.std.specs.Prelude.{◌≡◌, ◌↔◌, ◌++◌, ◌∷◌, [], ℕ, List, IsTrue, OnOk, Some, slice_get, true};
+ghost use Rattle.std.specs.Prelude.{◌≡◌, ◌↔◌, ℕ, List, IsTrue, Some, slice_get, true};
 ghost use Rattle.widl_graph.specs.Reaching.{TellsCyclic};
 ghost use Rattle.widl_idl.specs.First.{FirstWhere};
 ghost use Rattle.widl_idl.specs.MergingRules.{ComesBack};
@@ -8,8 +8,6 @@ ghost use Rattle.widl_idl.specs.PlainTrees.{definition_of};
 ghost use Rattle.widl_merge.specs.Links.{Returns};
 ghost use Rattle.widl_names.specs.Listings.{listed_definitions};
 
-use std::alloc::AllocError;
-use widl_graph::Graph;
 use widl_idl::tree::Definition;
 use widl_idl::{Violation, earlier_violation};
 use widl_names::name_declared;
@@ -49,15 +47,4 @@ pub fn is_set(flags: &[bool], number: usize) -> bool
         None => false,
         Some(flag) => *flag,
     }
-}
-
-/// Adds a definition with those that it leads to.
-pub fn add_linked(graph: &mut Graph, successors: &[usize]) -> Result<(), AllocError>
-    ensures { OnOk result (graph.new ≡ graph.old ++ successors.now ∷ []) }
-{
-    graph.add_node()?;
-    for successor in successors {
-        graph.add_successor(*successor)?;
-    }
-    Ok(())
 }

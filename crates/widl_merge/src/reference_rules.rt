@@ -4,14 +4,14 @@ ghost use Rattle.std.specs.Prelude.{◌≡◌, ◌↔◌, Some, IsTrue, option_m
 ghost use Rattle.widl_idl.specs.declared.merging_rule.MergingRule.TheVariants as rule;
 ghost use Rattle.widl_idl.specs.First.{FirstWhere};
 ghost use Rattle.widl_idl.specs.Meanings.{meant_kind};
-ghost use Rattle.widl_idl.specs.MergingRules.{BreaksMerging, included, included_into, parent_of};
+ghost use Rattle.widl_idl.specs.MergingRules.{BreaksMerging, included, included_into};
 ghost use Rattle.widl_idl.specs.PlainTrees.{definition_kind_of, plain_definitions};
 ghost use Rattle.widl_idl.specs.PlainTypes.{name_of};
 ghost use Rattle.widl_merge.specs.NameRules.{MeansOther};
 
 use widl_idl::tree::{DefinitionKind, Name};
 use widl_idl::{Kind, Violation, earlier_violation};
-use widl_names::{Meanings, kind_of, partial_name};
+use widl_names::{Meanings, kind_of, parent_of, partial_name};
 
 /// The first place of a partial definition's name that means no definition of its kind.
 pub fn first_partial_without_main(meanings: &Meanings<'_, '_>) -> Option<Violation>
@@ -107,17 +107,6 @@ pub fn included<'a>(definition: &'a DefinitionKind) -> Option<&'a Name>
 {
     match definition {
         DefinitionKind::Includes(includes) => Some(&includes.mixin),
-        _ => None,
-    }
-}
-
-/// The name after the colon.
-pub fn parent_of<'a>(definition: &'a DefinitionKind) -> Option<&'a Name>
-    ensures { option_map (λ name. name_of name.now) result ≡ parent_of (definition_kind_of definition.now) }
-{
-    match definition {
-        DefinitionKind::Interface(interface) => interface.parent.as_ref(),
-        DefinitionKind::Dictionary(dictionary) => dictionary.parent.as_ref(),
         _ => None,
     }
 }

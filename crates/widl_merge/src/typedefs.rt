@@ -10,12 +10,12 @@ ghost use Rattle.widl_idl.specs.PlainTrees.{definition_kind_of, plain_definition
 ghost use Rattle.widl_idl.specs.PlainTypes.{name_of, form_term, type_of, annotated_of, union_of};
 ghost use Rattle.widl_merge.specs.Links.{IsWalk};
 
-use crate::cycles::{add_linked, first_coming_back};
+use crate::cycles::first_coming_back;
 use std::alloc::{AllocError, Global};
 use widl_graph::{Graph, Walk};
 use widl_idl::tree::{AnnotatedType, DefinitionKind, Name, TypeForm, WrittenType};
 use widl_idl::{Kind, Violation};
-use widl_names::{Meanings, number_meant};
+use widl_names::{Meanings, add_linked, number_meant};
 
 /// The first place of the name of a typedef that reaches itself.
 pub fn first_typedef_reaching_itself(meanings: &Meanings<'_, '_>, walk: &Walk) -> Option<Violation>

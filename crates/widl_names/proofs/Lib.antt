@@ -13,3 +13,4 @@ pub mod TypeUses
 pub mod Heights
 pub mod TypedefEnds
 pub mod TypedefLinks
+pub mod ParentGraphs

@@ -3,7 +3,7 @@ use Rattle.widl_graph.specs.Reaching.{AreNodes, TellsCyclic}
 use Rattle.widl_idl.specs.First.{FirstWhere}
 use Rattle.widl_idl.specs.MergingRules.{ComesBack, parent_links}
 use Rattle.widl_idl.specs.PlainTrees.{plain_definitions}
-use Rattle.widl_merge.proofs.LinkGraphs.{parents_are_nodes}
+use Rattle.widl_names.proofs.ParentGraphs.{parents_are_nodes}
 use Rattle.widl_names.proofs.NameMeanings.{all_plain}
 use Rattle.widl_merge.proofs.parents.first_inheriting_from_itself.Goals as goal
 

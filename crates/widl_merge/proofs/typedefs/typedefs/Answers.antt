@@ -1,7 +1,7 @@
 use Rattle.std.proofs.Common.{arith, ◌++◌, ◌∷◌, [], ap, ◌∙◌}
 use Rattle.widl_idl.specs.Nesting.{typedefs_in}
 use Rattle.widl_idl.specs.PlainTrees.{definition_of, plain_definitions}
-use Rattle.widl_merge.proofs.LinkGraphs.{links_more, links_all}
+use Rattle.widl_names.proofs.ParentGraphs.{links_more, links_all}
 use Rattle.widl_names.proofs.NameMeanings.{all_plain}
 use Rattle.widl_merge.proofs.typedefs.typedefs.Goals as goal
 

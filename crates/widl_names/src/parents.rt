@@ -6,11 +6,13 @@ ghost use Rattle.widl_idl.specs.MergingRules.{number_of_kind, parent_links, pare
 ghost use Rattle.widl_idl.specs.PlainTrees.{definition_kind_of, plain_definitions};
 ghost use Rattle.widl_idl.specs.PlainTypes.{name_of};
 
+use crate::meanings::Meanings;
+use crate::meant::number_meant;
+use crate::names::kind_of;
 use std::alloc::{AllocError, Global};
 use widl_graph::Graph;
 use widl_idl::Kind;
 use widl_idl::tree::{DefinitionKind, Name};
-use widl_names::{Meanings, kind_of};
 
 /// For each definition its parent, if it has one of the same kind.
 ///
@@ -71,18 +73,11 @@ fn parent_number(meanings: &Meanings<'_, '_>, definition: &DefinitionKind) -> Op
 fn number_of_kind(meanings: &Meanings<'_, '_>, kind: Kind, text: &str) -> Option<usize>
     ensures { option_to_list result ≡ number_of_kind kind (meant_kind (plain_definitions meanings.now) text.now) (meaning (plain_definitions meanings.now) text.now) }
 {
-    match meanings.kind(text) {
-        None => None,
-        Some(other) => if kind == other {
-            meanings.number(text)
-        } else {
-            None
-        },
-    }
+    number_meant(meanings, text, kind)
 }
 
 /// The name after the colon.
-fn parent_of<'a>(definition: &'a DefinitionKind) -> Option<&'a Name>
+pub fn parent_of<'a>(definition: &'a DefinitionKind) -> Option<&'a Name>
     ensures { option_map (λ name. name_of name.now) result ≡ parent_of (definition_kind_of definition.now) }
 {
     match definition {

@@ -1,5 +1,6 @@
 -- The graph of parents: what each definition leads to is a definition.
 use Rattle.std.proofs.Common.{◌≡◌, ℕ, ◌+◌, ◌<◌, ◌≤◌, ◌++◌, Bool, true, false, cond, zero, suc, List, [], ◌∷◌, length, take, map, get_or, Option, None, Some, arith, refl, sym, ap, subst, ◌∙◌, length-append}
+use Rattle.std.specs.Prelude.{option_to_list}
 use Rattle.std.specs.List.{Contains}
 use Rattle.std.proofs.lemmas.List.{length-map, take_more, take_all, take-map, map-append}
 use Rattle.widl_graph.specs.Lists.{with_successor}
@@ -7,19 +8,33 @@ use Rattle.widl_graph.specs.Reaching.{AreNodes, Step}
 use Rattle.widl_graph.proofs.Building.{with_successor-append}
 use Rattle.widl_idl.specs.declared.kind.Kind.{Kind}
 use Rattle.widl_idl.specs.Meanings.{kind_of, meaning, meant_kind, same_kind}
-use Rattle.widl_idl.specs.MergingRules.{number_of_kind, parent_links, parent_numbers, parent_of}
+use Rattle.widl_idl.specs.MergingRules.{is_kind, number_of_kind, parent_links, parent_numbers, parent_of}
 use Rattle.widl_idl.specs.PlainTypes.{PlainName}
 use Rattle.widl_idl.specs.PlainTrees.{PlainDefinition}
 use Rattle.widl_names.proofs.NameMeanings.{meaning_below}
 
+pub none_listed : (b : Bool) → option_to_list {X = ℕ} (cond b None None) ≡ []
+none_listed true = refl
+none_listed false = refl
+
+one_listed : (b : Bool) (n : ℕ) → option_to_list (cond b (Some n) None) ≡ cond b (n ∷ []) []
+one_listed true n = refl
+one_listed false n = refl
+
+-- the number that a name means, where that is of the kind
+pub number_listed : (kind : Kind) (other : Option Kind) (number : Option ℕ) → option_to_list (cond (is_kind kind other) number None) ≡ number_of_kind kind other number
+number_listed kind None number = refl
+number_listed kind (Some other) None = none_listed (same_kind kind other)
+number_listed kind (Some other) (Some n) = one_listed (same_kind kind other) n
+
 -- each number in the list is below the count
-abbrev AllBelow : ℕ → List ℕ → Type 0
+abbrev pub AllBelow : ℕ → List ℕ → Type 0
 AllBelow count xs = (y : ℕ) → Contains xs y → y < count
 
-none_in : (count : ℕ) → AllBelow count []
+pub none_in : (count : ℕ) → AllBelow count []
 none_in count y c = absurd (let l = c.1 in omega arith)
 
-one_in : (count x : ℕ) → x < count → AllBelow count (x ∷ [])
+pub one_in : (count x : ℕ) → x < count → AllBelow count (x ∷ [])
 one_in count x l y c = by_place c.0 c.1 c.2
   where
     by_place : (k : ℕ) → k < length (x ∷ []) → get_or (x ∷ []) k y ≡ y → y < count
@@ -33,7 +48,7 @@ module _ (f : PlainDefinition → List ℕ) (count : ℕ) (within : (d : PlainDe
   each_below (d ∷ more) (suc x) y s = each_below more x y s
 
 -- links whose numbers are those of definitions are a graph
-links_within : (definitions : List PlainDefinition) (f : PlainDefinition → List ℕ) → ((d : PlainDefinition) → AllBelow (length definitions) (f d)) → AreNodes (map f definitions)
+pub links_within : (definitions : List PlainDefinition) (f : PlainDefinition → List ℕ) → ((d : PlainDefinition) → AllBelow (length definitions) (f d)) → AreNodes (map f definitions)
 links_within definitions f within = record { below = λ x y s. subst (λ n. y < n) (sym (length-map definitions f)) (each_below f (length definitions) within definitions x y s) }
 
 module _ (definitions : List PlainDefinition) where

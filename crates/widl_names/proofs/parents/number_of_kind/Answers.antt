@@ -2,8 +2,8 @@ use Rattle.std.proofs.Common.{ap, ◌∙◌}
 use Rattle.std.specs.Prelude.{option_to_list}
 use Rattle.widl_idl.specs.Meanings.{meaning, meant_kind}
 use Rattle.widl_idl.specs.PlainTrees.{plain_definitions}
-use Rattle.widl_merge.proofs.LinkGraphs.{number_listed}
-use Rattle.widl_merge.proofs.parents.number_of_kind.Goals as goal
+use Rattle.widl_names.proofs.ParentGraphs.{number_listed}
+use Rattle.widl_names.proofs.parents.number_of_kind.Goals as goal
 
 pub returns : goal.returns
 returns c =

@@ -1,6 +1,6 @@
 use Rattle.std.proofs.Common.{take, arith, rules}
-use Rattle.widl_merge.proofs.LinkGraphs.{has_last, successor_more, successors_all}
-use Rattle.widl_merge.proofs.cycles.add_linked.Goals as goal
+use Rattle.widl_names.proofs.ParentGraphs.{has_last, successor_more, successors_all}
+use Rattle.widl_names.proofs.parents.add_linked.Goals as goal
 
 pub add_successor-requires : goal.add_successor-requires
 add_successor-requires c = has_last c.args.graph.now (take c.loop-successor.successor-index c.args.successors.now) c.loop-successor.graph c.loop-successor.invariant
