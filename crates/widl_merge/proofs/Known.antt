@@ -17,19 +17,9 @@ use Rattle.widl_idl.specs.PlainTrees.{PlainKind, PlainMember, PlainMemberKind, O
 use Rattle.widl_idl.proofs.Order.{first_same, not_before_same}
 use Rattle.widl_idl.proofs.Somewhere.{somewhere_both, somewhere_one}
 use Rattle.widl_names.specs.PartTables.{listed_parts}
-use Rattle.widl_merge.specs.Repeats.{IsKnown, has_text, known_at, known_name}
+use Rattle.widl_merge.specs.Repeats.{IsKnown, known_at, known_name}
 use Rattle.widl_names.proofs.PlainLists.{mapped_more}
 use Rattle.widl_names.proofs.Pushed.{at_one_push, some_is}
-
-or_turned : (a b : Bool) → cond a true b ≡ (b || a)
-or_turned true true = refl
-or_turned true false = refl
-or_turned false true = refl
-or_turned false false = refl
-
--- the texts of a set with one text more
-pub text_added : {S : Type 0} (old new : IndexSet (Bor (List ℕ)) S) (text other : List ℕ) → contains_by (λ k. bytes_eq other k.now) new ≡ cond (bytes_eq text other) true (contains_by (λ k. bytes_eq other k.now) old) → has_text new other ≡ (has_text old other || bytes_eq text other)
-text_added old new text other e = e ∙ or_turned (bytes_eq text other) (has_text old other)
 
 -- a test on a list with one item more
 pub any_push : {X : Type 0} (test : X → Bool) (xs : List X) (x : X) → list_any test (xs ++ x ∷ []) ≡ (list_any test xs || test x)

@@ -1,7 +1,5 @@
 -- For proofs alone. Operations that an earlier part has too, as the program finds them.
 use Rattle.std.specs.Prelude.{if◌then◌else◌, ◌≡◌, ℕ, Bool, ◌&&◌, List, length, Option, None, Some, bytes_eq}
-use Rattle.std.specs.Borrow.{Bor}
-use Rattle.indexmap.specs.IndexSet.{IndexSet, contains_by}
 use Rattle.widl_idl.specs.declared.violation.Violation.{Violation}
 use Rattle.widl_idl.specs.First.{AtOne, violation_at}
 use Rattle.widl_idl.specs.Meanings.{kind_of, main_name, meaning}
@@ -10,14 +8,6 @@ use Rattle.widl_idl.specs.Parts.{parts_of}
 use Rattle.widl_idl.specs.PlainTypes.{PlainName}
 use Rattle.widl_idl.specs.PlainTrees.{PlainDefinition, PlainKind, PlainMember, PlainMemberKind, OperationMember}
 use Rattle.widl_names.specs.PartTables.{has_parts, means_itself}
-
--- whether a set has a text
-abbrev pub has_text : {S : Type 0} → IndexSet (Bor (List ℕ)) S → List ℕ → Bool
-has_text set text = contains_by (λ k. bytes_eq text k.now) set
-
--- whether a name is known, of a static operation or of another
-abbrev pub has_name : {S : Type 0} → IndexSet (Bor (List ℕ)) S → IndexSet (Bor (List ℕ)) S → List ℕ → Bool → Bool
-has_name regular fixed text static = if static then has_text fixed text else has_text regular text
 
 -- the place of a name that is known
 abbrev pub known_name : (List ℕ → Bool → Bool) → Bool → Option PlainName → Option Violation

@@ -13,7 +13,6 @@ use crate::long_texts::LongTexts;
 use crate::member_parts::{attribute_meant, constant_meant, pair_meant};
 use crate::numbered_items::push_numbered;
 use crate::operation_numbers::OperationNumbers;
-use crate::operations::is_static;
 use crate::signatures::{constructor_sig, operation_sig};
 use std::alloc::{AllocError, Global};
 use widl_idl::tree::{
@@ -21,7 +20,7 @@ use widl_idl::tree::{
     MemberKind, Operation,
 };
 use widl_idl::{Attrs, Constants, OpName, OpNames, Pair, Sig, Sigs, Slot, Slots, Stringify};
-use widl_names::Resolver;
+use widl_names::{Resolver, is_static};
 use widl_text::{Items, Units};
 
 /// The members of an interface or a namespace, by kind, as the list of definitions has them.

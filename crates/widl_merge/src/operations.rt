@@ -1,6 +1,6 @@
 //! Operations that a definition has in two of its parts.
 
-ghost use Rattle.std.specs.Prelude.{◌≡◌, ℕ, Bool, false, List, ◌||◌, ◌&&◌, bytes_eq, option_map, slice_get, Some, IfOk, OnOk};
+ghost use Rattle.std.specs.Prelude.{◌≡◌, ℕ, Bool, List, ◌||◌, ◌&&◌, option_map, slice_get, Some, IfOk, OnOk};
 ghost use Rattle.std.specs.List.{list_any};
 ghost use Rattle.widl_idl.specs.declared.merging_rule.MergingRule.TheVariants as rule;
 ghost use Rattle.widl_idl.specs.First.{AtOne, FirstWhere, Somewhere};
@@ -8,22 +8,13 @@ ghost use Rattle.widl_idl.specs.MergingRules.{BreaksMerging, RepeatsOperation, b
 ghost use Rattle.widl_idl.specs.Meanings.{is_text_of};
 ghost use Rattle.widl_idl.specs.PlainTrees.{definition_kind_of, member_kind_of, members_of, operation_of, plain_definitions};
 ghost use Rattle.widl_names.specs.PartTables.{has_parts, listed_parts};
-ghost use Rattle.widl_merge.specs.Repeats.{IsKnown, RepeatsInOwner, has_name, has_text, is_owner, known_at, known_name};
+ghost use Rattle.widl_merge.specs.Repeats.{IsKnown, RepeatsInOwner, is_owner, known_at, known_name};
+ghost use Rattle.widl_names.specs.KnownTexts.{has_name};
 
-use indexmap::IndexSet;
 use std::alloc::{AllocError, Global};
-use widl_idl::tree::{DefinitionKind, Member, MemberKind, Operation, OperationKind};
+use widl_idl::tree::{DefinitionKind, Member, MemberKind, Operation};
 use widl_idl::{Kind, Violation, earlier_violation};
-use widl_names::{Meanings, Parts, kind_of, means_itself, members_in};
-
-/// The names of operations.
-#[derive(Drop)]
-struct OperationNames<'a> {
-    /// Those of operations that aren't static.
-    regular: IndexSet<&'a str>,
-    /// Those of static operations.
-    fixed: IndexSet<&'a str>,
-}
+use widl_names::{Meanings, OperationNames, Parts, is_static, kind_of, means_itself, members_in};
 
 /// The first place of the name of an operation that an earlier part of the same definition has too.
 ///
@@ -94,118 +85,72 @@ fn first_repeated(alloc: Global, parts: &[&DefinitionKind]) -> Result<Option<Vio
     let mut known = OperationNames::new(alloc);
     let mut best = None;
     for part in parts {
-        let found = known.first_known(members_in(part));
+        let found = first_known(&known, members_in(part));
         best = earlier_violation(best, found);
-        known.add_all(members_in(part))?;
+        add_all(&mut known, members_in(part))?;
     }
     Ok(best)
 }
 
-impl<'a> OperationNames<'a> {
-    fn new(alloc: Global) -> OperationNames<'a>
-        ensures { (text : List ℕ) (static : Bool) → has_name result.regular result.fixed text static ≡ false }
-    {
-        OperationNames {
-            regular: IndexSet::new(alloc),
-            fixed: IndexSet::new(alloc),
-        }
+/// The first place of the name of an operation among these members that is known.
+fn first_known(known: &OperationNames<'_>, members: &[Member]) -> Option<Violation>
+    ensures { FirstWhere (Somewhere (IsKnown (has_name known.now.regular known.now.fixed)) (members_of members.now)) result }
+{
+    let mut best = None;
+    for member in members {
+        let found = known_member(known, &member.kind);
+        best = earlier_violation(best, found);
     }
-
-    fn contains(&self, text: &str, fixed: bool) -> bool
-        ensures { result ≡ has_name self.now.regular self.now.fixed text.now fixed }
-    {
-        if fixed {
-            self.fixed.contains(text)
-        } else {
-            self.regular.contains(text)
-        }
-    }
-
-    fn insert(&mut self, text: &'a str, fixed: bool) -> Result<(), AllocError>
-        ensures { OnOk result ((other : List ℕ) (static : Bool) → has_name self.new.regular self.new.fixed other static ≡ (has_name self.old.regular self.old.fixed other static || (bytes_eq text.now other && both_or_none static fixed))) }
-    {
-        if fixed {
-            add_text(&mut self.fixed, text)
-        } else {
-            add_text(&mut self.regular, text)
-        }
-    }
-
-    /// The first place of the name of an operation among these members that is known.
-    fn first_known(&self, members: &[Member]) -> Option<Violation>
-        ensures { FirstWhere (Somewhere (IsKnown (has_name self.now.regular self.now.fixed)) (members_of members.now)) result }
-    {
-        let mut best = None;
-        for member in members {
-            let found = self.known_member(&member.kind);
-            best = earlier_violation(best, found);
-        }
-        best
-    }
-
-    fn known_member(&self, kind: &MemberKind) -> Option<Violation>
-        ensures { result ≡ known_at (has_name self.now.regular self.now.fixed) (member_kind_of kind.now) }
-    {
-        match kind {
-            MemberKind::Operation(operation) => self.known_operation(operation),
-            _ => None,
-        }
-    }
-
-    fn known_operation(&self, operation: &Operation) -> Option<Violation>
-        ensures { result ≡ known_name (has_name self.now.regular self.now.fixed) (is_static operation.now.kind) (operation_of operation.now).name }
-    {
-        let name = operation.name.as_ref()?;
-        if self.contains(name.text.as_str(), is_static(operation.kind)) {
-            Some(Violation::at(name.at))
-        } else {
-            None
-        }
-    }
-
-    /// Adds the names of the operations among these members.
-    fn add_all(&mut self, members: &'a [Member]) -> Result<(), AllocError>
-        ensures { OnOk result ((text : List ℕ) (static : Bool) → has_name self.new.regular self.new.fixed text static ≡ (has_name self.old.regular self.old.fixed text static || list_any (λ m. is_operation_of text static m.kind) (members_of members.now))) }
-    {
-        for member in members {
-            self.add_member(&member.kind)?;
-        }
-        Ok(())
-    }
-
-    fn add_member(&mut self, kind: &'a MemberKind) -> Result<(), AllocError>
-        ensures { OnOk result ((text : List ℕ) (static : Bool) → has_name self.new.regular self.new.fixed text static ≡ (has_name self.old.regular self.old.fixed text static || is_operation_of text static (member_kind_of kind.now))) }
-    {
-        match kind {
-            MemberKind::Operation(operation) => self.add_operation(operation),
-            _ => Ok(()),
-        }
-    }
-
-    fn add_operation(&mut self, operation: &'a Operation) -> Result<(), AllocError>
-        ensures { OnOk result ((text : List ℕ) (static : Bool) → has_name self.new.regular self.new.fixed text static ≡ (has_name self.old.regular self.old.fixed text static || (is_text_of text (operation_of operation.now).name && both_or_none static (is_static operation.now.kind)))) }
-    {
-        match &operation.name {
-            None => Ok(()),
-            Some(name) => self.insert(name.text.as_str(), is_static(operation.kind)),
-        }
-    }
+    best
 }
 
-/// Whether an operation is one of the interface object.
-pub fn is_static(kind: OperationKind) -> bool
-    ensures { result ≡ is_static kind }
+fn known_member(known: &OperationNames<'_>, kind: &MemberKind) -> Option<Violation>
+    ensures { result ≡ known_at (has_name known.now.regular known.now.fixed) (member_kind_of kind.now) }
 {
     match kind {
-        OperationKind::Static => true,
-        _ => false,
+        MemberKind::Operation(operation) => known_operation(known, operation),
+        _ => None,
     }
 }
 
-/// Adds a text to a set.
-fn add_text<'a>(texts: &mut IndexSet<&'a str>, text: &'a str) -> Result<(), AllocError>
-    ensures { OnOk result ((other : List ℕ) → has_text texts.new other ≡ (has_text texts.old other || bytes_eq text.now other)) }
+fn known_operation(known: &OperationNames<'_>, operation: &Operation) -> Option<Violation>
+    ensures { result ≡ known_name (has_name known.now.regular known.now.fixed) (is_static operation.now.kind) (operation_of operation.now).name }
 {
-    texts.insert(text)?;
+    let name = operation.name.as_ref()?;
+    if known.contains(name.text.as_str(), is_static(operation.kind)) {
+        Some(Violation::at(name.at))
+    } else {
+        None
+    }
+}
+
+/// Adds the names of the operations among these members.
+fn add_all<'a>(known: &mut OperationNames<'a>, members: &'a [Member]) -> Result<(), AllocError>
+    ensures { OnOk result ((text : List ℕ) (static : Bool) → has_name known.new.regular known.new.fixed text static ≡ (has_name known.old.regular known.old.fixed text static || list_any (λ m. is_operation_of text static m.kind) (members_of members.now))) }
+{
+    for member in members {
+        add_member(known, &member.kind)?;
+    }
     Ok(())
+}
+
+fn add_member<'a>(known: &mut OperationNames<'a>, kind: &'a MemberKind) -> Result<(), AllocError>
+    ensures { OnOk result ((text : List ℕ) (static : Bool) → has_name known.new.regular known.new.fixed text static ≡ (has_name known.old.regular known.old.fixed text static || is_operation_of text static (member_kind_of kind.now))) }
+{
+    match kind {
+        MemberKind::Operation(operation) => add_operation(known, operation),
+        _ => Ok(()),
+    }
+}
+
+fn add_operation<'a>(
+    known: &mut OperationNames<'a>,
+    operation: &'a Operation,
+) -> Result<(), AllocError>
+    ensures { OnOk result ((text : List ℕ) (static : Bool) → has_name known.new.regular known.new.fixed text static ≡ (has_name known.old.regular known.old.fixed text static || (is_text_of text (operation_of operation.now).name && both_or_none static (is_static operation.now.kind)))) }
+{
+    match &operation.name {
+        None => Ok(()),
+        Some(name) => known.insert(name.text.as_str(), is_static(operation.kind)),
+    }
 }

@@ -14,3 +14,4 @@ pub mod Heights
 pub mod TypedefEnds
 pub mod TypedefLinks
 pub mod ParentGraphs
+pub mod KnownTexts

@@ -6,3 +6,4 @@ pub mod SaidNotes
 pub mod TypeUses
 pub mod TypedefEnds
 pub mod TypedefLinks
+pub mod KnownTexts

@@ -1,23 +1,12 @@
 -- Items whose text an earlier one has, an item at a time.
 use Rattle.std.proofs.Common.{◌≡◌, ℕ, ◌+◌, ◌<◌, ◌≤◌, Bool, true, false, cond, ◌||◌, List, [], length, take, map, get_or, bytes_eq, Option, None, Some, refl, sym, ap, ◌∙◌, Bor}
 use Rattle.std.specs.List.{list_any}
-use Rattle.indexmap.specs.IndexSet.{IndexSet, contains_by}
 use Rattle.widl_text.specs.declared.place.Place.{Place}
 use Rattle.widl_idl.specs.declared.violation.Violation.{Violation}
 use Rattle.widl_idl.specs.First.{AtOne, FirstWhere, earlier, violation_at}
 use Rattle.widl_idl.proofs.Order.{one_place}
-use Rattle.widl_valid.specs.KnownTexts.{RepeatsText, has_text}
+use Rattle.widl_valid.specs.KnownTexts.{RepeatsText}
 use Rattle.widl_valid.proofs.MappedLoops.{any_step, at_one_end, at_one_step, none_at_one}
-
-or_turned : (a b : Bool) → cond a true b ≡ (b || a)
-or_turned true true = refl
-or_turned true false = refl
-or_turned false true = refl
-or_turned false false = refl
-
--- the texts of a set with one text more
-pub text_added : {S : Type 0} (old new : IndexSet (Bor (List ℕ)) S) (text other : List ℕ) → contains_by (λ k. bytes_eq other k.now) new ≡ cond (bytes_eq text other) true (contains_by (λ k. bytes_eq other k.now) old) → has_text new other ≡ (has_text old other || bytes_eq text other)
-text_added old new text other e = e ∙ or_turned (bytes_eq text other) (has_text old other)
 
 -- the texts of these items are known, and the first violation at which one repeats a text
 pub record Repeated {X : Type 0} (text : X → List ℕ) (at : X → Place) (known : List ℕ → Bool) (xs : List X) (best : Option Violation) : Type 0 where

@@ -1,33 +1,15 @@
 -- The names of members that stand before, and the first violation at which a member repeats one.
 use Rattle.std.proofs.Common.{◌≡◌, ℕ, ◌+◌, ◌<◌, ◌≤◌, Bool, true, false, ◌&&◌, ◌||◌, not, cond, List, [], length, take, get_or, Option, None, arith, bytes_eq, refl, sym, ap, ◌∙◌, Bor}
 use Rattle.std.specs.List.{list_any}
-use Rattle.std.proofs.lemmas.Slice.Eq.{bytes_eq-Decides}
-use Rattle.indexmap.specs.IndexSet.{IndexSet, contains_by}
 use Rattle.widl_idl.specs.declared.violation.Violation.{Violation}
 use Rattle.widl_idl.specs.declared.tree.members.Member.{Member}
 use Rattle.widl_idl.specs.First.{AtOne, FirstWhere, earlier}
 use Rattle.widl_idl.specs.PlainTypes.{PlainName}
 use Rattle.widl_idl.specs.PlainTrees.{PlainMember, member_of}
 use Rattle.widl_overload.specs.MemberRules.{RepeatsMember, identifier, is_named, is_operation}
-use Rattle.widl_valid.specs.MemberTables.{has_text, violation_of_name}
+use Rattle.widl_valid.specs.MemberTables.{violation_of_name}
 use Rattle.widl_valid.proofs.NamedViolations.{any_push, listed_next, members_end, members_step, named_first, no_members}
 use Rattle.widl_names.specs.Listings.{listed_members}
-
-or_turned : (a b : Bool) → cond a true b ≡ (b || a)
-or_turned true true = refl
-or_turned true false = refl
-or_turned false true = refl
-or_turned false false = refl
-
-turned : (text other : List ℕ) (b d : Bool) → bytes_eq text other ≡ b → bytes_eq other text ≡ d → b ≡ d
-turned text other true true h g = refl
-turned text other false false h g = refl
-turned text other true false h g = absurd (grind (arith, bytes_eq-Decides text other, bytes_eq-Decides other text))
-turned text other false true h g = absurd (grind (arith, bytes_eq-Decides text other, bytes_eq-Decides other text))
-
--- the texts of a set with one text more
-pub text_added : {S : Type 0} (old new : IndexSet (Bor (List ℕ)) S) (text other : List ℕ) → contains_by (λ k. bytes_eq other k.now) new ≡ cond (bytes_eq text other) true (contains_by (λ k. bytes_eq other k.now) old) → has_text new other ≡ (has_text old other || bytes_eq other text)
-text_added old new text other e = e ∙ or_turned (bytes_eq text other) (has_text old other) ∙ ap (λ b. has_text old other || b) (turned text other (bytes_eq text other) (bytes_eq other text) refl refl)
 
 -- whether a member has this name, and one that is an operation or not may not have it too
 abbrev pub forbids : List ℕ → Bool → PlainMember → Bool

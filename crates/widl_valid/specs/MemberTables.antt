@@ -2,7 +2,7 @@
 use Rattle.std.specs.Prelude.{if◌then◌else◌, ℕ, Bool, true, false, ◌&&◌, ◌||◌, not, nat_eq, List, Option, None, Some, bytes_eq, unwrap_or}
 use Rattle.std.specs.Borrow.{Bor}
 use Rattle.indexmap.specs.IndexMap.{IndexMap, get_by}
-use Rattle.indexmap.specs.IndexSet.{IndexSet, contains_by}
+use Rattle.indexmap.specs.IndexSet.{IndexSet}
 use Rattle.widl_text.specs.declared.place.Place.{Place}
 use Rattle.widl_idl.specs.declared.violation.Violation.{Violation}
 use Rattle.widl_idl.specs.First.{violation_at}
@@ -10,16 +10,13 @@ use Rattle.widl_idl.specs.MergedMembers.{operation_text}
 use Rattle.widl_idl.specs.MergingRules.{both_or_none, is_static}
 use Rattle.widl_idl.specs.PlainTypes.{PlainName}
 use Rattle.widl_idl.specs.PlainTrees.{PlainDefinition, PlainOperation, PlainMemberKind, ConstructorMember, OperationMember}
+use Rattle.widl_names.specs.KnownTexts.{has_name, has_text}
 use Rattle.widl_overload.specs.MemberRules.{returns_promise}
 
 -- the place of a name whose text passes the test
 abbrev pub violation_of_name : Option PlainName → (List ℕ → Bool) → Option Violation
 violation_of_name None test = None
 violation_of_name (Some name) test = if test name.text then Some (violation_at name.at) else None
-
--- whether a set has a text
-abbrev pub has_text : {S : Type 0} → IndexSet (Bor (List ℕ)) S → List ℕ → Bool
-has_text set text = contains_by (λ k. bytes_eq text k.now) set
 
 -- whether a member, an operation or not, may not have a name, where operations and others have these names
 abbrev pub clashes : {S : Type 0} → IndexSet (Bor (List ℕ)) S → IndexSet (Bor (List ℕ)) S → List ℕ → Bool → Bool
@@ -28,10 +25,6 @@ clashes operations others text operation = if operation then has_text others tex
 -- whether an operation has this name, empty where it has none, and is static or not
 abbrev pub has_overload : List ℕ → Bool → PlainOperation → Bool
 has_overload text static o = bytes_eq text (operation_text o.name) && both_or_none static (is_static o.kind)
-
--- whether a name is known, of a static operation or of another
-abbrev pub has_name : {S : Type 0} → IndexSet (Bor (List ℕ)) S → IndexSet (Bor (List ℕ)) S → List ℕ → Bool → Bool
-has_name regular fixed text static = if static then has_text fixed text else has_text regular text
 
 -- the count that is kept for a text
 abbrev pub count_in : {S : Type 0} → IndexMap (Bor (List ℕ)) ℕ S → List ℕ → ℕ

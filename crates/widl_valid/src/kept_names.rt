@@ -9,9 +9,10 @@ ghost use Rattle.widl_overload.specs.MemberRules.{HasKeptName, identifier, is_co
 ghost use Rattle.widl_valid.specs.MemberTables.{violation_of_name};
 ghost use Rattle.widl_names.specs.Listings.{listed_members};
 
-use crate::owner_members::{identifier, is_static};
+use crate::owner_members::identifier;
 use widl_idl::tree::{AttributeKind, Member, MemberKind};
 use widl_idl::{Violation, earlier_violation};
+use widl_names::is_static;
 
 /// The first place of the name of a static member or a constant that it may not have.
 pub fn first_kept_name(members: &[&Member]) -> Option<Violation>

@@ -2,7 +2,7 @@
 
 ghost use Rattle.std.specs.Prelude.{◌≡◌, ℕ, List, ◌||◌, bytes_eq, None, Some, if◌then◌else◌, IfOk, OnOk};
 ghost use Rattle.widl_idl.specs.First.{violation_at};
-ghost use Rattle.widl_valid.specs.KnownTexts.{has_text};
+ghost use Rattle.widl_names.specs.KnownTexts.{has_text};
 
 use indexmap::IndexSet;
 use std::alloc::AllocError;

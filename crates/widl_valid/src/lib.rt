@@ -22,7 +22,6 @@ mod known_texts;
 mod lineages;
 mod member_types;
 mod nullable_rules;
-mod operation_names;
 mod overload_counts;
 mod owner_members;
 mod owners;

@@ -8,11 +8,12 @@ ghost use Rattle.widl_overload.specs.MemberRules.{HasOverloadPastLimit};
 ghost use Rattle.widl_valid.specs.MemberTables.{count_in, has_overload, is_constructor, is_overload, overload_count, violation_of_name, violation_past_limit};
 ghost use Rattle.widl_names.specs.Listings.{listed_members};
 
-use crate::owner_members::{is_static, operation_text};
+use crate::owner_members::operation_text;
 use indexmap::IndexMap;
 use std::alloc::{AllocError, Global};
 use widl_idl::tree::{Member, MemberKind, Operation};
 use widl_idl::{Violation, earlier_violation};
+use widl_names::is_static;
 use widl_text::limits::MOST_OVERLOADS;
 
 /// The most overloads of one name.

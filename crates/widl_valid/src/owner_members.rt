@@ -2,12 +2,11 @@
 
 ghost use Rattle.std.specs.Prelude.{◌≡◌, option_map};
 ghost use Rattle.widl_idl.specs.MergedMembers.{operation_text};
-ghost use Rattle.widl_idl.specs.MergingRules as merging;
 ghost use Rattle.widl_idl.specs.PlainTrees.{member_kind_of, operation_of};
 ghost use Rattle.widl_idl.specs.PlainTypes.{name_of};
 ghost use Rattle.widl_overload.specs.MemberRules.{identifier, is_operation};
 
-use widl_idl::tree::{MemberKind, Name, Operation, OperationKind};
+use widl_idl::tree::{MemberKind, Name, Operation};
 
 /// The name of a constant, an attribute or an operation.
 pub fn identifier(kind: &MemberKind) -> Option<&Name>
@@ -38,15 +37,5 @@ pub fn operation_text(operation: &Operation) -> &str
     match &operation.name {
         None => "",
         Some(name) => name.text.as_str(),
-    }
-}
-
-/// Whether an operation is static.
-pub fn is_static(kind: OperationKind) -> bool
-    ensures { result ≡ merging.is_static kind }
-{
-    match kind {
-        OperationKind::Static => true,
-        _ => false,
     }
 }

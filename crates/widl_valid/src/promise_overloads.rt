@@ -9,12 +9,11 @@ ghost use Rattle.widl_overload.specs.MemberRules.{MixesPromises, is_promise, ret
 ghost use Rattle.widl_valid.specs.MemberTables.{gives_promise, has_overload, has_returned, is_overload, violation_of_name, violation_of_other};
 ghost use Rattle.widl_names.specs.Listings.{listed_members};
 
-use crate::operation_names::OperationNames;
-use crate::owner_members::is_static;
+use crate::owner_members::operation_text;
 use std::alloc::{AllocError, Global};
 use widl_idl::tree::{Member, MemberKind, Operation};
 use widl_idl::{IdlType, Violation, earlier_violation};
-use widl_names::{MOST_TYPES, Resolver};
+use widl_names::{MOST_TYPES, OperationNames, Resolver, is_static};
 
 /// The names of operations, by what they return.
 #[derive(Drop)]
@@ -145,10 +144,12 @@ impl<'a> ReturnedKinds<'a> {
     fn insert(&mut self, promise: bool, operation: &'a Operation) -> Result<(), AllocError>
         ensures { OnOk result ((text : List ℕ) (static asked : Bool) → has_returned self.new.promises.regular self.new.promises.fixed self.new.others.regular self.new.others.fixed text static asked ≡ (has_returned self.old.promises.regular self.old.promises.fixed self.old.others.regular self.old.others.fixed text static asked || (has_overload text static (operation_of operation.now) && both_or_none asked promise))) }
     {
+        let text = operation_text(operation);
+        let fixed = is_static(operation.kind);
         if promise {
-            self.promises.add(operation)
+            self.promises.insert(text, fixed)
         } else {
-            self.others.add(operation)
+            self.others.insert(text, fixed)
         }
     }
 }

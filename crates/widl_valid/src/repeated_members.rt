@@ -7,12 +7,12 @@ ghost use Rattle.widl_overload.specs.MemberRules.{RepeatsMember, identifier, is_
 ghost use Rattle.widl_valid.specs.MemberTables.{clashes, violation_of_name};
 ghost use Rattle.widl_names.specs.Listings.{listed_members};
 
-use crate::operation_names::add_text;
 use crate::owner_members::{identifier, is_operation};
 use indexmap::IndexSet;
 use std::alloc::{AllocError, Global};
 use widl_idl::tree::{Member, MemberKind};
 use widl_idl::{Violation, earlier_violation};
+use widl_names::add_text;
 
 /// The names of members.
 #[derive(Drop)]

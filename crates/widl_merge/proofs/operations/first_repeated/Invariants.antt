@@ -1,6 +1,6 @@
 use Rattle.std.proofs.Common.{take}
 use Rattle.widl_names.specs.PartTables.{listed_parts}
-use Rattle.widl_merge.specs.Repeats.{has_name}
+use Rattle.widl_names.specs.KnownTexts.{has_name}
 use Rattle.widl_merge.proofs.Known.{Repeated}
 use Rattle.widl_merge.proofs.operations.first_repeated.Given as goal
 

@@ -1,6 +1,6 @@
 use Rattle.std.proofs.Common.{map, take}
 use Rattle.widl_idl.specs.PlainTrees.{PlainEnumerationValue, enumeration_value_of}
-use Rattle.widl_valid.specs.KnownTexts.{has_text}
+use Rattle.widl_names.specs.KnownTexts.{has_text}
 use Rattle.widl_valid.proofs.RepeatedTexts.{Repeated}
 use Rattle.widl_valid.proofs.definition_rules.repeated_among.Given as goal
 

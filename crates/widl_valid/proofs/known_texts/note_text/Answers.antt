@@ -1,4 +1,4 @@
-use Rattle.widl_valid.proofs.RepeatedTexts.{text_added}
+use Rattle.widl_names.proofs.KnownTexts.{text_added}
 use Rattle.widl_valid.proofs.known_texts.note_text.Goals as goal
 
 pub returns-then-fresh-clause-adds : goal.returns-then-fresh-clause-adds

@@ -1,14 +1,12 @@
 //! Names of operations, static and regular apart.
 
 ghost use Rattle.std.specs.Prelude.{◌≡◌, ℕ, Bool, false, List, ◌||◌, ◌&&◌, bytes_eq, OnOk};
-ghost use Rattle.widl_idl.specs.MergingRules.{both_or_none};
-ghost use Rattle.widl_idl.specs.PlainTrees.{operation_of};
-ghost use Rattle.widl_valid.specs.MemberTables.{has_name, has_overload, has_text};
+ghost use Rattle.widl_idl.specs.MergingRules.{both_or_none, is_static};
+ghost use Rattle.widl_names.specs.KnownTexts.{has_name, has_text};
 
-use crate::owner_members::{is_static, operation_text};
 use indexmap::IndexSet;
 use std::alloc::{AllocError, Global};
-use widl_idl::tree::Operation;
+use widl_idl::tree::OperationKind;
 
 /// Names of operations.
 #[derive(Drop)]
@@ -41,19 +39,13 @@ impl<'a> OperationNames<'a> {
         }
     }
 
-    /// Adds the name of an operation; it is empty where the operation has none.
+    /// Adds the name of a static operation, or of another one.
     ///
     /// # Errors
     ///
     /// `AllocError` where there is no memory.
-    pub fn add(&mut self, operation: &'a Operation) -> Result<(), AllocError>
-        ensures { OnOk result ((text : List ℕ) (static : Bool) → has_name self.new.regular self.new.fixed text static ≡ (has_name self.old.regular self.old.fixed text static || has_overload text static (operation_of operation.now))) }
-    {
-        self.insert(operation_text(operation), is_static(operation.kind))
-    }
-
-    fn insert(&mut self, text: &'a str, fixed: bool) -> Result<(), AllocError>
-        ensures { OnOk result ((other : List ℕ) (static : Bool) → has_name self.new.regular self.new.fixed other static ≡ (has_name self.old.regular self.old.fixed other static || (bytes_eq other text.now && both_or_none static fixed))) }
+    pub fn insert(&mut self, text: &'a str, fixed: bool) -> Result<(), AllocError>
+        ensures { OnOk result ((other : List ℕ) (static : Bool) → has_name self.new.regular self.new.fixed other static ≡ (has_name self.old.regular self.old.fixed other static || (bytes_eq text.now other && both_or_none static fixed))) }
     {
         if fixed {
             add_text(&mut self.fixed, text)
@@ -69,8 +61,18 @@ impl<'a> OperationNames<'a> {
 ///
 /// `AllocError` where there is no memory.
 pub fn add_text<'a>(texts: &mut IndexSet<&'a str>, text: &'a str) -> Result<(), AllocError>
-    ensures { OnOk result ((other : List ℕ) → has_text texts.new other ≡ (has_text texts.old other || bytes_eq other text.now)) }
+    ensures { OnOk result ((other : List ℕ) → has_text texts.new other ≡ (has_text texts.old other || bytes_eq text.now other)) }
 {
     texts.insert(text)?;
     Ok(())
+}
+
+/// Whether an operation is one of the interface object.
+pub fn is_static(kind: OperationKind) -> bool
+    ensures { result ≡ is_static kind }
+{
+    match kind {
+        OperationKind::Static => true,
+        _ => false,
+    }
 }
