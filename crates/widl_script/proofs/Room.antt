@@ -73,26 +73,10 @@ pub name_entries : (t : Tables) (text : Text) → entries (with_name t text) ≤
 unfolding entries
 name_entries t text = omega (arith, few_names t.names text)
 
--- a table has no more entries than all of them
-pub expressions_fit : (t : Tables) (n : ℕ) → entries t + n ≤ most_nodes → length t.expressions + n ≤ most_nodes
+-- each table has no more entries than all of them
+pub each_fits : (t : Tables) (n : ℕ) → entries t + n ≤ most_nodes → (length t.expressions + n ≤ most_nodes) × (length t.statements + n ≤ most_nodes) × (length t.functions + n ≤ most_nodes) × (length t.blocks + n ≤ most_nodes) × (length t.names + n ≤ most_nodes)
 unfolding entries
-expressions_fit t n le = omega (arith, le)
-
-pub statements_fit : (t : Tables) (n : ℕ) → entries t + n ≤ most_nodes → length t.statements + n ≤ most_nodes
-unfolding entries
-statements_fit t n le = omega (arith, le)
-
-pub functions_fit : (t : Tables) (n : ℕ) → entries t + n ≤ most_nodes → length t.functions + n ≤ most_nodes
-unfolding entries
-functions_fit t n le = omega (arith, le)
-
-pub blocks_fit : (t : Tables) (n : ℕ) → entries t + n ≤ most_nodes → length t.blocks + n ≤ most_nodes
-unfolding entries
-blocks_fit t n le = omega (arith, le)
-
-pub names_fit : (t : Tables) (n : ℕ) → entries t + n ≤ most_nodes → length t.names + n ≤ most_nodes
-unfolding entries
-names_fit t n le = omega (arith, le)
+each_fits t n le = (omega (arith, le), omega (arith, le), omega (arith, le), omega (arith, le), omega (arith, le))
 
 -- 2. Words
 

@@ -5,7 +5,7 @@ use Rattle.widl_script.proofs.Parts.{in_both}
 use Rattle.widl_script.proofs.Growing.{named_is}
 use Rattle.widl_script_tree.specs.Rows.{most_nodes}
 use Rattle.widl_script.specs.Room.{entries}
-use Rattle.widl_script.proofs.Room.{puts_at_most, names_fit, name_entries}
+use Rattle.widl_script.proofs.Room.{puts_at_most, each_fits, name_entries}
 use Rattle.widl_script.proofs.build.nodes.Nodes.name.Goals as goal
 
 pub returns-clause-named : goal.returns-clause-named
@@ -15,7 +15,7 @@ returns-clause-named c =
 
 pub put_name-requires : goal.put_name-requires
 put_name-requires c =
-    let fits = names_fit _ (1) (subst (λ (t : Tables). entries t + 1 ≤ most_nodes) (sym c.self.view_is) c.requires.room) in
+    let fits = (each_fits _ (1) (subst (λ (t : Tables). entries t + 1 ≤ most_nodes) (sym c.self.view_is) c.requires.room)).4 in
     omega (arith, fits)
 
 pub returns-clause-one : goal.returns-clause-one

@@ -2,12 +2,12 @@ use Rattle.std.proofs.Common.{◌+◌, ◌≤◌, subst, sym, arith}
 use Rattle.widl_script_tree.specs.Tables.{Tables}
 use Rattle.widl_script_tree.specs.Rows.{most_nodes}
 use Rattle.widl_script.specs.Room.{entries}
-use Rattle.widl_script.proofs.Room.{puts_at_most, expressions_fit, expression_entries}
+use Rattle.widl_script.proofs.Room.{puts_at_most, each_fits, expression_entries}
 use Rattle.widl_script.proofs.build.nodes.Nodes.put.Goals as goal
 
 pub put_expression-requires-clause-room : goal.put_expression-requires-clause-room
 put_expression-requires-clause-room c =
-    let fits = expressions_fit _ (1) (subst (λ (t : Tables). entries t + 1 ≤ most_nodes) (sym c.self.view_is) c.requires.room) in
+    let fits = (each_fits _ (1) (subst (λ (t : Tables). entries t + 1 ≤ most_nodes) (sym c.self.view_is) c.requires.room)).0 in
     omega (arith, fits)
 
 pub returns-clause-one : goal.returns-clause-one

@@ -5,7 +5,7 @@ use Rattle.widl_script.proofs.Parts.{in_three}
 use Rattle.widl_script.proofs.Growing.{row_is}
 use Rattle.widl_script_tree.specs.Rows.{most_nodes}
 use Rattle.widl_script.specs.Room.{entries}
-use Rattle.widl_script.proofs.Room.{puts_at_most, expressions_fit, item_entries}
+use Rattle.widl_script.proofs.Room.{puts_at_most, each_fits, item_entries}
 use Rattle.widl_script.proofs.build.nodes.Nodes.put_row.Goals as goal
 
 pub returns-clause-row : goal.returns-clause-row
@@ -16,7 +16,7 @@ returns-clause-row c =
 
 pub put_row-requires-clause-room : goal.put_row-requires-clause-room
 put_row-requires-clause-room c =
-    let fits = expressions_fit _ (length c.args.places.now) (subst (λ (t : Tables). entries t + length c.args.places.now ≤ most_nodes) (sym c.self.view_is) c.requires.room) in
+    let fits = (each_fits _ (length c.args.places.now) (subst (λ (t : Tables). entries t + length c.args.places.now ≤ most_nodes) (sym c.self.view_is) c.requires.room)).0 in
     omega (arith, fits)
 
 pub returns-clause-each : goal.returns-clause-each

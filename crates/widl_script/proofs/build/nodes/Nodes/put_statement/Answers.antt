@@ -6,7 +6,7 @@ use Rattle.widl_script.proofs.Parts.{in_both}
 use Rattle.widl_script.proofs.Putting.{statement_put}
 use Rattle.widl_script_tree.specs.Rows.{most_nodes}
 use Rattle.widl_script.specs.Room.{entries}
-use Rattle.widl_script.proofs.Room.{puts_at_most, statements_fit, statement_entries}
+use Rattle.widl_script.proofs.Room.{puts_at_most, each_fits, statement_entries}
 use Rattle.widl_script.proofs.build.nodes.Nodes.put_statement.Goals as goal
 
 pub returns-clause-put : goal.returns-clause-put
@@ -20,7 +20,7 @@ returns-clause-put c =
 
 pub put_statement-requires-clause-room : goal.put_statement-requires-clause-room
 put_statement-requires-clause-room c =
-    let fits = statements_fit _ (1) (subst (λ (t : Tables). entries t + 1 ≤ most_nodes) (sym c.self.view_is) c.requires.room) in
+    let fits = (each_fits _ (1) (subst (λ (t : Tables). entries t + 1 ≤ most_nodes) (sym c.self.view_is) c.requires.room)).1 in
     omega (arith, fits)
 
 pub returns-clause-one : goal.returns-clause-one

@@ -6,7 +6,7 @@ use Rattle.widl_script.proofs.Putting.{statement_row}
 use Rattle.std.specs.Prelude.{OnOk, OnErr}
 use Rattle.widl_script_tree.specs.Rows.{most_nodes}
 use Rattle.widl_script.specs.Room.{entries}
-use Rattle.widl_script.proofs.Room.{items_put, nothing_put, statements_fit}
+use Rattle.widl_script.proofs.Room.{items_put, nothing_put, each_fits}
 use Rattle.widl_script.proofs.build.nodes.Nodes.put_statements.Goals as goal
 
 pub returns-clause-row : goal.returns-clause-row
@@ -18,7 +18,7 @@ returns-clause-row c =
 
 pub put_statement_row-requires-clause-room : goal.put_statement_row-requires-clause-room
 put_statement_row-requires-clause-room c =
-    let fits = statements_fit _ (length c.args.places.now) (subst (λ (t : Tables). entries t + length c.args.places.now ≤ most_nodes) (sym c.self.view_is) c.requires.room) in
+    let fits = (each_fits _ (length c.args.places.now) (subst (λ (t : Tables). entries t + length c.args.places.now ≤ most_nodes) (sym c.self.view_is) c.requires.room)).1 in
     omega (arith, fits)
 
 pub returns-clause-each : goal.returns-clause-each

@@ -5,7 +5,7 @@ use Rattle.widl_script.proofs.Parts.{in_both}
 use Rattle.widl_script.proofs.Putting.{block_put}
 use Rattle.widl_script_tree.specs.Rows.{most_nodes}
 use Rattle.widl_script.specs.Room.{entries}
-use Rattle.widl_script.proofs.Room.{puts_at_most, blocks_fit, block_entries}
+use Rattle.widl_script.proofs.Room.{puts_at_most, each_fits, block_entries}
 use Rattle.widl_script.proofs.build.nodes.Nodes.put_steps.Goals as goal
 
 pub returns-clause-put : goal.returns-clause-put
@@ -15,7 +15,7 @@ returns-clause-put c =
 
 pub put_steps-requires : goal.put_steps-requires
 put_steps-requires c =
-    let fits = blocks_fit _ (1) (subst (λ (t : Tables). entries t + 1 ≤ most_nodes) (sym c.self.view_is) c.requires.room) in
+    let fits = (each_fits _ (1) (subst (λ (t : Tables). entries t + 1 ≤ most_nodes) (sym c.self.view_is) c.requires.room)).3 in
     omega (arith, fits)
 
 pub returns-clause-one : goal.returns-clause-one
