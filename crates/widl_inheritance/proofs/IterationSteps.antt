@@ -4,7 +4,6 @@ use Rattle.std.specs.List.{Contains, list_any}
 use Rattle.std.proofs.lemmas.List.{take_all}
 use Rattle.std.proofs.lemmas.Option.{get_or_from_slice_get}
 use Rattle.std.proofs.Math.Bool.{or-false}
-use Rattle.std.proofs.lemmas.List.Folds.{list_any-append}
 use Rattle.widl_idl.specs.declared.violation.Violation.{Violation}
 use Rattle.widl_idl.specs.declared.tree.members.Member.{Member}
 use Rattle.widl_idl.specs.First.{AtOne, FirstWhere, Somewhere, earlier}
@@ -14,16 +13,9 @@ use Rattle.widl_names.specs.Listings.{listed_members}
 use Rattle.widl_inheritance.specs.Iterations.{FollowsIterable, IsHiding, iterable_place, violation_if}
 use Rattle.widl_fits.proofs.Fits.{item_any}
 use Rattle.widl_names.proofs.Mapped.{all_somewhere, next_somewhere}
-use Rattle.widl_names.proofs.PlainLists.{mapped_more}
+use Rattle.widl_names.proofs.MappedLoops.{any_push, listed_next}
 use Rattle.widl_names.proofs.Pushed.{at_one_push}
 use Rattle.widl_overload.specs.IterableRules.{AtIterable, has_iterable, is_iterable}
-
--- the members up to the next one
-listed_next : (members : List (Bor Member)) (i : ℕ) (m : Bor Member) → i < length members → m ≡ get_or members i m → listed_members (take (i + 1) members) ≡ listed_members (take i members) ++ member_of m.now ∷ []
-listed_next members i m below is = mapped_more (λ (x : Bor Member). member_of x.now) members i m below is
-
-any_push : (test : PlainMember → Bool) (xs : List PlainMember) (x : PlainMember) → list_any test (xs ++ x ∷ []) ≡ (list_any test xs || test x)
-any_push test xs x = list_any-append test xs (x ∷ []) ∙ ap (λ b. list_any test xs || b) (or-false (test x))
 
 -- whether one of the members passes a test, with one member more
 pub any_next : (test : PlainMember → Bool) (members : List (Bor Member)) (i : ℕ) (m : Bor Member) (old passes now : Bool) → i < length members → m ≡ get_or members i m → passes ≡ test (member_of m.now) → now ≡ (old || passes)

@@ -4,7 +4,6 @@ use Rattle.std.specs.List.{list_any}
 use Rattle.std.specs.Map.{update}
 use Rattle.std.proofs.Math.Bool.{or-false}
 use Rattle.std.proofs.lemmas.List.{take_all}
-use Rattle.std.proofs.lemmas.List.Folds.{list_any-append}
 use Rattle.std.proofs.lemmas.Slice.Eq.{bytes_eq-Decides}
 use Rattle.indexmap.specs.IndexMap.{IndexMap, get_by}
 use Rattle.widl_idl.specs.DefinitionTerms.{MemberTerm, member_term}
@@ -14,6 +13,7 @@ use Rattle.widl_idl.specs.First.{AtOne, FirstWhere, earlier, violation_at}
 use Rattle.widl_idl.proofs.Order.{one_place}
 use Rattle.widl_names.proofs.PlainLists.{mapped_more}
 use Rattle.widl_names.proofs.Pushed.{at_one_push}
+use Rattle.widl_names.proofs.MappedLoops.{any_push}
 use Rattle.widl_overload.specs.DictionaryRules.{has_member}
 use Rattle.widl_inheritance.specs.MemberEnds.{RepeatsKnown, end_of}
 
@@ -65,9 +65,6 @@ of_either false b h (inr e) = let f : false ≡ true = e in (cc)
 and_true : (a b : Bool) → b ≡ true → (a && b) ≡ a
 and_true true b h = h
 and_true false b h = refl
-
-any_push : (test : MemberTerm → Bool) (xs : List MemberTerm) (x : MemberTerm) → list_any test (xs ++ x ∷ []) ≡ (list_any test xs || test x)
-any_push test xs x = list_any-append test xs (x ∷ []) ∙ ap (λ b. list_any test xs || b) (or-false (test x))
 
 module _ (old was now : List ℕ → ℕ) (start past : ℕ) (full : start < past) (before : List MemberTerm) (m : MemberTerm) (best found : Option Violation) (kept : MembersKept old was start past before best) where
   known_is : nat_lt start (was m.name) ≡ (nat_lt start (old m.name) || has_member m.name before)

@@ -13,7 +13,7 @@ use Rattle.widl_idl.specs.PlainTrees.{PlainDefinition, PlainOperation}
 use Rattle.widl_idl.specs.WrittenLiterals.{units_of}
 use Rattle.widl_names.proofs.Pushed.{some_is}
 use Rattle.widl_merge.specs.PutTogether.{AreNumbers, IsFirstAt, is_named}
-use Rattle.widl_merge.proofs.Known.{any_push}
+use Rattle.widl_names.proofs.MappedLoops.{any_push}
 
 same_kind_is : (a b : Bool) → both_or_none a b ≡ true → a ≡ b
 same_kind_is true b e = sym e

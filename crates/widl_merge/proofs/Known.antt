@@ -18,12 +18,9 @@ use Rattle.widl_idl.proofs.Order.{first_same, not_before_same}
 use Rattle.widl_idl.proofs.Somewhere.{somewhere_both, somewhere_one}
 use Rattle.widl_names.specs.PartTables.{listed_parts}
 use Rattle.widl_merge.specs.Repeats.{IsKnown, known_at, known_name}
+use Rattle.widl_names.proofs.MappedLoops.{any_push}
 use Rattle.widl_names.proofs.PlainLists.{mapped_more}
 use Rattle.widl_names.proofs.Pushed.{at_one_push, some_is}
-
--- a test on a list with one item more
-pub any_push : {X : Type 0} (test : X → Bool) (xs : List X) (x : X) → list_any test (xs ++ x ∷ []) ≡ (list_any test xs || test x)
-any_push test xs x = list_any-append test xs (x ∷ []) ∙ ap (λ b. list_any test xs || b) (or-false (test x))
 
 -- the names that are known, with one member more
 pub names_step : (text : List ℕ) (static : Bool) (members : List Member) (i : ℕ) (m : Member) (start old new : Bool) → i < length members → m ≡ get_or members i m
@@ -33,13 +30,6 @@ names_step text static members i m start old new below is adds was =
     let test : PlainMember → Bool = λ (x : PlainMember). is_operation_of text static x.kind in
     adds ∙ ap (λ b. b || test (member_of m)) was ∙ or_assoc start (list_any test (members_of (take i members))) (test (member_of m))
     ∙ ap (λ b. start || b) (sym (any_push test (members_of (take i members)) (member_of m)) ∙ ap (list_any test) (sym (mapped_more member_of members i m below is)))
-
--- the first violation in what a list is mapped to, with one item more
-pub somewhere_step : {X Y : Type 0} (P : Y → Violation → Type 0) (f : X → Y) (xs : List X) (i : ℕ) (x : X) (best found now : Option Violation) → i < length xs → x ≡ get_or xs i x → now ≡ earlier best found → FirstWhere (P (f x)) found
-    → FirstWhere (Somewhere P (map f (take i xs))) best → FirstWhere (Somewhere P (map f (take (i + 1) xs))) now
-somewhere_step P f xs i x best found now below is e h m =
-    subst (FirstWhere (Somewhere P (map f (take (i + 1) xs)))) (sym e) (subst (λ ys. FirstWhere (Somewhere P ys) (earlier best found)) (sym (mapped_more f xs i x below is))
-    (somewhere_both P (map f (take i xs)) (f x ∷ []) best found m (somewhere_one P (f x) found h)))
 
 -- a violation that is found is the least one
 found_first : (found : Option Violation) → FirstWhere (λ s. found ≡ Some s) found
@@ -104,6 +94,3 @@ repeated_step known now_known parts i part members added best found now below is
 
 pub repeated_all : (known : List ℕ → Bool → Bool) (parts : List (Bor DefinitionKind)) (i : ℕ) (best : Option Violation) → length parts ≤ i → Repeated known (listed_parts (take i parts)) best → FirstWhere (AtOne RepeatsOperation (listed_parts parts)) best
 repeated_all known parts i best past r = subst (λ ps. FirstWhere (AtOne RepeatsOperation (listed_parts ps)) best) (take_all i parts past) r.earliest
-
-pub somewhere_end : {X Y : Type 0} (P : Y → Violation → Type 0) (f : X → Y) (xs : List X) (i : ℕ) (best : Option Violation) → length xs ≤ i → FirstWhere (Somewhere P (map f (take i xs))) best → FirstWhere (Somewhere P (map f xs)) best
-somewhere_end P f xs i best past m = subst (λ ys. FirstWhere (Somewhere P (map f ys)) best) (take_all i xs past) m

@@ -19,7 +19,7 @@ use Rattle.widl_names.specs.Listings.{listed_definitions}
 use Rattle.widl_names.specs.PartTables.{ListsParts, has_members, has_parts, means_itself}
 use Rattle.widl_merge.specs.Repeats.{RepeatsAt, RepeatsInOwner, is_owner}
 use Rattle.widl_names.proofs.KeptMembers.{no_members}
-use Rattle.widl_merge.proofs.Known.{any_push}
+use Rattle.widl_names.proofs.MappedLoops.{any_push}
 use Rattle.widl_names.proofs.NamedParts.{meaning_named, meant_at}
 use Rattle.widl_names.proofs.PlainLists.{listed_more}
 use Rattle.widl_names.proofs.Pushed.{at_one_push, either_pushed, some_is}

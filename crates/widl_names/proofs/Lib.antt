@@ -15,3 +15,4 @@ pub mod TypedefEnds
 pub mod TypedefLinks
 pub mod ParentGraphs
 pub mod KnownTexts
+pub mod MappedLoops

@@ -16,7 +16,8 @@ use Rattle.widl_idl.specs.PlainTrees.{PlainMember, PlainMemberKind, PlainOperati
 use Rattle.widl_idl.proofs.Order.{one_place}
 use Rattle.widl_overload.specs.MemberRules.{HasOverloadPastLimit, IsOverloadPastLimit, constructor_count, constructor_place}
 use Rattle.widl_valid.specs.MemberTables.{count_in, has_overload, is_constructor, is_overload, violation_past_limit}
-use Rattle.widl_valid.proofs.NamedViolations.{listed_next, members_end, members_step, named_first, no_members, nowhere}
+use Rattle.widl_names.proofs.MappedLoops.{at_one_end, at_one_step, listed_next, none_at_one}
+use Rattle.widl_valid.proofs.NamedViolations.{named_first, nowhere}
 use Rattle.widl_names.specs.Listings.{listed_members}
 
 -- what is kept for a text, with one more counted for one
@@ -65,7 +66,7 @@ pub record Counted (overloads : List ℕ → Bool → ℕ) (constructors : ℕ) 
   pub earliest : FirstWhere (AtOne HasOverloadPastLimit members) best
 
 pub nothing_counted : (overloads : List ℕ → Bool → ℕ) (constructors : ℕ) → ((text : List ℕ) (static : Bool) → overloads text static ≡ 0) → constructors ≡ 0 → Counted overloads constructors [] None
-nothing_counted overloads constructors none zero = record { operations = none; made = zero; earliest = no_members HasOverloadPastLimit }
+nothing_counted overloads constructors none zero = record { operations = none; made = zero; earliest = none_at_one HasOverloadPastLimit }
 
 module _ (overloads : List ℕ → Bool → ℕ) (constructors : ℕ) (before : List PlainMember) (same : (text : List ℕ) (static : Bool) → overloads text static ≡ length (overloads_in before text static)) (made : constructors ≡ constructor_count before) where
   -- the overloads of a named operation
@@ -93,7 +94,7 @@ counted_step overloads now_overloads constructors now_constructors members i m b
           adds text static ∙ ap (λ n. cond (is_overload text static kind) (n + 1) n) (r.operations text static) ∙ sym (overloads_push text static (operations_in before) kind)
           ∙ ap (λ os. length (filter (has_overload text static) os)) (sym (operations_push before (member_of m.now))) ∙ ap (λ ms. length (overloads_in ms text static)) (sym (listed_next members i m below is));
       made = makes ∙ ap (λ n. cond (is_constructor kind) (n + 1) n) r.made ∙ sym (constructors_push before (member_of m.now)) ∙ ap constructor_count (sym (listed_next members i m below is));
-      earliest = members_step HasOverloadPastLimit members i m best found now below is e (past_first overloads constructors before r.operations r.made kind found f) r.earliest;
+      earliest = at_one_step (λ (x : Bor Member). member_of x.now) members HasOverloadPastLimit i m best found now below is e (past_first overloads constructors before r.operations r.made kind found f) r.earliest;
     }
 
 -- a count that is no more than the members before
@@ -102,4 +103,4 @@ within_next true old now i e below = omega (arith, e, below)
 within_next false old now i e below = omega (arith, e, below)
 
 pub counted_end : (overloads : List ℕ → Bool → ℕ) (constructors : ℕ) (members : List (Bor Member)) (i : ℕ) (best : Option Violation) → length members ≤ i → Counted overloads constructors (listed_members (take i members)) best → FirstWhere (AtOne HasOverloadPastLimit (listed_members members)) best
-counted_end overloads constructors members i best past r = members_end HasOverloadPastLimit members i best past r.earliest
+counted_end overloads constructors members i best past r = at_one_end (λ (x : Bor Member). member_of x.now) members HasOverloadPastLimit i best past r.earliest

@@ -2,7 +2,6 @@ pub mod ResolvedUses
 pub mod SettledUses
 pub mod ApartMembers
 pub mod ListedUses
-pub mod MappedLoops
 pub mod RepeatedTexts
 pub mod ArgumentPlaces
 pub mod DefinitionPlaces

@@ -6,7 +6,7 @@ use Rattle.widl_idl.specs.declared.violation.Violation.{Violation}
 use Rattle.widl_idl.specs.First.{AtOne, FirstWhere, earlier, violation_at}
 use Rattle.widl_idl.proofs.Order.{one_place}
 use Rattle.widl_valid.specs.KnownTexts.{RepeatsText}
-use Rattle.widl_valid.proofs.MappedLoops.{any_step, at_one_end, at_one_step, none_at_one}
+use Rattle.widl_names.proofs.MappedLoops.{any_step, at_one_end, at_one_step, none_at_one}
 
 -- the texts of these items are known, and the first violation at which one repeats a text
 pub record Repeated {X : Type 0} (text : X → List ℕ) (at : X → Place) (known : List ℕ → Bool) (xs : List X) (best : Option Violation) : Type 0 where

@@ -8,7 +8,8 @@ use Rattle.widl_idl.specs.PlainTypes.{PlainName}
 use Rattle.widl_idl.specs.PlainTrees.{PlainMember, member_of}
 use Rattle.widl_overload.specs.MemberRules.{RepeatsMember, identifier, is_named, is_operation}
 use Rattle.widl_valid.specs.MemberTables.{violation_of_name}
-use Rattle.widl_valid.proofs.NamedViolations.{any_push, listed_next, members_end, members_step, named_first, no_members}
+use Rattle.widl_names.proofs.MappedLoops.{any_push, at_one_end, at_one_step, listed_next, none_at_one}
+use Rattle.widl_valid.proofs.NamedViolations.{named_first}
 use Rattle.widl_names.specs.Listings.{listed_members}
 
 -- whether a member has this name, and one that is an operation or not may not have it too
@@ -21,7 +22,7 @@ pub record Repeated (clash : List ℕ → Bool → Bool) (members : List PlainMe
   pub earliest : FirstWhere (AtOne RepeatsMember members) best
 
 pub nothing_repeated : (clash : List ℕ → Bool → Bool) → ((text : List ℕ) (operation : Bool) → clash text operation ≡ false) → Repeated clash [] None
-nothing_repeated clash none = record { names = none; earliest = no_members RepeatsMember }
+nothing_repeated clash none = record { names = none; earliest = none_at_one RepeatsMember }
 
 module _ (clash : List ℕ → Bool → Bool) (before : List PlainMember) (same : (text : List ℕ) (operation : Bool) → clash text operation ≡ list_any (forbids text operation) before) where
   repeats_first : (m : PlainMember) (found : Option Violation) → found ≡ violation_of_name (identifier m.kind) (λ text. clash text (is_operation m.kind)) → FirstWhere (RepeatsMember before m) found
@@ -38,8 +39,8 @@ repeated_step clash now_clash members i m best found now below is f e adds r =
     let before = listed_members (take i members) in
     record {
       names = λ text operation. adds text operation ∙ ap (λ b. b || forbids text operation (member_of m.now)) (r.names text operation) ∙ sym (any_push (forbids text operation) before (member_of m.now)) ∙ ap (list_any (forbids text operation)) (sym (listed_next members i m below is));
-      earliest = members_step RepeatsMember members i m best found now below is e (repeats_first clash before r.names (member_of m.now) found f) r.earliest;
+      earliest = at_one_step (λ (x : Bor Member). member_of x.now) members RepeatsMember i m best found now below is e (repeats_first clash before r.names (member_of m.now) found f) r.earliest;
     }
 
 pub repeated_end : (clash : List ℕ → Bool → Bool) (members : List (Bor Member)) (i : ℕ) (best : Option Violation) → length members ≤ i → Repeated clash (listed_members (take i members)) best → FirstWhere (AtOne RepeatsMember (listed_members members)) best
-repeated_end clash members i best past r = members_end RepeatsMember members i best past r.earliest
+repeated_end clash members i best past r = at_one_end (λ (x : Bor Member). member_of x.now) members RepeatsMember i best past r.earliest

@@ -12,7 +12,8 @@ use Rattle.widl_idl.specs.PlainTrees.{PlainDefinition, PlainMember, PlainMemberK
 use Rattle.widl_overload.specs.MemberRules.{DiffersInPromise, MixesPromises, agree_on_promises, returns_promise}
 use Rattle.widl_valid.specs.MemberTables.{gives_promise, has_overload, is_overload, violation_of_other}
 use Rattle.widl_valid.proofs.Counted.{operations_push}
-use Rattle.widl_valid.proofs.NamedViolations.{any_push, listed_next, members_end, members_step, named_first, no_members, nowhere}
+use Rattle.widl_names.proofs.MappedLoops.{any_push, at_one_end, at_one_step, listed_next, none_at_one}
+use Rattle.widl_valid.proofs.NamedViolations.{named_first, nowhere}
 use Rattle.widl_names.specs.Listings.{listed_members}
 
 -- a test, split by whether another one holds
@@ -66,7 +67,7 @@ pub record Returned (known : List ℕ → Bool → Bool → Bool) (definitions :
   pub earliest : FirstWhere (AtOne (MixesPromises definitions) members) best
 
 pub nothing_returned : (known : List ℕ → Bool → Bool → Bool) (definitions : List PlainDefinition) → ((text : List ℕ) (static promise : Bool) → known text static promise ≡ false) → Returned known definitions [] None
-nothing_returned known definitions none = record { names = none; earliest = no_members (MixesPromises definitions) }
+nothing_returned known definitions none = record { names = none; earliest = none_at_one (MixesPromises definitions) }
 
 module _ (known : List ℕ → Bool → Bool → Bool) (definitions : List PlainDefinition) (before : List PlainMember) (same : (text : List ℕ) (static promise : Bool) → known text static promise ≡ list_any (returns_alike definitions text static promise) (operations_in before)) where
   -- of a named operation
@@ -105,8 +106,8 @@ returned_step known now_known definitions members i m promise best found now bel
           ∙ sym (returned_push definitions text static asked (operations_in before) kind)
           ∙ ap (list_any (returns_alike definitions text static asked)) (sym (operations_push before (member_of m.now)))
           ∙ ap (λ ms. list_any (returns_alike definitions text static asked) (operations_in ms)) (sym (listed_next members i m below is));
-      earliest = members_step (MixesPromises definitions) members i m best found now below is e (other_first known definitions before r.names promise kind found p f) r.earliest;
+      earliest = at_one_step (λ (x : Bor Member). member_of x.now) members (MixesPromises definitions) i m best found now below is e (other_first known definitions before r.names promise kind found p f) r.earliest;
     }
 
 pub returned_end : (known : List ℕ → Bool → Bool → Bool) (definitions : List PlainDefinition) (members : List (Bor Member)) (i : ℕ) (best : Option Violation) → length members ≤ i → Returned known definitions (listed_members (take i members)) best → FirstWhere (AtOne (MixesPromises definitions) (listed_members members)) best
-returned_end known definitions members i best past r = members_end (MixesPromises definitions) members i best past r.earliest
+returned_end known definitions members i best past r = at_one_end (λ (x : Bor Member). member_of x.now) members (MixesPromises definitions) i best past r.earliest

@@ -11,7 +11,8 @@ use Rattle.widl_idl.specs.PlainTrees.{PlainMember, PlainMemberKind, AttributeMem
 use Rattle.widl_idl.proofs.Order.{one_place}
 use Rattle.widl_overload.specs.MemberRules.{AtPlace, IsSecondStringifier, stringifier_place, word_of_attribute}
 use Rattle.widl_valid.specs.MemberTables.{violation_after}
-use Rattle.widl_valid.proofs.NamedViolations.{any_push, listed_next, members_end, members_step, no_members, nowhere}
+use Rattle.widl_names.proofs.MappedLoops.{any_push, at_one_end, at_one_step, listed_next, none_at_one}
+use Rattle.widl_valid.proofs.NamedViolations.{nowhere}
 use Rattle.widl_names.specs.Listings.{listed_members}
 
 -- a stringifier is what has the word
@@ -34,7 +35,7 @@ pub record Seen (seen : Bool) (members : List PlainMember) (best : Option Violat
   pub earliest : FirstWhere (AtOne IsSecondStringifier members) best
 
 pub nothing_seen : Seen false [] None
-nothing_seen = record { one = refl; earliest = no_members IsSecondStringifier }
+nothing_seen = record { one = refl; earliest = none_at_one IsSecondStringifier }
 
 -- one member more
 pub seen_step : (seen now_seen : Bool) (members : List (Bor Member)) (i : ℕ) (m : Bor Member) (place : Option Place) (best found now : Option Violation) → i < length members → m ≡ get_or members i m
@@ -47,9 +48,9 @@ seen_step seen now_seen members i m place best found now below is p f e adds r =
     record {
       one = adds ∙ ap (λ b. b || is_some place) r.one ∙ ap (λ at. has is_stringifier before || is_some at) p ∙ ap (λ b. has is_stringifier before || b) (sym (member_word kind))
           ∙ sym (any_push (λ (x : PlainMember). is_stringifier x.kind) before (member_of m.now)) ∙ ap (has is_stringifier) (sym (listed_next members i m below is));
-      earliest = members_step IsSecondStringifier members i m best found now below is e
+      earliest = at_one_step (λ (x : Bor Member). member_of x.now) members IsSecondStringifier i m best found now below is e
           (after_first (has is_stringifier before ≡ true) seen (stringifier_place kind) found (λ h. sym one ∙ h) (λ h q. absurd (cc)) (f ∙ ap (violation_after seen) p)) r.earliest;
     }
 
 pub seen_end : (seen : Bool) (members : List (Bor Member)) (i : ℕ) (best : Option Violation) → length members ≤ i → Seen seen (listed_members (take i members)) best → FirstWhere (AtOne IsSecondStringifier (listed_members members)) best
-seen_end seen members i best past r = members_end IsSecondStringifier members i best past r.earliest
+seen_end seen members i best past r = at_one_end (λ (x : Bor Member). member_of x.now) members IsSecondStringifier i best past r.earliest

@@ -2,7 +2,7 @@ use Rattle.std.proofs.Common.{arith}
 use Rattle.widl_idl.specs.First.{AtOne}
 use Rattle.widl_idl.specs.PlainTrees.{arguments_of}
 use Rattle.widl_overload.specs.ArgumentRules.{IsArgumentPastLimit}
-use Rattle.widl_valid.proofs.MappedLoops.{somewhere_end, somewhere_step}
+use Rattle.widl_names.proofs.MappedLoops.{somewhere_end, somewhere_step}
 use Rattle.widl_valid.proofs.argument_rules.first_argument_past_limit.Goals as goal
 
 pub loop-list-preserved : goal.loop-list-preserved

@@ -1,7 +1,7 @@
 use Rattle.std.proofs.Common.{arith}
 use Rattle.widl_idl.specs.PlainTrees.{argument_of}
 use Rattle.widl_overload.specs.ArgumentRules.{RepeatsArgument}
-use Rattle.widl_valid.proofs.MappedLoops.{at_one_end, at_one_step}
+use Rattle.widl_names.proofs.MappedLoops.{at_one_end, at_one_step}
 use Rattle.widl_valid.proofs.argument_rules.repeated_among_few.Goals as goal
 
 pub loop-index-preserved : goal.loop-index-preserved

@@ -1,7 +1,7 @@
 use Rattle.std.proofs.Common.{arith}
 use Rattle.widl_idl.specs.PlainTypes.{attribute_of}
 use Rattle.widl_overload.specs.DefinitionRules.{IsAnnotation}
-use Rattle.widl_valid.proofs.MappedLoops.{somewhere_end, somewhere_step}
+use Rattle.widl_names.proofs.MappedLoops.{somewhere_end, somewhere_step}
 use Rattle.widl_valid.proofs.definition_rules.first_annotation.Goals as goal
 
 pub loop-attribute-preserved : goal.loop-attribute-preserved

@@ -1,7 +1,7 @@
 use Rattle.std.proofs.Common.{arith}
 use Rattle.widl_idl.specs.PlainTrees.{PlainMember, member_of}
 use Rattle.widl_overload.specs.DefinitionRules.{IsNameless}
-use Rattle.widl_valid.proofs.MappedLoops.{somewhere_end, somewhere_step}
+use Rattle.widl_names.proofs.MappedLoops.{somewhere_end, somewhere_step}
 use Rattle.widl_valid.proofs.definition_rules.nameless_in.Goals as goal
 
 pub loop-member-preserved : goal.loop-member-preserved

@@ -1,12 +1,15 @@
 -- What a loop over a list finds of what the items are seen as, an item at a time.
-use Rattle.std.proofs.Common.{◌≡◌, ℕ, ◌+◌, ◌<◌, ◌≤◌, ◌++◌, Bool, ◌||◌, List, [], ◌∷◌, length, take, map, get_or, Option, None, arith, sym, ap, subst, ◌∙◌}
+use Rattle.std.proofs.Common.{◌≡◌, ℕ, ◌+◌, ◌<◌, ◌≤◌, ◌++◌, Bool, ◌||◌, List, [], ◌∷◌, length, take, map, get_or, Option, None, arith, sym, ap, subst, ◌∙◌, Bor}
 use Rattle.std.specs.List.{list_any}
 use Rattle.std.proofs.lemmas.List.{take_all}
 use Rattle.std.proofs.Math.Bool.{or-false}
 use Rattle.std.proofs.lemmas.List.Folds.{list_any-append}
+use Rattle.widl_idl.specs.declared.tree.members.Member.{Member}
 use Rattle.widl_idl.specs.declared.violation.Violation.{Violation}
 use Rattle.widl_idl.specs.First.{AtOne, FirstWhere, Somewhere, earlier}
+use Rattle.widl_idl.specs.PlainTrees.{member_of}
 use Rattle.widl_idl.proofs.Somewhere.{somewhere_both, somewhere_one}
+use Rattle.widl_names.specs.Listings.{listed_members}
 use Rattle.widl_names.proofs.PlainLists.{mapped_more}
 use Rattle.widl_names.proofs.Pushed.{at_one_push}
 
@@ -16,6 +19,10 @@ any_push test xs x = list_any-append test xs (x ∷ []) ∙ ap (λ b. list_any t
 
 pub none_at_one : {X : Type 0} (P : List X → X → Violation → Type 0) → FirstWhere (AtOne P []) None
 none_at_one P = λ s u. absurd (let below = u.below in omega arith)
+
+-- the members up to the next one
+pub listed_next : (members : List (Bor Member)) (i : ℕ) (m : Bor Member) → i < length members → m ≡ get_or members i m → listed_members (take (i + 1) members) ≡ listed_members (take i members) ++ member_of m.now ∷ []
+listed_next members i m below is = mapped_more (λ (x : Bor Member). member_of x.now) members i m below is
 
 module _ {X Y : Type 0} (f : X → Y) (xs : List X) where
   -- one item more
