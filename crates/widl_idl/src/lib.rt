@@ -68,4 +68,4 @@ pub use text_kind::TextKind;
 pub use tree::{Fragment, Fragments};
 pub use types::{IdlType, IdlTypes};
 pub use unions::{flattened, includes_nullable, nullable_count};
-pub use violation::{Violation, earlier_violation};
+pub use violation::{Violation, comes_before, earlier_violation};

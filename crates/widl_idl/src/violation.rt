@@ -28,7 +28,7 @@ impl Violation {
 }
 
 /// Whether a place stands before another: by file, then by offset.
-pub(crate) fn comes_before(p: Place, q: Place) -> bool
+pub fn comes_before(p: Place, q: Place) -> bool
     ensures { result ≡ is_before p q }
 {
     p.file < q.file || p.file == q.file && p.at < q.at

@@ -1,7 +1,7 @@
 //! What the annotations before a type say of it.
 
 ghost use Rattle.std.specs.Prelude.{◌≡◌, ◌++◌, List, [], map, option_map, false};
-ghost use Rattle.widl_idl.specs.First.{earlier, is_before, violation_at};
+ghost use Rattle.widl_idl.specs.First.{earlier, violation_at};
 ghost use Rattle.widl_idl.specs.PlainTypes.{attribute_of};
 ghost use Rattle.widl_idl.specs.Resolution.{Note, annotated, earlier_mode, mode_or_wrap, takes_null_to_empty};
 ghost use Rattle.widl_idl.specs.Terms.{type_term, IntegerType, StringType};
@@ -10,7 +10,7 @@ ghost use Rattle.widl_idl.specs.WrittenTypes.{annotation_of, notes_of};
 ghost use Rattle.widl_names.specs.SaidNotes.{Says, mode_said, said_by};
 
 use widl_idl::tree::ExtendedAttribute;
-use widl_idl::{IdlType, IntKind, Mode, TextKind};
+use widl_idl::{IdlType, IntKind, Mode, TextKind, comes_before};
 use widl_text::Place;
 
 /// An annotation that sets the mode of an integer type.
@@ -135,7 +135,7 @@ fn earlier_mode(
     match (first, second) {
         (None, _) => second,
         (Some(_), None) => first,
-        (Some(a), Some(b)) => if stands_before(b.at, a.at) {
+        (Some(a), Some(b)) => if comes_before(b.at, a.at) {
             second
         } else {
             first
@@ -150,14 +150,8 @@ fn earlier_place(first: Option<Place>, second: Option<Place>) -> Option<Place>
     match (first, second) {
         (None, _) => second,
         (Some(_), None) => first,
-        (Some(p), Some(q)) => if stands_before(q, p) { second } else { first },
+        (Some(p), Some(q)) => if comes_before(q, p) { second } else { first },
     }
-}
-
-fn stands_before(p: Place, q: Place) -> bool
-    ensures { result ≡ is_before p q }
-{
-    p.file < q.file || p.file == q.file && p.at < q.at
 }
 
 fn mode_or_wrap(said: Option<ModeAnnotation>) -> Mode

@@ -8,7 +8,7 @@ ghost use Rattle.widl_overload.specs.TypeRules.{HasClampAndEnforceRange, later};
 ghost use Rattle.widl_valid.specs.UsesListed.{UseTerm, resolved_use};
 
 use crate::resolved_uses::ResolvedUse;
-use widl_idl::{Violation, earlier_violation};
+use widl_idl::{Violation, comes_before, earlier_violation};
 use widl_names::{Annotations, Resolver};
 use widl_text::Place;
 
@@ -52,9 +52,5 @@ fn later_of_both(clamp: Option<Place>, enforce: Option<Place>) -> Option<Violati
 fn later(p: Place, q: Place) -> Place
     ensures { result ≡ later p q }
 {
-    if p.file < q.file || p.file == q.file && p.at < q.at {
-        q
-    } else {
-        p
-    }
+    if comes_before(p, q) { q } else { p }
 }
