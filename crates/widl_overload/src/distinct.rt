@@ -153,7 +153,7 @@ fn holds_dictionary(t: &IdlType) -> bool
 
 /// Whether one of the types that this one is flattened to is a dictionary.
 #[cycle(dictionary)]
-fn any_dictionary(t: &IdlType) -> bool
+pub fn any_dictionary(t: &IdlType) -> bool
     ensures { result ≡ list_any is_dictionary (flattened_member (type_term t.now)) }
 {
     match t {
@@ -284,7 +284,7 @@ fn do_overlap(c: Category, d: Category) -> bool
 }
 
 /// The category of a type that is neither nullable nor a union.
-fn category_of(t: &IdlType) -> Category
+pub fn category_of(t: &IdlType) -> Category
     ensures { result ≡ category (type_term t.now) }
 {
     match t {

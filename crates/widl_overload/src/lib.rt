@@ -32,8 +32,8 @@ pub use accepted::Accepted;
 pub use callees::{overload_list, overloads};
 pub use category::Category;
 pub use distinct::{
-    distinguishable, distinguishable_by_rules, distinguishable_from_itself,
-    distinguishable_is_symmetric,
+    any_dictionary, category_of, distinguishable, distinguishable_by_rules,
+    distinguishable_from_itself, distinguishable_is_symmetric,
 };
 pub use index::distinguishing_index;
 pub use inheritance::inherits;

@@ -1,11 +1,6 @@
--- For proofs alone. The rules that read a type by itself, and what is sought among the types that a type is flattened to.
-use Rattle.std.specs.Prelude.{Bool}
+-- For proofs alone. The rules that read a type by itself.
 use Rattle.widl_idl.specs.declared.violation.Violation.{Violation}
-use Rattle.widl_idl.specs.Terms.{TypeTerm}
-use Rattle.widl_overload.specs.Distinct.{is_dictionary}
-use Rattle.widl_overload.specs.TypeRules.{HasMisplacedAnnotation, HaveNullableAndDictionary, HaveSeveralNullable, IsAnnotatedMember, IsCopiedAttribute, IsNullableDictionary, IsOtherConstantType, IsUndefinedInside, IsWronglyNullable, OfUnion, is_copied}
-use Rattle.widl_valid.specs.declared.sought.Sought.{Sought}
-use Rattle.widl_valid.specs.declared.sought.Sought.TheVariants as sought
+use Rattle.widl_overload.specs.TypeRules.{HasMisplacedAnnotation, HaveNullableAndDictionary, HaveSeveralNullable, IsAnnotatedMember, IsCopiedAttribute, IsNullableDictionary, IsOtherConstantType, IsUndefinedInside, IsWronglyNullable, OfUnion}
 use Rattle.widl_valid.specs.declared.type_rules.TypeRule.{TypeRule}
 use Rattle.widl_valid.specs.declared.type_rules.TypeRule.TheVariants as rule
 use Rattle.widl_valid.specs.UsesListed.{UseTerm}
@@ -21,8 +16,3 @@ BreaksTypeRule rule.NullableBesideDictionary r s = OfUnion HaveNullableAndDictio
 BreaksTypeRule rule.AnnotatedMember r s = IsAnnotatedMember r.meaning r.written s
 BreaksTypeRule rule.NullableDictionary r s = IsNullableDictionary r.meaning r.written s
 BreaksTypeRule rule.MisplacedAnnotation r s = HasMisplacedAnnotation r.meaning r.written s
-
--- whether a type is what is sought
-unfoldable pub is_sought : Sought → TypeTerm → Bool
-is_sought sought.Dictionary = is_dictionary
-is_sought sought.Copied = is_copied

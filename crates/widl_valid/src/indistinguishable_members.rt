@@ -8,12 +8,12 @@ ghost use Rattle.widl_overload.specs.TypeRules.{HaveIndistinguishablePair};
 ghost use Rattle.widl_valid.specs.Lineages.{TellRelated};
 ghost use Rattle.widl_valid.specs.IndistinguishablePairs.{IsFlat, any_pair, are_related, clash, interface_number, listed};
 
-use crate::kinds_seen::{KindsSeen, kind_of_member};
+use crate::kinds_seen::KindsSeen;
 use crate::lineages::Lineages;
 use crate::related_interfaces::any_related;
 use std::alloc::{AllocError, Global};
 use widl_idl::{Defs, IdlTypes};
-use widl_overload::Category;
+use widl_overload::{Category, category_of};
 
 /// Whether two of the types, which are the flattened members of a union, aren't distinguishable (Web IDL,
 /// "distinguishable").
@@ -45,7 +45,7 @@ fn any_clash(types: &IdlTypes) -> bool
 {
     let mut seen = KindsSeen::nothing();
     for t in types.as_slice() {
-        let kind = kind_of_member(t);
+        let kind = category_of(t);
         if seen.meets(kind) {
             return true;
         }
@@ -60,7 +60,7 @@ fn interface_numbers(alloc: Global, types: &IdlTypes) -> Result<Vec<u32>, AllocE
 {
     let mut numbers = Vec::new(alloc);
     for t in types.as_slice() {
-        push_number(&mut numbers, kind_of_member(t))?;
+        push_number(&mut numbers, category_of(t))?;
     }
     Ok(numbers)
 }

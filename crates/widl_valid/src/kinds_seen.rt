@@ -1,11 +1,8 @@
 //! Which kinds of types are among the members of a union that were read so far.
 
 ghost use Rattle.std.specs.Prelude.{◌≡◌};
-ghost use Rattle.widl_idl.specs.Terms.{type_term};
-ghost use Rattle.widl_overload.specs.Distinct.{category};
 ghost use Rattle.widl_valid.specs.IndistinguishableKinds.{has_objects, is_met, nothing_seen, with_kind};
 
-use widl_idl::IdlType;
 use widl_overload::Category;
 
 /// Whether a member of each kind was seen.
@@ -102,26 +99,5 @@ impl KindsSeen {
             Category::SequenceLike => seen.sequence_like = true,
         }
         seen
-    }
-}
-
-/// The kind of a type that is neither nullable nor a union.
-pub fn kind_of_member(t: &IdlType) -> Category
-    ensures { result ≡ category (type_term t.now) }
-{
-    match t {
-        IdlType::Any | IdlType::Promise(_) | IdlType::Nullable(_) | IdlType::Union(_) =>
-            Category::Never,
-        IdlType::Undefined => Category::Undefined,
-        IdlType::Boolean => Category::Boolean,
-        IdlType::Int(_, _) => Category::Numeric,
-        IdlType::Text { .. } | IdlType::Choice(_) => Category::String,
-        IdlType::Object => Category::Object,
-        IdlType::Interface(number) => Category::Interface(*number),
-        IdlType::CallbackFn(_) => Category::Function,
-        IdlType::CallbackIface(_) | IdlType::Dict(_) | IdlType::Rec(_, _) => {
-            Category::DictionaryLike
-        }
-        IdlType::Seq(_) => Category::SequenceLike,
     }
 }

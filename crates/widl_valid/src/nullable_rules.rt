@@ -11,10 +11,9 @@ ghost use Rattle.widl_overload.specs.TypeRules.{HaveNullableAndDictionary, HaveS
 ghost use Rattle.widl_valid.specs.UsesListed.{resolved_use};
 
 use crate::resolved_uses::ResolvedUse;
-use crate::sought::any_dictionary;
 use widl_idl::tree::TypeForm;
 use widl_idl::{IdlType, Violation, includes_nullable, nullable_count};
-use widl_overload::TypeRole;
+use widl_overload::{TypeRole, any_dictionary};
 
 /// The place of the `?` of a type that may not have one.
 pub fn wrongly_nullable(ty: &ResolvedUse<'_>) -> Option<Violation>

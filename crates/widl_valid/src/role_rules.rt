@@ -8,8 +8,8 @@ ghost use Rattle.widl_idl.specs.Terms.{type_term};
 ghost use Rattle.widl_overload.specs.TypeRules.{IsCopiedAttribute, IsOtherConstantType, IsUndefinedInside, is_attribute_role, is_constant_role, is_constant_type, is_undefined_form, takes_undefined};
 ghost use Rattle.widl_valid.specs.UsesListed.{resolved_use};
 
+use crate::copied::any_copied;
 use crate::resolved_uses::ResolvedUse;
-use crate::sought::any_copied;
 use widl_idl::tree::TypeForm;
 use widl_idl::{IdlType, Violation};
 use widl_overload::TypeRole;
