@@ -1,3 +1,5 @@
+pub mod FirstRefusals
+pub mod DefinitionRefusals
 pub mod ResolvedUses
 pub mod SettledUses
 pub mod ApartMembers
@@ -10,7 +12,7 @@ pub mod Repetitions
 pub mod Counted
 pub mod Returned
 pub mod SecondStringifiers
-pub mod OwnerViolations
+pub mod OwnerRefusals
 mod IndistinguishableKinds
 mod IndistinguishablePairs
 mod AnyPair
@@ -22,7 +24,5 @@ pub mod LaterAnnotations
 pub mod TypedefNotes
 pub mod SameSets
 pub mod Valid
-pub mod TypeViolations
-pub mod DefinitionViolations
 pub mod MemberNodes
-pub mod MemberTypes
+pub mod MemberRefusals

@@ -1,18 +1,21 @@
 -- A rule that speaks of members alone is broken among all that is written where a member breaks it.
 use Rattle.std.proofs.Common.{◌≡◌, inl, inr, ◌++◌, Bool, true, false, List, [], ◌∷◌, flat_map, Option, None, Some, refl}
 use Rattle.widl_idl.specs.declared.violation.Violation.{Violation}
-use Rattle.widl_idl.specs.First.{FirstWhere, Somewhere}
+use Rattle.widl_idl.specs.First.{Somewhere}
 use Rattle.widl_idl.specs.Meanings.{declared_name}
 use Rattle.widl_idl.specs.PlainTypes.{PlainName, PlainAttribute, PlainLiteral, PlainForm, PlainType, PlainAnnotated, PlainMembers, PlainContainer, PlainRecord, PlainPromise, PlainUnion, plain_type, plain_annotated, no_plain, more_plain}
 use Rattle.widl_idl.specs.PlainTrees.{PlainArgument, PlainArgumentKind, RequiredArgument, OptionalArgument, VariadicArgument, PlainMember, PlainMemberKind, ConstantMember, AttributeMember, OperationMember, ConstructorMember, StringifierMember, IterableMember, AsyncIterableMember, MaplikeMember, SetlikeMember, PlainDictionaryMember, PlainDefinition, PlainKind, CallbackFunctionDefinition, CallbackInterfaceDefinition, InterfaceDefinition, MixinDefinition, NamespaceDefinition, DictionaryDefinition, EnumerationDefinition, TypedefDefinition, IncludesStatement}
 use Rattle.widl_idl.specs.Nodes.{Node, TypeNode, AttributeNode, LiteralNode, NameNode, MemberNode, CallbackMemberNode, nodes_of_attributes, nodes_of_form, nodes_of_type, nodes_of_annotated, nodes_of_union, nodes_of_default, nodes_of_argument_kind, nodes_of_argument, nodes_of_arguments, nodes_of_optional_arguments, nodes_of_optional_name, nodes_of_optional_type, nodes_of_member_kind, nodes_of_member, nodes_of_callback_member, nodes_of_dictionary_member, nodes_inside, nodes_of_definition}
-use Rattle.widl_idl.proofs.Order.{first_same}
 use Rattle.widl_idl.proofs.Somewhere.{nowhere, one_item, somewhere_cases, somewhere_left, somewhere_right}
 use Rattle.widl_valid.specs.MemberTypes.{member_nodes, own_members}
 
 abbrev pub is_member : Node → Bool
 is_member (MemberNode kind) = true
 is_member node = false
+
+-- two predicates hold at the same violations
+abbrev Same : (Violation → Type 0) → (Violation → Type 0) → Type 0
+Same A B = ((s : Violation) → A s → B s) × ((s : Violation) → B s → A s)
 
 module _ (P : Node → Violation → Type 0) (alone : (t : Node) → is_member t ≡ false → (s : Violation) → P t s → ⊥) where
   -- none of these nodes breaks the rule
@@ -121,31 +124,28 @@ module _ (P : Node → Violation → Type 0) (alone : (t : Node) → is_member t
     | inr r ↦ somewhere_right P (MemberNode m.kind ∷ []) (member_nodes more) s (among_members more s r)
   ]
 
-  members_first : (members : List PlainMember) (found : Option Violation) → FirstWhere (Somewhere P (member_nodes members)) found → FirstWhere (Somewhere P (flat_map nodes_of_member members)) found
-  members_first members found l = first_same (Somewhere P (member_nodes members)) (Somewhere P (flat_map nodes_of_member members)) found (among_nodes members) (among_members members) l
+  nothing_same : (nodes : List Node) → Spared nodes → Same (Somewhere P []) (Somewhere P nodes)
+  nothing_same nodes spared = (λ s h. absurd (nowhere P s h), λ s h. absurd (spared s h))
 
-  nothing_first : (nodes : List Node) (found : Option Violation) → Spared nodes → FirstWhere (Somewhere P []) found → FirstWhere (Somewhere P nodes) found
-  nothing_first nodes found spared l = first_same (Somewhere P []) (Somewhere P nodes) found (λ s h. absurd (nowhere P s h)) (λ s h. absurd (spared s h)) l
+  inside_same : (kind : PlainKind) → Same (Somewhere P (member_nodes (own_members kind))) (Somewhere P (nodes_inside kind))
+  inside_same (CallbackFunctionDefinition c) = nothing_same (nodes_of_type c.returned ++ nodes_of_arguments c.arguments) (spared_both (nodes_of_type c.returned) (nodes_of_arguments c.arguments) (spared_type c.returned) (spared_arguments c.arguments))
+  inside_same (CallbackInterfaceDefinition c) = nothing_same (flat_map nodes_of_callback_member c.members) (spared_callback_members c.members)
+  inside_same (InterfaceDefinition i) = (among_nodes i.members, among_members i.members)
+  inside_same (MixinDefinition m) = (among_nodes m.members, among_members m.members)
+  inside_same (NamespaceDefinition n) = (among_nodes n.members, among_members n.members)
+  inside_same (DictionaryDefinition d) = nothing_same (flat_map nodes_of_dictionary_member d.members) (spared_dictionary_members d.members)
+  inside_same (EnumerationDefinition e) = (λ s h. h, λ s h. h)
+  inside_same (TypedefDefinition d) = nothing_same (nodes_of_annotated d.ty) (spared_annotated d.ty)
+  inside_same (IncludesStatement i) = (λ s h. h, λ s h. h)
 
-  inside_first : (kind : PlainKind) (found : Option Violation) → FirstWhere (Somewhere P (member_nodes (own_members kind))) found → FirstWhere (Somewhere P (nodes_inside kind)) found
-  inside_first (CallbackFunctionDefinition c) found l = nothing_first (nodes_of_type c.returned ++ nodes_of_arguments c.arguments) found (spared_both (nodes_of_type c.returned) (nodes_of_arguments c.arguments) (spared_type c.returned) (spared_arguments c.arguments)) l
-  inside_first (CallbackInterfaceDefinition c) found l = nothing_first (flat_map nodes_of_callback_member c.members) found (spared_callback_members c.members) l
-  inside_first (InterfaceDefinition i) found l = members_first i.members found l
-  inside_first (MixinDefinition m) found l = members_first m.members found l
-  inside_first (NamespaceDefinition n) found l = members_first n.members found l
-  inside_first (DictionaryDefinition d) found l = nothing_first (flat_map nodes_of_dictionary_member d.members) found (spared_dictionary_members d.members) l
-  inside_first (EnumerationDefinition e) found l = l
-  inside_first (TypedefDefinition d) found l = nothing_first (nodes_of_annotated d.ty) found (spared_annotated d.ty) l
-  inside_first (IncludesStatement i) found l = l
-
-  -- the least among the members of a definition is the least among all that is written in it
-  pub definition_first : (d : PlainDefinition) (found : Option Violation) → FirstWhere (Somewhere P (member_nodes (own_members d.kind))) found → FirstWhere (Somewhere P (nodes_of_definition d)) found
-  definition_first d found l =
+  -- what breaks among the members of a definition breaks among all that is written in it
+  pub definition_same : (d : PlainDefinition) → Same (Somewhere P (member_nodes (own_members d.kind))) (Somewhere P (nodes_of_definition d))
+  definition_same d =
       let name = nodes_of_optional_name (declared_name d.kind) in
-      first_same (Somewhere P (nodes_inside d.kind)) (Somewhere P (nodes_of_definition d)) found
-      (λ s h. somewhere_right P (nodes_of_attributes d.attributes) (name ++ nodes_inside d.kind) s (somewhere_right P name (nodes_inside d.kind) s h))
-      (λ s h. elim (somewhere_cases P (nodes_of_attributes d.attributes) (name ++ nodes_inside d.kind) s h) [
-        | inl l ↦ absurd (spared_attributes d.attributes s l)
-        | inr r ↦ elim (somewhere_cases P name (nodes_inside d.kind) s r) [ inl n ↦ absurd (spared_optional_name (declared_name d.kind) s n) | inr inside ↦ inside ]
-      ])
-      (inside_first d.kind found l)
+      let inside = inside_same d.kind in (
+        λ s h. somewhere_right P (nodes_of_attributes d.attributes) (name ++ nodes_inside d.kind) s (somewhere_right P name (nodes_inside d.kind) s (inside.0 s h)),
+        λ s h. elim (somewhere_cases P (nodes_of_attributes d.attributes) (name ++ nodes_inside d.kind) s h) [
+          | inl l ↦ absurd (spared_attributes d.attributes s l)
+          | inr r ↦ elim (somewhere_cases P name (nodes_inside d.kind) s r) [ inl n ↦ absurd (spared_optional_name (declared_name d.kind) s n) | inr parts ↦ inside.1 s parts ]
+        ],
+      )

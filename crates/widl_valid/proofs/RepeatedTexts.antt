@@ -1,5 +1,5 @@
 -- Items whose text an earlier one has, an item at a time.
-use Rattle.std.proofs.Common.{◌≡◌, ℕ, ◌+◌, ◌<◌, ◌≤◌, Bool, true, false, cond, ◌||◌, List, [], length, take, map, get_or, bytes_eq, Option, None, Some, refl, sym, ap, ◌∙◌, Bor}
+use Rattle.std.proofs.Common.{◌≡◌, ℕ, ◌+◌, ◌<◌, ◌≤◌, Bool, true, false, cond, ◌||◌, List, [], length, take, map, get_or, bytes_eq, Option, None, Some, sym, ap, ◌∙◌}
 use Rattle.std.specs.List.{list_any}
 use Rattle.widl_text.specs.declared.place.Place.{Place}
 use Rattle.widl_idl.specs.declared.violation.Violation.{Violation}

@@ -1,5 +1,5 @@
 -- The names of members that stand before, and the first violation at which a member repeats one.
-use Rattle.std.proofs.Common.{◌≡◌, ℕ, ◌+◌, ◌<◌, ◌≤◌, Bool, true, false, ◌&&◌, ◌||◌, not, cond, List, [], length, take, get_or, Option, None, arith, bytes_eq, refl, sym, ap, ◌∙◌, Bor}
+use Rattle.std.proofs.Common.{◌≡◌, ℕ, ◌+◌, ◌<◌, ◌≤◌, Bool, true, false, ◌&&◌, ◌||◌, not, List, [], length, take, get_or, Option, None, sym, ap, ◌∙◌, Bor}
 use Rattle.std.specs.List.{list_any}
 use Rattle.widl_idl.specs.declared.violation.Violation.{Violation}
 use Rattle.widl_idl.specs.declared.tree.members.Member.{Member}

@@ -1,52 +1,24 @@
--- The types that are left out where rules on types are asked break none of them.
-use Rattle.std.proofs.Common.{◌≡◌, ◌⊎◌, inl, inr, Bool, true, false, ℕ, ◌+◌, ◌<◌, ◌++◌, List, [], ◌∷◌, length, take, map, get_or, cond, eqb-true, Option, None, Some, arith, refl, sym, ap, subst, ◌∙◌}
-use Rattle.std.specs.Prelude.{◌&&◌, ◌||◌, ◌==◌, not, filter, Contains}
+-- The types of which the rules on types aren't asked break none of them.
+use Rattle.std.proofs.Common.{◌≡◌, Bool, true, false, ℕ, ◌++◌, List, [], ◌∷◌, length, map, eqb-true, None, Some, arith, refl, sym, ap, subst, ◌∙◌}
+use Rattle.std.specs.Prelude.{◌&&◌, ◌||◌, ◌==◌, not, Contains}
 use Rattle.std.specs.List.{list_any}
-use Rattle.std.proofs.lemmas.List.{map-append, take_more}
-use Rattle.std.proofs.lemmas.List.Elements.{filter-append}
 use Rattle.widl_text.specs.declared.place.Place.{Place}
 use Rattle.widl_idl.specs.declared.interface.Iface.{Iface}
-use Rattle.widl_idl.specs.declared.text_kind.TextKind.{TextKind}
 use Rattle.widl_idl.specs.declared.text_kind.TextKind.TheVariants as texts
 use Rattle.widl_idl.specs.declared.violation.Violation.{Violation}
-use Rattle.widl_idl.specs.First.{FirstWhere, Somewhere}
 use Rattle.widl_idl.specs.Flattened.{flattened_member}
 use Rattle.widl_idl.specs.PlainTrees.{PlainDefinition}
 use Rattle.widl_idl.specs.PlainTypes.{PlainForm, PlainAny, PlainUndefined, PlainBoolean, PlainObject, PlainInteger, PlainText, PlainUnion, PlainAttribute, PlainType, plain_type}
 use Rattle.widl_idl.specs.Resolution.{Note, resolve}
 use Rattle.widl_idl.specs.Terms.{TypeTerm, TypeTerms}
 use Rattle.widl_idl.specs.WrittenTypes.{meaning_of_type, notes_of, typedefs, written_form, written_type}
-use Rattle.widl_idl.proofs.Order.{first_same}
-use Rattle.widl_idl.proofs.Somewhere.{nowhere, one_item, somewhere_cases, somewhere_left, somewhere_right}
 use Rattle.widl_overload.specs.declared.type_role.TypeRole.{TypeRole}
+use Rattle.widl_overload.specs.declared.validity_rule.ValidityRule.{ValidityRule}
+use Rattle.widl_overload.specs.declared.validity_rule.ValidityRule.TheVariants as rule
 use Rattle.widl_overload.specs.TypeRules.{HasClampAndEnforceRange, HasMisplacedAnnotation, HaveIndistinguishableMembers, HaveNullableAndDictionary, HaveSeveralNullable, IsAnnotatedMember, IsCopiedAttribute, IsNullableDictionary, IsOtherConstantType, IsUndefinedInside, IsWronglyNullable, OfUnion, all_notes, has_question, is_annotated, is_constant_role, is_copied, is_nullable_dictionary, is_undefined_form, is_undefined_word, is_union_form, is_written_union, is_wrongly_nullable, notes_after, notes_in, takes_undefined}
 use Rattle.widl_overload.specs.TypeUses.{TypeUse, meaning_of_use}
-use Rattle.widl_valid.specs.declared.type_violations.TypeViolations.{TypeViolations}
-use Rattle.widl_valid.specs.SettledUses.{are_none, is_asked, is_settled, is_settled_form, is_settled_type}
-use Rattle.widl_valid.specs.TypeViolations.{AreTypeViolations, InUses}
-use Rattle.widl_valid.specs.UsesListed.{UseTerm, with_meaning}
-
--- what breaks among some items is among those that are kept, where no other one breaks
-module _ {X Y : Type 0} (P : Y → Violation → Type 0) (f : X → Y) (keep : X → Bool) where
-  into_all : (xs : List X) (s : Violation) → Somewhere P (map f (filter keep xs)) s → Somewhere P (map f xs) s
-  into_all [] s h = h
-  into_all (x ∷ xs) s h = go (keep x) (into_all xs s) h
-    where
-      go : (b : Bool) → (Somewhere P (map f (filter keep xs)) s → Somewhere P (map f xs) s) → Somewhere P (map f (cond b (x ∷ filter keep xs) (filter keep xs))) s → Somewhere P (map f (x ∷ xs)) s
-      go true rest k = elim (somewhere_cases P (f x ∷ []) (map f (filter keep xs)) s k) [ inl here ↦ somewhere_left P (f x ∷ []) (map f xs) s here | inr later ↦ somewhere_right P (f x ∷ []) (map f xs) s (rest later) ]
-      go false rest k = somewhere_right P (f x ∷ []) (map f xs) s (rest k)
-
-  module _ (others : (x : X) (s : Violation) → keep x ≡ false → P (f x) s → ⊥) where
-    out_of_all : (xs : List X) (s : Violation) → Somewhere P (map f xs) s → Somewhere P (map f (filter keep xs)) s
-    out_of_all [] s h = h
-    out_of_all (x ∷ xs) s h = go (keep x) refl (out_of_all xs s)
-      where
-        go : (b : Bool) → keep x ≡ b → (Somewhere P (map f xs) s → Somewhere P (map f (filter keep xs)) s) → Somewhere P (map f (cond b (x ∷ filter keep xs) (filter keep xs))) s
-        go true e rest = elim (somewhere_cases P (f x ∷ []) (map f xs) s h) [ inl here ↦ somewhere_left P (f x ∷ []) (map f (filter keep xs)) s here | inr later ↦ somewhere_right P (f x ∷ []) (map f (filter keep xs)) s (rest later) ]
-        go false e rest = elim (somewhere_cases P (f x ∷ []) (map f xs) s h) [ inl here ↦ absurd (others x s e (one_item P (f x) s here)) | inr later ↦ rest later ]
-
-    first_of_all : (xs : List X) (found : Option Violation) → FirstWhere (Somewhere P (map f (filter keep xs))) found → FirstWhere (Somewhere P (map f xs)) found
-    first_of_all xs found l = first_same (Somewhere P (map f (filter keep xs))) (Somewhere P (map f xs)) found (into_all xs) (out_of_all xs) l
+use Rattle.widl_valid.specs.SettledUses.{are_none, is_settled, is_settled_form, is_settled_type}
+use Rattle.widl_valid.specs.TypeRefusals.{BreaksUse}
 
 -- what the rules ask of what such a type means
 record Settled (t : TypeTerm) : Type 0 where
@@ -76,10 +48,6 @@ both_true false b e = cc
 not_true : (a : Bool) → not a ≡ true → a ≡ false
 not_true true e = cc
 not_true false e = refl
-
-not_false : (a : Bool) → not a ≡ false → a ≡ true
-not_false true e = refl
-not_false false e = cc
 
 none_is : (attributes : List PlainAttribute) → are_none attributes ≡ true → attributes ≡ []
 none_is [] e = refl
@@ -176,31 +144,20 @@ module _ (definitions : List PlainDefinition) (u : TypeUse) (e : is_settled u �
   no_clamp_and_enforce : (s : Violation) → HasClampAndEnforceRange definitions u s → ⊥
   no_clamp_and_enforce s h = nothing_listed (all_notes definitions u) h.clamp notes_are h.clamp_listed
 
--- the first violations among the types that are asked are those among all
-module _ (ifaces : List Iface) (definitions : List PlainDefinition) (uses : List TypeUse) where
-  more : (Breaks : TypeTerm → TypeUse → Violation → Type 0) → ((u : TypeUse) → is_settled u ≡ true → (s : Violation) → Breaks (meaning_of_use definitions u) u s → ⊥) → (found : Option Violation) → FirstWhere (InUses (map (with_meaning definitions) (filter is_asked uses)) Breaks) found → FirstWhere (InUses (map (with_meaning definitions) uses) Breaks) found
-  more Breaks none found l = first_of_all (λ (r : UseTerm). Breaks r.meaning r.written) (with_meaning definitions) is_asked (λ u s e h. none u (not_false (is_settled u) e) s h) uses found l
-
-  pub of_all_uses : (violations : TypeViolations) → AreTypeViolations ifaces definitions (map (with_meaning definitions) (filter is_asked uses)) violations → AreTypeViolations ifaces definitions (map (with_meaning definitions) uses) violations
-  of_all_uses violations a = record {
-    other_constant_type = more IsOtherConstantType (no_other_constant_type definitions) _ a.other_constant_type;
-    copied_attribute = more IsCopiedAttribute (no_copied_attribute definitions) _ a.copied_attribute;
-    undefined_inside = more (λ t u s. IsUndefinedInside u s) (no_undefined_inside definitions) _ a.undefined_inside;
-    wrongly_nullable = more IsWronglyNullable (no_wrongly_nullable definitions) _ a.wrongly_nullable;
-    several_nullable = more (OfUnion HaveSeveralNullable) (λ u e. of_no_union definitions u e HaveSeveralNullable) _ a.several_nullable;
-    nullable_beside_dictionary = more (OfUnion HaveNullableAndDictionary) (λ u e. of_no_union definitions u e HaveNullableAndDictionary) _ a.nullable_beside_dictionary;
-    annotated_member = more IsAnnotatedMember (no_annotated_member definitions) _ a.annotated_member;
-    nullable_dictionary = more IsNullableDictionary (no_nullable_dictionary definitions) _ a.nullable_dictionary;
-    misplaced_annotation = more HasMisplacedAnnotation (no_misplaced_annotation definitions) _ a.misplaced_annotation;
-    clamp_and_enforce = more (λ t u s. HasClampAndEnforceRange definitions u s) (no_clamp_and_enforce definitions) _ a.clamp_and_enforce;
-    indistinguishable_union = more (OfUnion (HaveIndistinguishableMembers ifaces)) (λ u e. of_no_union definitions u e (HaveIndistinguishableMembers ifaces)) _ a.indistinguishable_union;
-  }
-
--- one type more is looked at
-pub asked_more : {V : Type 0} (f : V → TypeUse) (xs : List V) (i : ℕ) (x : V) → i < length xs → x ≡ get_or xs i x → filter is_asked (map f (take (i + 1) xs)) ≡ filter is_asked (map f (take i xs)) ++ filter is_asked (f x ∷ [])
-asked_more f xs i x below is =
-    ap (filter is_asked) (ap (map f) (take_more xs i x below ∙ ap (λ y. take i xs ++ y ∷ []) (sym is)) ∙ map-append f (take i xs) (x ∷ []))
-    ∙ filter-append is_asked (map f (take i xs)) (f x ∷ [])
+  -- it breaks no rule on types
+  pub no_type_rule : (ifaces : List Iface) (which : ValidityRule) (s : Violation) → BreaksUse ifaces definitions which u s → ⊥
+  no_type_rule ifaces rule.OtherConstantType = no_other_constant_type
+  no_type_rule ifaces rule.CopiedAttribute = no_copied_attribute
+  no_type_rule ifaces rule.UndefinedInside = no_undefined_inside
+  no_type_rule ifaces rule.WronglyNullable = no_wrongly_nullable
+  no_type_rule ifaces rule.SeveralNullableMembers = of_no_union HaveSeveralNullable
+  no_type_rule ifaces rule.NullableBesideDictionary = of_no_union HaveNullableAndDictionary
+  no_type_rule ifaces rule.AnnotatedUnionMember = no_annotated_member
+  no_type_rule ifaces rule.NullableDictionary = no_nullable_dictionary
+  no_type_rule ifaces rule.MisplacedAnnotation = no_misplaced_annotation
+  no_type_rule ifaces rule.ClampAndEnforceRange = no_clamp_and_enforce
+  no_type_rule ifaces rule.IndistinguishableUnionMembers = of_no_union (HaveIndistinguishableMembers ifaces)
+  no_type_rule ifaces other = λ s h. h
 
 -- there are no attributes, as their lengths tell
 pub none_listed : {X : Type 0} (f : X → PlainAttribute) (xs ys : List X) (first second : Bool) → first ≡ (length xs == 0) → first ≡ true → second ≡ (length ys == 0) → second ≡ are_none (map f xs ++ map f ys)

@@ -1,5 +1,5 @@
 -- For proofs alone. Items whose text an earlier one has.
-use Rattle.std.specs.Prelude.{◌≡◌, ℕ, Bool, true, List, bytes_eq}
+use Rattle.std.specs.Prelude.{◌≡◌, ℕ, true, List, bytes_eq}
 use Rattle.std.specs.List.{list_any}
 use Rattle.widl_text.specs.declared.place.Place.{Place}
 use Rattle.widl_idl.specs.declared.violation.Violation.{Violation}

@@ -6,11 +6,13 @@ pub mod KnownTexts
 pub mod MemberTables
 pub mod Owners
 pub mod Invalidity
-pub mod TypeRuleList
+pub mod Refusals
+pub mod DefinitionRefusals
+pub mod TypeRefusals
 pub mod Misplaced
 pub mod IndistinguishableKinds
 pub mod IndistinguishablePairs
 pub mod Lineages
 pub mod MemberTypes
-pub mod TypeViolations
-pub mod DefinitionViolations
+pub mod MemberRefusals
+pub mod InheritedRefusals

@@ -1,27 +1,31 @@
--- For proofs alone. The violations at which the rules on members are broken first, of one owner and of all.
-use Rattle.std.specs.Prelude.{◌≡◌, ℕ, Bool, true, ◌&&◌, List, length, None, Some}
+-- For proofs alone. The rules on members, asked of one owner and of all.
+use Rattle.std.specs.Prelude.{◌≡◌, ℕ, Bool, true, ◌&&◌, List, length, Some}
 use Rattle.widl_idl.specs.declared.kind.Kind.{Kind}
 use Rattle.widl_idl.specs.declared.violation.Violation.{Violation}
-use Rattle.widl_idl.specs.First.{AtOne, FirstWhere, earlier}
+use Rattle.widl_idl.specs.First.{AtOne}
 use Rattle.widl_idl.specs.Meanings.{kind_of, main_name, meaning}
 use Rattle.widl_idl.specs.Parts.{merged_members}
 use Rattle.widl_idl.specs.PlainTypes.{PlainName}
 use Rattle.widl_idl.specs.PlainTrees.{PlainDefinition, PlainKind, PlainMember}
-use Rattle.widl_overload.specs.MemberRules.{HasKeptName, HasOverloadPastLimit, InOneOwner, IsSecondStringifier, MixesPromises, RepeatsMember, has_members_of_its_own, is_interface_kind}
-use Rattle.widl_valid.specs.declared.owners.MemberViolations.{MemberViolations}
+use Rattle.widl_overload.specs.declared.validity_rule.ValidityRule.{ValidityRule}
+use Rattle.widl_overload.specs.declared.validity_rule.ValidityRule.TheVariants as rule
+use Rattle.widl_overload.specs.MemberRules.{HasKeptName, HasOverloadPastLimit, IsSecondStringifier, MixesPromises, RepeatsMember, has_members_of_its_own, is_interface_kind}
 use Rattle.widl_names.specs.PartTables.{means_itself}
 
--- the violations are the first at which each of the five rules is broken, where `For` tells which owners are asked
-pub record AreViolations (For : (Kind → Bool) → (List PlainMember → PlainMember → Violation → Type 0) → Violation → Type 0) (definitions : List PlainDefinition) (violations : MemberViolations) : Type 0 where
-  pub repeated : FirstWhere (For has_members_of_its_own RepeatsMember) violations.repeated
-  pub kept_name : FirstWhere (For is_interface_kind HasKeptName) violations.kept_name
-  pub overload : FirstWhere (For has_members_of_its_own HasOverloadPastLimit) violations.overload
-  pub promise : FirstWhere (For has_members_of_its_own (MixesPromises definitions)) violations.promise
-  pub stringifier : FirstWhere (For is_interface_kind IsSecondStringifier) violations.stringifier
+-- the kinds of owners that a rule on members asks
+abbrev pub asks : ValidityRule → Kind → Bool
+asks rule.KeptName = is_interface_kind
+asks rule.Stringifiers = is_interface_kind
+asks other = has_members_of_its_own
 
--- the same of all owners
-abbrev pub AreMemberViolations : List PlainDefinition → MemberViolations → Type 0
-AreMemberViolations definitions violations = AreViolations (λ asked Breaks s. InOneOwner asked Breaks definitions s) definitions violations
+-- a member of an owner breaks the rule; none breaks one that isn't on the members of owners
+abbrev pub BreaksMember : List PlainDefinition → ValidityRule → List PlainMember → PlainMember → Violation → Type 0
+BreaksMember definitions rule.Stringifiers = IsSecondStringifier
+BreaksMember definitions rule.PromisesAndOthers = MixesPromises definitions
+BreaksMember definitions rule.RepeatedMember = RepeatsMember
+BreaksMember definitions rule.KeptName = HasKeptName
+BreaksMember definitions rule.TooManyOverloads = HasOverloadPastLimit
+BreaksMember definitions other = λ before m s. ⊥
 
 -- one of these members of an owner of this kind breaks the rule, which asks the kind
 abbrev pub InMembers : Kind → List PlainMember → (Kind → Bool) → (List PlainMember → PlainMember → Violation → Type 0) → Violation → Type 0
@@ -45,15 +49,14 @@ InDefinitions definitions some asked Breaks s = AtOne (InOwnerAt definitions ask
 abbrev pub is_owner : List PlainDefinition → ℕ → PlainKind → Bool
 is_owner definitions number kind = has_members_of_its_own (kind_of kind) && means_itself definitions number (main_name kind)
 
-abbrev pub no_violations : MemberViolations
-no_violations = record { repeated = None; kept_name = None; overload = None; promise = None; stringifier = None }
+-- the members of this owner break the rule
+abbrev pub MembersBreak : List PlainDefinition → Kind → List PlainMember → ValidityRule → Violation → Type 0
+MembersBreak definitions kind members which s = InMembers kind members (asks which) (BreaksMember definitions which) s
 
--- of each rule the earlier violation
-abbrev pub earlier_violations : MemberViolations → MemberViolations → MemberViolations
-earlier_violations best found = record {
-  repeated = earlier best.repeated found.repeated;
-  kept_name = earlier best.kept_name found.kept_name;
-  overload = earlier best.overload found.overload;
-  promise = earlier best.promise found.promise;
-  stringifier = earlier best.stringifier found.stringifier;
-}
+-- the definition of this number, which its name means, breaks it
+abbrev pub OwnerBreaks : List PlainDefinition → ℕ → PlainKind → ValidityRule → Violation → Type 0
+OwnerBreaks definitions number kind which s = InOwner definitions number kind (asks which) (BreaksMember definitions which) s
+
+-- one of these definitions breaks it
+abbrev pub OwnersBreak : List PlainDefinition → List PlainDefinition → ValidityRule → Violation → Type 0
+OwnersBreak definitions some which s = InDefinitions definitions some (asks which) (BreaksMember definitions which) s

@@ -25,7 +25,3 @@ are_none (a ∷ more) = false
 -- such a type, which is none of a constant
 abbrev pub is_settled : TypeUse → Bool
 is_settled u = (not (is_constant_role u.role) && are_none u.attributes) && is_settled_type u.role u.ty
-
--- a type whose rules are to be asked
-abbrev pub is_asked : TypeUse → Bool
-is_asked u = not (is_settled u)

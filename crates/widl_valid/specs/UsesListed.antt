@@ -4,7 +4,7 @@ use Rattle.widl_idl.specs.PlainTrees.{PlainDefinition}
 use Rattle.widl_idl.specs.PlainTypes.{attribute_of, type_of}
 use Rattle.widl_idl.specs.Terms.{TypeTerm, type_term}
 use Rattle.widl_overload.specs.TypeUses as plain
-use Rattle.widl_overload.specs.TypeUses.{meaning_of_use, type_uses_of}
+use Rattle.widl_overload.specs.TypeUses.{meaning_of_use}
 use Rattle.widl_valid.specs.declared.resolved_uses.ResolvedUse.{ResolvedUse}
 use Rattle.widl_valid.specs.declared.type_uses.TypeUse.{TypeUse}
 
@@ -29,11 +29,3 @@ resolved_use r = record { written = use_of r.written; meaning = type_term r.mean
 
 abbrev pub with_meaning : List PlainDefinition → plain.TypeUse → UseTerm
 with_meaning definitions u = record { written = u; meaning = meaning_of_use definitions u }
-
--- the types of some definitions, with what they mean among all definitions
-abbrev pub uses_of : List PlainDefinition → List PlainDefinition → List UseTerm
-uses_of definitions some = map (with_meaning definitions) (type_uses_of some)
-
--- all types with what they mean
-abbrev pub all_uses : List PlainDefinition → List UseTerm
-all_uses definitions = uses_of definitions definitions

@@ -1,19 +1,22 @@
-//! The joined list of the rules of validity.
+//! The first refusal by all rules of validity, from the first ones by some of them.
 
-ghost use Rattle.std.specs.Prelude.{◌≡◌, [], ◌∷◌, IfOk};
-ghost use Rattle.widl_fits.specs.Hierarchies.{IsForest, interface_parents};
+ghost use Rattle.std.specs.Prelude.{◌≡◌, IfOk};
+ghost use Rattle.widl_idl.specs.declared.defs.Defs.{Defs};
 ghost use Rattle.widl_idl.specs.PlainTrees.{plain_definitions};
-ghost use Rattle.widl_overload.specs.declared.validity_rule.ValidityRule.TheVariants as rule;
-ghost use Rattle.widl_valid.specs.Invalidity.{IsInvalidity, Joins, JoinsOver};
+ghost use Rattle.widl_valid.specs.Invalidity.{IsInvalidity};
+ghost use Rattle.widl_valid.specs.MemberRefusals.{member_rules};
+ghost use Rattle.widl_valid.specs.Refusals.{IsFirstOver};
 
-use crate::definition_violations::find_in_definitions;
-use crate::joined_inherited::{join_defaults, join_dictionaries, join_iterables, join_overloads};
-use crate::joined_rules::{join_arguments, join_definitions, join_nodes, join_owners, join_types};
+use crate::definition_refusals::find_in_definitions;
+use crate::inherited_refusals::{
+    find_in_defaults, find_in_dictionaries, find_in_iterables, find_in_overloads,
+};
 use crate::member_types::find_in_member_types;
 use crate::owners::find_in_owners;
-use crate::type_violations::find_in_types;
+use crate::refusals::earlier_refusal;
+use crate::type_refusals::find_in_types;
 use std::alloc::{AllocError, Global};
-use widl_idl::{Defs, Merged, Refusal};
+use widl_idl::{Merged, Refusal};
 use widl_names::{Meanings, Parts, Resolver, list_definitions};
 
 /// The first refusal of a set of files by the rules of validity, or none where all of them are kept.
@@ -32,47 +35,33 @@ pub fn find_invalid(alloc: Global, merged: &Merged) -> Result<Option<Refusal>, A
     let resolver = Resolver::of(alloc, &meanings)?;
     let parts = Parts::of(alloc, &meanings)?;
     let defs = merged.defs();
-    let best = join_overloads(alloc, defs, None)?;
-    let best = join_iterables(alloc, &meanings, &parts, best)?;
-    let best = join_dictionaries(alloc, defs, best)?;
-    let best = join_defaults(alloc, defs, &meanings, &resolver, best)?;
-    let best = join_members(alloc, &meanings, &parts, &resolver, best)?;
-    let best = join_uses(alloc, defs, &meanings, &resolver, best)?;
-    let violations = find_in_definitions(alloc, all)?;
-    let best = join_arguments(violations, best);
-    Ok(join_definitions(violations, best))
+    let best = find_in_overloads(alloc, defs)?;
+    let found = find_in_iterables(alloc, &meanings, &parts)?;
+    let best = earlier_refusal(best, found);
+    let found = find_in_dictionaries(alloc, defs)?;
+    let best = earlier_refusal(best, found);
+    let found = find_in_defaults(alloc, defs, &meanings, &resolver)?;
+    let best = earlier_refusal(best, found);
+    let found = find_in_members(alloc, &meanings, &parts, &resolver)?;
+    let best = earlier_refusal(best, found);
+    let found = find_in_types(alloc, defs, &meanings, &resolver)?;
+    let best = earlier_refusal(best, found);
+    let found = find_in_definitions(alloc, all)?;
+    Ok(earlier_refusal(best, found))
 }
 
-/// The rules on members.
-fn join_members<'a>(
+/// The first refusal by the rules on members, among those of their owner and with what their types mean.
+fn find_in_members<'a>(
     alloc: Global,
     meanings: &Meanings<'_, 'a>,
     parts: &Parts<'_, 'a>,
     resolver: &Resolver<'_, '_, 'a>,
-    best: Option<Refusal>,
 ) -> Result<Option<Refusal>, AllocError>
     requires same { parts.now ≡ meanings.now }
     requires resolved { resolver.now ≡ meanings.now }
-    ensures { IfOk result (λ earliest. Joins (rule.OtherConstantValue ∷ rule.WritablePromise ∷ rule.Stringifiers ∷ rule.PromisesAndOthers ∷ rule.RepeatedMember ∷ rule.KeptName ∷ rule.TooManyOverloads ∷ []) (plain_definitions meanings.now) best earliest) }
+    ensures { IfOk result (λ found. (defs : Defs) → IsFirstOver defs (plain_definitions meanings.now) member_rules found) }
 {
-    let violations = find_in_owners(alloc, meanings, parts, resolver)?;
-    let best = join_owners(violations, best);
+    let owners = find_in_owners(alloc, meanings, parts, resolver)?;
     let types = find_in_member_types(alloc, resolver, meanings.all())?;
-    Ok(join_nodes(types, violations.stringifier, best))
-}
-
-/// The rules on types.
-fn join_uses<'a>(
-    alloc: Global,
-    defs: &Defs,
-    meanings: &Meanings<'_, 'a>,
-    resolver: &Resolver<'_, '_, 'a>,
-    best: Option<Refusal>,
-) -> Result<Option<Refusal>, AllocError>
-    requires same { resolver.now ≡ meanings.now }
-    requires forest { IsForest (interface_parents defs.now.ifaces) }
-    ensures { IfOk result (λ earliest. JoinsOver (rule.OtherConstantType ∷ rule.CopiedAttribute ∷ rule.UndefinedInside ∷ rule.WronglyNullable ∷ rule.SeveralNullableMembers ∷ rule.NullableBesideDictionary ∷ rule.AnnotatedUnionMember ∷ rule.NullableDictionary ∷ rule.MisplacedAnnotation ∷ rule.ClampAndEnforceRange ∷ rule.IndistinguishableUnionMembers ∷ []) defs.now (plain_definitions meanings.now) best earliest) }
-{
-    let violations = find_in_types(alloc, defs, meanings, resolver)?;
-    Ok(join_types(violations, best))
+    Ok(earlier_refusal(owners, types))
 }

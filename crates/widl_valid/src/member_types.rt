@@ -1,6 +1,6 @@
-//! Where the rules on a constant's value and an attribute's type are broken first.
+//! The first refusal by the rules on a constant's value and an attribute's type.
 
-ghost use Rattle.std.specs.Prelude.{◌≡◌, [], ◌∷◌, IfOk};
+ghost use Rattle.std.specs.Prelude.{◌≡◌, [], IfOk};
 ghost use Rattle.widl_idl.specs.First.{FirstWhere};
 ghost use Rattle.widl_idl.specs.PlainTrees.{AttributeMember, attribute_member_of, definition_kind_of, member_kind_of, members_of, plain_definitions};
 ghost use Rattle.widl_idl.specs.PlainTypes.{annotated_of};
@@ -10,27 +10,20 @@ ghost use Rattle.widl_idl.specs.WrittenTypes.{meaning_of_annotated};
 ghost use Rattle.widl_names.specs.Listings.{listed_definitions};
 ghost use Rattle.widl_overload.specs.MemberRules.{is_promise};
 ghost use Rattle.widl_overload.specs.TypeRules.{HasOtherValue, IsOtherStringifier, IsWritablePromise};
-ghost use Rattle.widl_valid.specs.MemberTypes.{AreMemberTypeViolations, earlier_violations, member_nodes, no_violations, own_members};
+ghost use Rattle.widl_valid.specs.MemberRefusals.{member_rules};
+ghost use Rattle.widl_valid.specs.MemberTypes.{BreaksNode, NodesBreak, member_nodes, own_members};
+ghost use Rattle.widl_valid.specs.Refusals.{IsFirst};
 
 use crate::annotation_rules::is_unit_string;
 use crate::constant_values::other_constant_value;
+use crate::refusals::{earlier_refusal, first};
 use std::alloc::{AllocError, Global};
 use widl_idl::tree::{Attribute, AttributeKind, Definition, DefinitionKind, Member, MemberKind};
-use widl_idl::{IdlType, Violation, earlier_violation};
+use widl_idl::{IdlType, Refusal, Violation};
 use widl_names::{MOST_TYPES, Resolver};
+use widl_overload::ValidityRule;
 
-/// Where the rules are broken first that read a member with what its type means.
-#[derive(Clone, Copy)]
-pub struct MemberTypeViolations {
-    /// The value of a constant is not of its type, or not in its range.
-    pub other_value: Option<Violation>,
-    /// An attribute of promise type isn't read only.
-    pub writable_promise: Option<Violation>,
-    /// A stringifier attribute is neither a DOMString nor a USVString.
-    pub other_stringifier: Option<Violation>,
-}
-
-/// The first violations at which these rules are broken, in all these definitions.
+/// The first refusal by these rules, in all these definitions.
 ///
 /// # Errors
 ///
@@ -39,14 +32,14 @@ pub fn find_in_member_types<'a>(
     alloc: Global,
     resolver: &Resolver<'_, '_, 'a>,
     definitions: &[&'a Definition],
-) -> Result<MemberTypeViolations, AllocError>
-    ensures { IfOk result (AreMemberTypeViolations (plain_definitions resolver.now) (nodes_of (listed_definitions definitions.now))) }
+) -> Result<Option<Refusal>, AllocError>
+    ensures { IfOk result (λ found. IsFirst (NodesBreak (plain_definitions resolver.now) (nodes_of (listed_definitions definitions.now))) member_rules found) }
 {
-    let mut best = MemberTypeViolations::none();
+    let mut best = None;
     for definition in definitions {
         let members = own_members(&definition.kind);
         let found = find_in_members(alloc, resolver, members)?;
-        best = earlier_violations(best, found);
+        best = earlier_refusal(best, found);
     }
     Ok(best)
 }
@@ -63,38 +56,36 @@ fn own_members(kind: &DefinitionKind) -> &[Member]
     }
 }
 
-/// The first violations among members.
+/// The first refusal among members.
 fn find_in_members<'a>(
     alloc: Global,
     resolver: &Resolver<'_, '_, 'a>,
     members: &'a [Member],
-) -> Result<MemberTypeViolations, AllocError>
-    ensures { IfOk result (AreMemberTypeViolations (plain_definitions resolver.now) (member_nodes (members_of members.now))) }
+) -> Result<Option<Refusal>, AllocError>
+    ensures { IfOk result (λ found. IsFirst (NodesBreak (plain_definitions resolver.now) (member_nodes (members_of members.now))) member_rules found) }
 {
-    let mut best = MemberTypeViolations::none();
+    let mut best = None;
     for member in members {
         let found = find_in_member(alloc, resolver, &member.kind)?;
-        best = earlier_violations(best, found);
+        best = earlier_refusal(best, found);
     }
     Ok(best)
 }
 
-/// The first violations in one member.
+/// The first refusal by one member.
 fn find_in_member<'a>(
     alloc: Global,
     resolver: &Resolver<'_, '_, 'a>,
     member: &'a MemberKind,
-) -> Result<MemberTypeViolations, AllocError>
-    ensures { IfOk result (AreMemberTypeViolations (plain_definitions resolver.now) (MemberNode (member_kind_of member.now) ∷ [])) }
+) -> Result<Option<Refusal>, AllocError>
+    ensures { IfOk result (λ found. IsFirst (λ which. BreaksNode (plain_definitions resolver.now) which (MemberNode (member_kind_of member.now))) member_rules found) }
 {
-    let other_value = other_value(alloc, resolver, member)?;
-    let writable_promise = writable_promise(alloc, resolver, member)?;
-    let other_stringifier = other_stringifier(alloc, resolver, member)?;
-    Ok(MemberTypeViolations {
-        other_value,
-        writable_promise,
-        other_stringifier,
-    })
+    let found = other_stringifier(alloc, resolver, member)?;
+    let best = first(None, ValidityRule::Stringifiers, found);
+    let found = writable_promise(alloc, resolver, member)?;
+    let best = first(best, ValidityRule::WritablePromise, found);
+    let found = other_value(alloc, resolver, member)?;
+    Ok(first(best, ValidityRule::OtherConstantValue, found))
 }
 
 /// The place of a constant's value that is not of its type, or not in its range.
@@ -214,30 +205,4 @@ fn own_type<'a>(
 {
     let mut room = MOST_TYPES;
     resolver.resolve_with(alloc, &mut room, &[], &attribute.ty)
-}
-
-/// Of each rule the earlier violation.
-fn earlier_violations(
-    best: MemberTypeViolations,
-    found: MemberTypeViolations,
-) -> MemberTypeViolations
-    ensures { result ≡ earlier_violations best found }
-{
-    MemberTypeViolations {
-        other_value: earlier_violation(best.other_value, found.other_value),
-        writable_promise: earlier_violation(best.writable_promise, found.writable_promise),
-        other_stringifier: earlier_violation(best.other_stringifier, found.other_stringifier),
-    }
-}
-
-impl MemberTypeViolations {
-    fn none() -> MemberTypeViolations
-        ensures { result ≡ no_violations }
-    {
-        MemberTypeViolations {
-            other_value: None,
-            writable_promise: None,
-            other_stringifier: None,
-        }
-    }
 }

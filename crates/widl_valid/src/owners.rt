@@ -1,4 +1,4 @@
-//! The rules on the members of interfaces and namespaces in merged order.
+//! The first refusal by the rules on the members of interfaces and namespaces in merged order.
 
 ghost use Rattle.std.specs.Prelude.{◌≡◌, true, List, None, Some, option_map, slice_get, IfOk};
 ghost use Rattle.widl_idl.specs.First.{AtOne, FirstWhere};
@@ -7,35 +7,24 @@ ghost use Rattle.widl_idl.specs.PlainTrees.{PlainDefinition, definition_kind_of,
 ghost use Rattle.widl_overload.specs.MemberRules.{HasKeptName, IsSecondStringifier, has_members_of_its_own, is_interface_kind};
 ghost use Rattle.widl_names.specs.Listings.{listed_members};
 ghost use Rattle.widl_valid.specs.ApartMembers.{SharesLabel};
-ghost use Rattle.widl_valid.specs.Owners.{AreMemberViolations, AreViolations, InMembers, InOwner, is_owner, earlier_violations, no_violations};
+ghost use Rattle.widl_valid.specs.MemberRefusals.{ByOwner, member_rules};
+ghost use Rattle.widl_valid.specs.Owners.{InMembers, MembersBreak, OwnerBreaks, is_owner};
+ghost use Rattle.widl_valid.specs.Refusals.{IsFirst};
 
 use crate::apart_members::are_apart;
 use crate::kept_names::first_kept_name;
 use crate::overload_counts::first_overload_past_limit;
 use crate::promise_overloads::first_mixing_promises;
+use crate::refusals::{earlier_refusal, first};
 use crate::repeated_members::first_repeated_member;
 use crate::stringifiers::first_second_stringifier;
 use std::alloc::{AllocError, Global};
 use widl_idl::tree::{DefinitionKind, Member};
-use widl_idl::{Kind, Violation, earlier_violation};
+use widl_idl::{Kind, Refusal, Violation};
 use widl_names::{Meanings, Parts, Resolver, kind_of, list_members, means_itself};
+use widl_overload::ValidityRule;
 
-/// Where the rules on the members of owners are broken first.
-#[derive(Clone, Copy)]
-pub struct MemberViolations {
-    /// A member has the name of an earlier one, and not both are operations.
-    pub repeated: Option<Violation>,
-    /// A static member or a constant of an interface has a name that it may not have.
-    pub kept_name: Option<Violation>,
-    /// An operation or a constructor follows 64 of its overloads.
-    pub overload: Option<Violation>,
-    /// An operation returns a promise where its earlier overloads return none, or the other way round.
-    pub promise: Option<Violation>,
-    /// An interface has a second stringifier.
-    pub stringifier: Option<Violation>,
-}
-
-/// The first violations at which the rules on members are broken, in all interfaces and namespaces.
+/// The first refusal by the rules on members, in all interfaces and namespaces.
 ///
 /// # Errors
 ///
@@ -45,22 +34,22 @@ pub fn find_in_owners<'a>(
     meanings: &Meanings<'_, 'a>,
     parts: &Parts<'_, 'a>,
     resolver: &Resolver<'_, '_, 'a>,
-) -> Result<MemberViolations, AllocError>
+) -> Result<Option<Refusal>, AllocError>
     requires same { parts.now ≡ meanings.now }
     requires resolved { resolver.now ≡ meanings.now }
-    ensures { IfOk result (λ violations. AreMemberViolations (plain_definitions meanings.now) violations) }
+    ensures { IfOk result (λ found. IsFirst (ByOwner (plain_definitions meanings.now)) member_rules found) }
 {
-    let mut best = MemberViolations::none();
+    let mut best = None;
     let definitions = meanings.all();
     for (number, definition) in definitions.iter().enumerate() {
         let kind = &definition.kind;
         let found = find_in_owner(alloc, meanings, parts, resolver, number, kind)?;
-        best = earlier_violations(best, found);
+        best = earlier_refusal(best, found);
     }
     Ok(best)
 }
 
-/// The first violations in the definition of this number, if it is an interface or a namespace that its name
+/// The first refusal in the definition of this number, if it is an interface or a namespace that its name
 /// means.
 fn find_in_owner<'a>(
     alloc: Global,
@@ -69,18 +58,18 @@ fn find_in_owner<'a>(
     resolver: &Resolver<'_, '_, 'a>,
     number: usize,
     kind: &DefinitionKind,
-) -> Result<MemberViolations, AllocError>
+) -> Result<Option<Refusal>, AllocError>
     requires same { parts.now ≡ meanings.now }
     requires resolved { resolver.now ≡ meanings.now }
     requires there { option_map (λ d. d.kind) (slice_get (plain_definitions meanings.now) number) ≡ Some (definition_kind_of kind.now) }
-    ensures { IfOk result (λ violations. AreViolations (InOwner (plain_definitions meanings.now) number (definition_kind_of kind.now)) (plain_definitions meanings.now) violations) }
+    ensures { IfOk result (λ found. IsFirst (OwnerBreaks (plain_definitions meanings.now) number (definition_kind_of kind.now)) member_rules found) }
 {
     if is_owner(meanings, number, kind) {
         let list = parts.list(alloc, number)?;
         let members = list_members(alloc, &list)?;
         find_in_members(alloc, resolver, kind_of(kind), &members)
     } else {
-        Ok(MemberViolations::none())
+        Ok(None)
     }
 }
 
@@ -109,44 +98,45 @@ fn is_interface(kind: Kind) -> bool
     }
 }
 
-/// The first violations among these members of an interface or a namespace; each rule asks its kinds alone.
+/// The first refusal among these members of an interface or a namespace; each rule asks its kinds alone.
 fn find_in_members<'a>(
     alloc: Global,
     resolver: &Resolver<'_, '_, 'a>,
     kind: Kind,
     members: &[&'a Member],
-) -> Result<MemberViolations, AllocError>
+) -> Result<Option<Refusal>, AllocError>
     requires { has_members_of_its_own kind ≡ true }
-    ensures { IfOk result (λ violations. AreViolations (InMembers kind (listed_members members.now)) (plain_definitions resolver.now) violations) }
+    ensures { IfOk result (λ found. IsFirst (MembersBreak (plain_definitions resolver.now) kind (listed_members members.now)) member_rules found) }
 {
     if are_apart(members) {
         return Ok(find_in_apart(kind, members));
     }
-    let repeated = first_repeated_member(alloc, members)?;
-    let overload = first_overload_past_limit(alloc, members)?;
-    let promise = first_mixing_promises(alloc, resolver, members)?;
-    Ok(MemberViolations {
-        repeated,
-        kept_name: find_kept_name(kind, members),
-        overload,
-        promise,
-        stringifier: find_stringifier(kind, members),
-    })
+    let found = first_overload_past_limit(alloc, members)?;
+    let best = first(None, ValidityRule::TooManyOverloads, found);
+    let best = first(best, ValidityRule::KeptName, find_kept_name(kind, members));
+    let found = first_repeated_member(alloc, members)?;
+    let best = first(best, ValidityRule::RepeatedMember, found);
+    let found = first_mixing_promises(alloc, resolver, members)?;
+    let best = first(best, ValidityRule::PromisesAndOthers, found);
+    Ok(first(
+        best,
+        ValidityRule::Stringifiers,
+        find_stringifier(kind, members),
+    ))
 }
 
 /// The same among members of which none has the name of an earlier one.
-fn find_in_apart(kind: Kind, members: &[&Member]) -> MemberViolations
+fn find_in_apart(kind: Kind, members: &[&Member]) -> Option<Refusal>
     requires kind { has_members_of_its_own kind ≡ true }
     requires apart { FirstWhere (AtOne SharesLabel (listed_members members.now)) None }
-    ensures { (definitions : List PlainDefinition) → AreViolations (InMembers kind (listed_members members.now)) definitions result }
+    ensures { (definitions : List PlainDefinition) → IsFirst (MembersBreak definitions kind (listed_members members.now)) member_rules result }
 {
-    MemberViolations {
-        repeated: None,
-        kept_name: find_kept_name(kind, members),
-        overload: None,
-        promise: None,
-        stringifier: find_stringifier(kind, members),
-    }
+    let best = first(None, ValidityRule::KeptName, find_kept_name(kind, members));
+    first(
+        best,
+        ValidityRule::Stringifiers,
+        find_stringifier(kind, members),
+    )
 }
 
 /// The first place of a name that a static member or a constant of an interface may not have.
@@ -168,32 +158,5 @@ fn find_stringifier(kind: Kind, members: &[&Member]) -> Option<Violation>
         first_second_stringifier(members)
     } else {
         None
-    }
-}
-
-/// Of each rule the earlier violation.
-fn earlier_violations(best: MemberViolations, found: MemberViolations) -> MemberViolations
-    ensures { result ≡ earlier_violations best found }
-{
-    MemberViolations {
-        repeated: earlier_violation(best.repeated, found.repeated),
-        kept_name: earlier_violation(best.kept_name, found.kept_name),
-        overload: earlier_violation(best.overload, found.overload),
-        promise: earlier_violation(best.promise, found.promise),
-        stringifier: earlier_violation(best.stringifier, found.stringifier),
-    }
-}
-
-impl MemberViolations {
-    fn none() -> MemberViolations
-        ensures { result ≡ no_violations }
-    {
-        MemberViolations {
-            repeated: None,
-            kept_name: None,
-            overload: None,
-            promise: None,
-            stringifier: None,
-        }
     }
 }

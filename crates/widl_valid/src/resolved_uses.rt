@@ -1,17 +1,16 @@
-//! What the types that are written in a definition mean.
+//! What a type that is written means, and which types break no rule whatever they mean.
 
-ghost use Rattle.std.specs.Prelude.{◌≡◌, ◌++◌, List, map, filter, IfOk};
-ghost use Rattle.widl_idl.specs.PlainTrees.{definition_kind_of, plain_definitions};
+ghost use Rattle.std.specs.Prelude.{◌≡◌, ◌++◌, map, IfOk};
+ghost use Rattle.widl_idl.specs.PlainTrees.{plain_definitions};
 ghost use Rattle.widl_idl.specs.PlainTypes.{attribute_of, form_term, type_of};
 ghost use Rattle.widl_overload.specs.TypeRules.{is_constant_role, takes_undefined};
-ghost use Rattle.widl_overload.specs.TypeUses.{uses_in_definition};
-ghost use Rattle.widl_valid.specs.SettledUses.{are_none, is_asked, is_settled, is_settled_form, is_settled_type};
+ghost use Rattle.widl_valid.specs.SettledUses.{are_none, is_settled, is_settled_form, is_settled_type};
 ghost use Rattle.widl_valid.specs.UsesListed.{resolved_use, use_of, with_meaning};
 
-use crate::type_uses::{TypeUse, list_type_uses};
+use crate::type_uses::TypeUse;
 use std::alloc::{AllocError, Global};
 use widl_idl::IdlType;
-use widl_idl::tree::{DefinitionKind, ExtendedAttribute, TypeForm, WrittenType};
+use widl_idl::tree::{ExtendedAttribute, TypeForm, WrittenType};
 use widl_names::{Annotations, MOST_TYPES, Resolver};
 use widl_overload::TypeRole;
 
@@ -24,32 +23,9 @@ pub struct ResolvedUse<'a> {
     pub meaning: IdlType,
 }
 
-/// The types that are written in a definition and may break a rule, with what they mean. Most types break
-/// none, as is seen without that.
-///
-/// # Errors
-///
-/// Those of [`Resolver::resolve`] for at most [`MOST_TYPES`].
-pub fn resolve_uses<'a>(
-    alloc: Global,
-    resolver: &Resolver<'_, '_, 'a>,
-    kind: &'a DefinitionKind,
-) -> Result<Vec<ResolvedUse<'a>>, AllocError>
-    ensures { IfOk result (λ list. map resolved_use list.items ≡ map (with_meaning (plain_definitions resolver.now)) (filter is_asked (uses_in_definition (definition_kind_of kind.now)))) }
-{
-    let uses = list_type_uses(alloc, kind)?;
-    let mut resolved = Vec::new(alloc);
-    for written in uses.iter() {
-        if !is_settled(written) {
-            resolved.push(resolve_use(alloc, resolver, written)?)?;
-        }
-    }
-    Ok(resolved)
-}
-
 /// Whether a type breaks no rule on types, whatever else is written: it is one word that no rule speaks of,
 /// with no annotation and no `?`.
-fn is_settled(written: &TypeUse<'_>) -> bool
+pub fn is_settled(written: &TypeUse<'_>) -> bool
     ensures { result ≡ is_settled (use_of written.now) }
 {
     !is_constant(written.role)
@@ -111,8 +87,12 @@ fn takes_undefined(role: TypeRole) -> bool
     matches!(role, TypeRole::Returned | TypeRole::Promised)
 }
 
-/// One of these types with what it means.
-fn resolve_use<'a>(
+/// A type with what it means.
+///
+/// # Errors
+///
+/// Those of [`Resolver::resolve`] for at most [`MOST_TYPES`].
+pub fn resolve_use<'a>(
     alloc: Global,
     resolver: &Resolver<'_, '_, 'a>,
     written: &TypeUse<'a>,

@@ -1,43 +1,25 @@
 //! The rule on unions with two flattened members that aren't distinguishable.
 
-ghost use Rattle.std.specs.Prelude.{◌≡◌, Ok, true, false, map, IfOk};
-ghost use Rattle.widl_idl.specs.First.{FirstWhere, Somewhere};
+ghost use Rattle.std.specs.Prelude.{◌≡◌, Ok, true, false, IfOk};
+ghost use Rattle.widl_idl.specs.First.{FirstWhere};
 ghost use Rattle.widl_idl.specs.Terms.{type_term};
 ghost use Rattle.widl_overload.specs.TypeRules.{HaveIndistinguishableMembers, OfUnion, members_of_union};
 ghost use Rattle.widl_valid.specs.Lineages.{TellRelated};
-ghost use Rattle.widl_valid.specs.UsesListed.{UseTerm, resolved_use};
+ghost use Rattle.widl_valid.specs.UsesListed.{resolved_use};
 
 use crate::indistinguishable_members::have_indistinguishable;
 use crate::lineages::Lineages;
 use crate::nullable_rules::is_union;
 use crate::resolved_uses::ResolvedUse;
 use std::alloc::{AllocError, Global};
-use widl_idl::{Defs, IdlType, Violation, earlier_violation, flattened};
+use widl_idl::{Defs, IdlType, Violation, flattened};
 
-/// The first place of a union of which two flattened members aren't distinguishable.
+/// The place of a type that is written as a union of which two flattened members aren't distinguishable.
 ///
 /// # Errors
 ///
 /// `AllocError` where there is no memory.
-pub fn first_indistinguishable_union(
-    alloc: Global,
-    defs: &Defs,
-    lineages: &Lineages,
-    uses: &[ResolvedUse<'_>],
-) -> Result<Option<Violation>, AllocError>
-    requires { TellRelated defs.now.ifaces lineages.now.spans.items }
-    ensures { IfOk result (λ found. FirstWhere (Somewhere (λ (r : UseTerm). OfUnion (HaveIndistinguishableMembers defs.now.ifaces) r.meaning r.written) (map resolved_use uses.now)) found) }
-{
-    let mut best = None;
-    for ty in uses {
-        let found = indistinguishable_union(alloc, defs, lineages, ty)?;
-        best = earlier_violation(best, found);
-    }
-    Ok(best)
-}
-
-/// The place of a type that is written as such a union.
-fn indistinguishable_union(
+pub fn indistinguishable_union(
     alloc: Global,
     defs: &Defs,
     lineages: &Lineages,

@@ -1,6 +1,7 @@
-use Rattle.std.proofs.Common.{◌≡◌, length, arith, refl, sym, ap, subst, ◌∙◌}
+use Rattle.std.proofs.Common.{◌≡◌, List, Option, length, arith, sym, ap, subst, ◌∙◌}
 use Rattle.std.proofs.lemmas.List.{length-map}
 use Rattle.widl_idl.specs.declared.defs.Defs.{Defs}
+use Rattle.widl_idl.specs.declared.refusal.Refusal.{Refusal}
 use Rattle.widl_idl.specs.Meanings.{definitions_of}
 use Rattle.widl_idl.specs.MergingRules.{parent_links}
 use Rattle.widl_idl.specs.PlainTrees.{definition_of, plain_definitions}
@@ -14,8 +15,14 @@ use Rattle.widl_inheritance.proofs.MergedTypes.{merged_within}
 use Rattle.widl_overload.specs.Dictionaries.{dictionary_terms}
 use Rattle.widl_names.specs.Listings.{listed_definitions}
 use Rattle.widl_names.proofs.NameMeanings.{all_plain}
-use Rattle.widl_idl.proofs.Steps.{no_rules}
-use Rattle.widl_overload.specs.Validity.{BreaksValidity, validity_number}
+use Rattle.widl_overload.specs.declared.validity_rule.ValidityRule.{ValidityRule}
+use Rattle.widl_overload.specs.Validity.{BreaksValidity}
+use Rattle.widl_valid.specs.DefinitionRefusals.{definition_rules}
+use Rattle.widl_valid.specs.InheritedRefusals.{default_rules, dictionary_rules, iterable_rules, overload_rules}
+use Rattle.widl_valid.specs.MemberRefusals.{member_rules}
+use Rattle.widl_valid.specs.Refusals.{IsFirst, IsFirstOver}
+use Rattle.widl_valid.specs.TypeRefusals.{type_rules}
+use Rattle.widl_valid.proofs.FirstRefusals.{both_lists}
 use Rattle.widl_valid.proofs.invalidity.find_invalid.Goals as goal
 
 pub of-requires-2 : goal.of-requires-2
@@ -28,8 +35,8 @@ of-requires-2 c =
     let few = c.fragments.ensures.merged.files.definitions in
     record { few = omega (arith, same, meant, few) }
 
-pub join_iterables-requires : goal.join_iterables-requires
-join_iterables-requires c =
+pub find_in_iterables-requires : goal.find_in_iterables-requires
+find_in_iterables-requires c =
     let set = c.args.merged.now in
     let fragments = c.as_slice-fragments.ensures ∙ c.fragments.ensures.fragments in
     let there : definitions_of set.fragments ≡ listed_definitions c.as_slice-all.result.now = sym (ap listed_definitions c.as_slice-all.ensures.value ∙ c.in_ok-definitions.ensures ∙ ap definitions_of fragments) in
@@ -39,21 +46,21 @@ join_iterables-requires c =
       acyclic = subst (λ ds. IsAcyclic (parent_links ds)) meant (none_back (definitions_of set.fragments) (c.fragments.ensures.merged.unbroken.merging merging.InheritsFromItself));
     }
 
-pub join_dictionaries-requires : goal.join_dictionaries-requires
-join_dictionaries-requires c =
+pub find_in_dictionaries-requires : goal.find_in_dictionaries-requires
+find_in_dictionaries-requires c =
     let set = c.args.merged.now in
     record {
       within = subst (λ (d : Defs). AreWithin (dictionary_terms d)) (sym c.defs-defs.ensures.defs) (merged_within set.defs set.fragments c.defs-defs.ensures.merged);
       hierarchy = subst (λ (d : Defs). IsHierarchy (dictionary_terms d)) (sym c.defs-defs.ensures.defs) (merged_hierarchy set.defs set.fragments c.defs-defs.ensures.merged);
     }
 
-pub join_defaults-requires-clause-hierarchy : goal.join_defaults-requires-clause-hierarchy
-join_defaults-requires-clause-hierarchy c =
+pub find_in_defaults-requires-clause-hierarchy : goal.find_in_defaults-requires-clause-hierarchy
+find_in_defaults-requires-clause-hierarchy c =
     let set = c.args.merged.now in
     subst (λ (d : Defs). IsHierarchy (dictionary_terms d)) (sym c.defs-defs.ensures.defs) (merged_hierarchy set.defs set.fragments c.defs-defs.ensures.merged)
 
-pub join_uses-requires-clause-forest : goal.join_uses-requires-clause-forest
-join_uses-requires-clause-forest c =
+pub find_in_types-requires-clause-forest : goal.find_in_types-requires-clause-forest
+find_in_types-requires-clause-forest c =
     let set = c.args.merged.now in
     subst (λ (d : Defs). IsForest (interface_parents d.ifaces)) (sym c.defs-defs.ensures.defs) (merged_interfaces set.defs set.fragments c.defs-defs.ensures.merged)
 
@@ -63,9 +70,19 @@ returns c =
     let fragments = c.as_slice-fragments.ensures ∙ c.fragments.ensures.fragments in
     let there : definitions_of set.fragments ≡ listed_definitions c.as_slice-all.result.now = sym (ap listed_definitions c.as_slice-all.ensures.value ∙ c.in_ok-definitions.ensures ∙ ap definitions_of fragments) in
     let meant : definitions_of set.fragments ≡ plain_definitions c.in_ok-meanings.meanings = there ∙ all_plain c.as_slice-all.result.now c.in_ok-meanings.meanings (sym c.in_ok-meanings.ensures) in
-    let defs = sym c.defs-defs.ensures.defs in
-    let all = listed_definitions c.as_slice-all.result.now in
-    c.join_definitions.ensures all c.in_ok-violations.ensures set there _
-    (c.join_arguments-best.ensures all c.in_ok-violations.ensures set there _ (c.in_ok-best-6.ensures set defs meant _ (c.in_ok-best-5.ensures set meant _
-    (c.in_ok-best-4.ensures set defs meant _ (c.in_ok-best-3.ensures (definitions_of set.fragments) set defs refl _ (c.in_ok-best-2.ensures set meant _
-    (c.in_ok-best.ensures (definitions_of set.fragments) set defs refl _ (no_rules validity_number (BreaksValidity set)))))))))
+    let b = BreaksValidity set in
+    let over : (rules : List ValidityRule) (found : Option Refusal) → IsFirstOver c.defs-defs.result.now (plain_definitions c.in_ok-meanings.meanings) rules found → IsFirst b rules found
+    = λ rules found l. subst (λ (d : Defs). IsFirstOver d (definitions_of set.fragments) rules found) c.defs-defs.ensures.defs (subst (λ ds. IsFirstOver c.defs-defs.result.now ds rules found) (sym meant) l) in
+    let list = plain_definitions c.in_ok-meanings.meanings in
+    both_lists b definition_rules _ _ _ _
+    (both_lists b type_rules _ _ _ _
+    (both_lists b member_rules _ _ _ _
+    (both_lists b default_rules _ _ _ _
+    (both_lists b dictionary_rules _ _ _ _
+    (both_lists b iterable_rules overload_rules _ _ _ (over overload_rules _ (c.in_ok-best.ensures list))
+    (over iterable_rules _ (c.in_ok-found.ensures c.defs-defs.result.now)) c.earlier_refusal-best.ensures)
+    (over dictionary_rules _ (c.in_ok-found-2.ensures list)) c.earlier_refusal-best-2.ensures)
+    (over default_rules _ c.in_ok-found-3.ensures) c.earlier_refusal-best-3.ensures)
+    (over member_rules _ (c.in_ok-found-4.ensures c.defs-defs.result.now)) c.earlier_refusal-best-4.ensures)
+    (over type_rules _ c.in_ok-found-5.ensures) c.earlier_refusal-best-5.ensures)
+    (subst (λ ds. IsFirstOver set.defs ds definition_rules c.in_ok-found-6.found) (sym there) (c.in_ok-found-6.ensures set.defs)) c.earlier_refusal.ensures

@@ -1,8 +1,10 @@
 use Rattle.std.proofs.Common.{take}
 use Rattle.widl_idl.specs.PlainTrees.{plain_definitions}
 use Rattle.widl_names.specs.Listings.{listed_definitions}
-use Rattle.widl_valid.specs.Owners.{AreViolations, InDefinitions}
+use Rattle.widl_valid.specs.MemberRefusals.{member_rules}
+use Rattle.widl_valid.specs.Owners.{OwnersBreak}
+use Rattle.widl_valid.specs.Refusals.{IsFirst}
 use Rattle.widl_valid.proofs.owners.find_in_owners.Given as goal
 
 abbrev pub invariant-loop-number : goal.invariant-loop-number
-invariant-loop-number l = AreViolations (InDefinitions (plain_definitions l.fn.meanings) (listed_definitions (take l.number l.definitions))) (plain_definitions l.fn.meanings) l.best
+invariant-loop-number l = IsFirst (OwnersBreak (plain_definitions l.fn.meanings) (listed_definitions (take l.number l.definitions))) member_rules l.best

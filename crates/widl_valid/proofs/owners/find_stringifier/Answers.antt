@@ -1,7 +1,7 @@
 use Rattle.std.proofs.Common.{sym, ◌∙◌}
 use Rattle.widl_overload.specs.MemberRules.{IsSecondStringifier, is_interface_kind}
 use Rattle.widl_names.specs.Listings.{listed_members}
-use Rattle.widl_valid.proofs.OwnerViolations.{asked_first}
+use Rattle.widl_valid.proofs.OwnerRefusals.{asked_first}
 use Rattle.widl_valid.proofs.owners.find_stringifier.Goals as goal
 
 pub returns-then-is_interface : goal.returns-then-is_interface

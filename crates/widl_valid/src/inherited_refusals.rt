@@ -1,0 +1,103 @@
+//! The first refusals by the rules on overloads, on iterables, on dictionaries and on default values.
+
+ghost use Rattle.std.specs.Prelude.{◌≡◌, List, IfOk};
+ghost use Rattle.widl_fits.specs.Hierarchies.{IsHierarchy};
+ghost use Rattle.widl_idl.specs.declared.defs.Defs.{Defs as MergedList};
+ghost use Rattle.widl_idl.specs.Counts.{IsNumberedList};
+ghost use Rattle.widl_idl.specs.MergingRules.{parent_links};
+ghost use Rattle.widl_idl.specs.PlainTrees.{PlainDefinition, plain_definitions};
+ghost use Rattle.widl_inheritance.specs.HoldingGraph.{AreWithin};
+ghost use Rattle.widl_inheritance.specs.ReachedFlags.{IsAcyclic};
+ghost use Rattle.widl_overload.specs.Dictionaries.{dictionary_terms};
+ghost use Rattle.widl_valid.specs.InheritedRefusals.{default_rules, dictionary_rules, iterable_rules, overload_rules};
+ghost use Rattle.widl_valid.specs.Refusals.{IsFirstOver};
+
+use crate::refusals::first;
+use std::alloc::{AllocError, Global};
+use widl_idl::{Defs, Refusal};
+use widl_inheritance::{
+    Holdings, find_iterables, first_holding_itself, first_long_chain, first_other_default,
+    first_repeated_member, first_without_empty_default,
+};
+use widl_names::{Meanings, Parts, Resolver};
+use widl_overload::{ValidityRule, first_overload_violations};
+
+/// The first refusal by the rules on overloads.
+///
+/// # Errors
+///
+/// `AllocError` where there is no memory.
+pub fn find_in_overloads(alloc: Global, defs: &Defs) -> Result<Option<Refusal>, AllocError>
+    requires { IsNumberedList defs.now }
+    ensures { IfOk result (λ found. (definitions : List PlainDefinition) → IsFirstOver defs.now definitions overload_rules found) }
+{
+    let found = first_overload_violations(alloc, defs)?;
+    let best = first(None, ValidityRule::EarlyDifference, found.early);
+    let indistinguishable = found.indistinguishable;
+    Ok(first(
+        best,
+        ValidityRule::IndistinguishableOverloads,
+        indistinguishable,
+    ))
+}
+
+/// The first refusal by the rules on dictionaries with all that they inherit.
+///
+/// # Errors
+///
+/// `AllocError` where there is no memory.
+pub fn find_in_dictionaries(alloc: Global, defs: &Defs) -> Result<Option<Refusal>, AllocError>
+    requires within { AreWithin (dictionary_terms defs.now) }
+    requires hierarchy { IsHierarchy (dictionary_terms defs.now) }
+    ensures { IfOk result (λ found. (definitions : List PlainDefinition) → IsFirstOver defs.now definitions dictionary_rules found) }
+{
+    let dicts = defs.dicts.as_slice();
+    let holdings = Holdings::of(alloc, dicts)?;
+    let found = first_long_chain(alloc, dicts, &holdings)?;
+    let best = first(None, ValidityRule::LongDictionaryChain, found);
+    let found = first_holding_itself(dicts, &holdings);
+    let best = first(best, ValidityRule::DictionaryHoldsItself, found);
+    let found = first_repeated_member(alloc, dicts)?;
+    Ok(first(best, ValidityRule::RepeatedDictionaryMember, found))
+}
+
+/// The first refusal by the rules on default values, and on arguments that need one.
+///
+/// # Errors
+///
+/// `AllocError` where there is no memory, and the errors of [`Resolver::resolve`].
+pub fn find_in_defaults<'a>(
+    alloc: Global,
+    defs: &Defs,
+    meanings: &Meanings<'_, 'a>,
+    resolver: &Resolver<'_, '_, 'a>,
+) -> Result<Option<Refusal>, AllocError>
+    requires same { resolver.now ≡ meanings.now }
+    requires hierarchy { IsHierarchy (dictionary_terms defs.now) }
+    ensures { IfOk result (λ found. IsFirstOver defs.now (plain_definitions meanings.now) default_rules found) }
+{
+    let all = meanings.all();
+    let found = first_without_empty_default(alloc, defs, resolver, all)?;
+    let best = first(None, ValidityRule::NoEmptyDefault, found);
+    let found = first_other_default(alloc, defs, resolver, all)?;
+    Ok(first(best, ValidityRule::OtherDefault, found))
+}
+
+/// The first refusal by the rules on iterables.
+///
+/// # Errors
+///
+/// `AllocError` where there is no memory.
+pub fn find_in_iterables(
+    alloc: Global,
+    meanings: &Meanings<'_, '_>,
+    parts: &Parts<'_, '_>,
+) -> Result<Option<Refusal>, AllocError>
+    requires same { parts.now ≡ meanings.now }
+    requires acyclic { IsAcyclic (parent_links (plain_definitions meanings.now)) }
+    ensures { IfOk result (λ found. (defs : MergedList) → IsFirstOver defs (plain_definitions meanings.now) iterable_rules found) }
+{
+    let found = find_iterables(alloc, meanings, parts)?;
+    let best = first(None, ValidityRule::HiddenIterationMethod, found.hidden);
+    Ok(first(best, ValidityRule::SecondIterable, found.second))
+}
