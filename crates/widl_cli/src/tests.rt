@@ -2,13 +2,14 @@
 //! is answered when the outside fails at each of its calls.
 
 use crate::{
-    DiskFolder, Files, MemoryFolder, NamedFile, Status, SureFolder, Words, widl, widl_surely,
+    DiskFolder, Files, Folder, MemoryFolder, NamedFile, Status, SureFolder, Words, widl,
+    widl_surely,
 };
 use std::alloc::{AllocError, Global};
 use std::fs;
 use std::process::Abort;
 use std::test::Fail;
-use widl_sink::{MemorySink, Numbers, SureSink};
+use widl_sink::{MemorySink, Numbers, Sink, SureSink};
 
 mod arrays;
 mod budgets;
@@ -74,6 +75,39 @@ fn numbers_of(alloc: Global, number: u64) -> Result<Numbers, AllocError> {
     Ok(numbers)
 }
 
+/// [`widl`] without its contract, since no test needs it: where it is called, all that follows is proved beside what it promises.
+fn answer<F: Folder, K: Sink>(alloc: Global, words: &Words, folder: &mut F, out: &mut K) -> Status {
+    widl(alloc, words, folder, out)
+}
+
+/// Answers the arguments of a command line over a folder, and compares the status and the bytes.
+fn expect_answer<F: Folder>(
+    rt: &impl Abort,
+    alloc: Global,
+    words: &Words,
+    folder: &mut F,
+    status: Status,
+    text: &str,
+) -> Result<(), Fail> {
+    let mut out = MemorySink::new(alloc, 10_000, 10_000, Numbers::new(alloc))?;
+    assert_eq!(rt; answer(alloc, words, folder, &mut out), status);
+    assert_eq!(rt; out.held(), text.as_bytes());
+    Ok(())
+}
+
+/// The same over files in memory.
+fn expect_over(
+    rt: &impl Abort,
+    alloc: Global,
+    words: &Words,
+    files: Files,
+    status: Status,
+    text: &str,
+) -> Result<(), Fail> {
+    let mut folder = MemoryFolder::new(files, Numbers::new(alloc));
+    expect_answer(rt, alloc, words, &mut folder, status, text)
+}
+
 /// Runs a script over a fragment, and compares the status and the bytes.
 fn expect_run(
     rt: &impl Abort,
@@ -84,12 +118,9 @@ fn expect_run(
     status: Status,
     text: &str,
 ) -> Result<(), Fail> {
-    let mut folder = MemoryFolder::new(files_of(alloc, script, fragment)?, Numbers::new(alloc));
-    let mut out = MemorySink::new(alloc, 10_000, 10_000, Numbers::new(alloc))?;
     let words = run_words(alloc, budget)?;
-    assert_eq!(rt; widl(alloc, &words, &mut folder, &mut out), status);
-    assert_eq!(rt; out.held(), text.as_bytes());
-    Ok(())
+    let files = files_of(alloc, script, fragment)?;
+    expect_over(rt, alloc, &words, files, status, text)
 }
 
 #[test]
@@ -102,24 +133,19 @@ fn a_missing_file_is_named(rt: HostRuntime) -> Result<(), Fail> {
     let alloc = rt.alloc();
     let mut files = Files::new(alloc);
     add(alloc, &mut files, "s", "")?;
-    let mut folder = MemoryFolder::new(files, Numbers::new(alloc));
-    let mut out = MemorySink::new(alloc, 1_000, 1_000, Numbers::new(alloc))?;
     let words = run_words(alloc, "5")?;
-    assert_eq!(rt; widl(alloc, &words, &mut folder, &mut out), Status::Missing);
-    assert_eq!(rt; out.held(), b"missing n.idl\n".as_slice());
-    Ok(())
+    let text = "missing n.idl\n";
+    expect_over(&rt, alloc, &words, files, Status::Missing, text)
 }
 
 #[test]
 fn a_failed_write_leaves_what_was_taken(rt: HostRuntime) -> Result<(), Fail> {
     let alloc = rt.alloc();
-    let mut folder = SureFolder::new(files_of(alloc, "do N.f(300)\n", FRAGMENT)?);
-    let mut out = MemorySink::new(alloc, 1_000, 10, numbers_of(alloc, 2)?)?;
     let words = run_words(alloc, "5")?;
-    assert_eq!(rt;
-        widl(alloc, &words, &mut folder, &mut out),
-        Status::WriteFault
-    );
+    let mut out = MemorySink::new(alloc, 1_000, 10, numbers_of(alloc, 2)?)?;
+    let mut folder = SureFolder::new(files_of(alloc, "do N.f(300)\n", FRAGMENT)?);
+    let status = answer(alloc, &words, &mut folder, &mut out);
+    assert_eq!(rt; status, Status::WriteFault);
     assert_eq!(rt; out.held(), b"call #19 t".as_slice());
     Ok(())
 }
@@ -132,21 +158,19 @@ fn a_file_of_one_byte_too_many_is_too_long(rt: HostRuntime) -> Result<(), Fail> 
     let name = String::from_str(alloc, "n.idl")?;
     let spaces = vec![in alloc; b' '; 1_048_577]?;
     files.push(NamedFile::new(name, spaces))?;
-    let mut folder = SureFolder::new(files);
-    let mut out = MemorySink::new(alloc, 1_000, 1_000, Numbers::new(alloc))?;
     let words = run_words(alloc, "5")?;
-    assert_eq!(rt; widl(alloc, &words, &mut folder, &mut out), Status::TooLong);
-    assert_eq!(rt; out.held(), b"too long n.idl\n".as_slice());
-    Ok(())
+    let mut folder = SureFolder::new(files);
+    let text = "too long n.idl\n";
+    expect_answer(&rt, alloc, &words, &mut folder, Status::TooLong, text)
 }
 
 #[test]
 fn the_help_names_each_form_of_the_command_line(rt: HostRuntime) -> Result<(), Fail> {
     let alloc = rt.alloc();
-    let mut folder = SureFolder::new(Files::new(alloc));
-    let mut out = MemorySink::new(alloc, 10_000, 10_000, Numbers::new(alloc))?;
     let words = words_of(alloc, &["--help"])?;
-    assert_eq!(rt; widl(alloc, &words, &mut folder, &mut out), Status::Done);
+    let mut out = MemorySink::new(alloc, 10_000, 10_000, Numbers::new(alloc))?;
+    let mut folder = SureFolder::new(Files::new(alloc));
+    assert_eq!(rt; answer(alloc, &words, &mut folder, &mut out), Status::Done);
     let text = std::str::from_utf8(out.held())?;
     for form in [
         "widl run BUDGET SCRIPT FILE.. ",
@@ -158,12 +182,17 @@ fn the_help_names_each_form_of_the_command_line(rt: HostRuntime) -> Result<(), F
     ] {
         assert!(rt; text.contains(form));
     }
+    Ok(())
+}
+
+#[test]
+fn the_version_is_answered_surely(rt: HostRuntime) -> Result<(), Fail> {
+    let alloc = rt.alloc();
     let words = words_of(alloc, &["--version"])?;
+    let mut folder = SureFolder::new(Files::new(alloc));
     let mut out = SureSink::new();
-    assert_eq!(rt;
-        widl_surely(alloc, &words, &mut folder, &mut out),
-        Status::Done
-    );
+    let status = widl_surely(alloc, &words, &mut folder, &mut out);
+    assert_eq!(rt; status, Status::Done);
     Ok(())
 }
 
@@ -183,11 +212,7 @@ fn expect_command(
         add(alloc, &mut files, name, fragment)?;
         words.push(String::from_str(alloc, name)?)?;
     }
-    let mut folder = MemoryFolder::new(files, Numbers::new(alloc));
-    let mut out = MemorySink::new(alloc, 1_000, 1_000, Numbers::new(alloc))?;
-    assert_eq!(rt; widl(alloc, &words, &mut folder, &mut out), status);
-    assert_eq!(rt; out.held(), text.as_bytes());
-    Ok(())
+    expect_over(rt, alloc, &words, files, status, text)
 }
 
 /// Checks fragments, and compares the status and the bytes.
@@ -217,39 +242,43 @@ fn expect_rows(rt: &impl Abort, alloc: Global, rows: &[(&str, &str)]) -> Result<
     Ok(())
 }
 
+/// Checks sets of two fragments, each refused with its text.
+fn expect_pairs(rt: &impl Abort, alloc: Global, rows: &[(&str, &str, &str)]) -> Result<(), Fail> {
+    for (first, second, text) in rows {
+        expect_check(rt, alloc, &[*first, *second], Status::Refused, text)?;
+    }
+    Ok(())
+}
+
+const FAULTS: [(&str, &str, &str); 5] = [
+    ("", "interface I { attribute long", "refused syntax 1 28\n"),
+    (
+        "interface I { attribute long }",
+        "interface",
+        "refused syntax 0 29\n",
+    ),
+    (
+        "typedef sequence<sequence<sequence<sequence<sequence<sequence<sequence<sequence<sequence<sequence<sequence<sequence<sequence<sequence<sequence<sequence<long>>>>>>>>>>>>>>>> T;",
+        "",
+        "refused deep 0 152\n",
+    ),
+    (
+        "typedef Promise<Promise<Promise<Promise<Promise<Promise<Promise<Promise<Promise<Promise<Promise<Promise<Promise<Promise<Promise<Promise<any>>>>>>>>>>>>>>>> T;",
+        "",
+        "refused deep 0 136\n",
+    ),
+    (FRAGMENT, FRAGMENT, "refused 1 1 10\n"),
+];
+
 #[test]
 fn the_least_fault_of_a_set_is_named(rt: HostRuntime) -> Result<(), Fail> {
     let alloc = rt.alloc();
-    let rows = [
-        ("", "interface I { attribute long", "refused syntax 1 28\n"),
-        (
-            "interface I { attribute long }",
-            "interface",
-            "refused syntax 0 29\n",
-        ),
-        (
-            "typedef sequence<sequence<sequence<sequence<sequence<sequence<sequence<sequence<sequence<sequence<sequence<sequence<sequence<sequence<sequence<sequence<long>>>>>>>>>>>>>>>> T;",
-            "",
-            "refused deep 0 152\n",
-        ),
-        (
-            "typedef Promise<Promise<Promise<Promise<Promise<Promise<Promise<Promise<Promise<Promise<Promise<Promise<Promise<Promise<Promise<Promise<any>>>>>>>>>>>>>>>> T;",
-            "",
-            "refused deep 0 136\n",
-        ),
-        (FRAGMENT, FRAGMENT, "refused 1 1 10\n"),
-    ];
-    for (first, second, text) in rows {
-        expect_check(&rt, alloc, &[first, second], Status::Refused, text)?;
-    }
+    expect_pairs(&rt, alloc, &FAULTS)?;
+    let words = words_of(alloc, &["check", "a.idl", "b.idl"])?;
     let mut files = Files::new(alloc);
     add(alloc, &mut files, "a.idl", "interface")?;
-    let mut folder = MemoryFolder::new(files, Numbers::new(alloc));
-    let mut out = MemorySink::new(alloc, 1_000, 1_000, Numbers::new(alloc))?;
-    let words = words_of(alloc, &["check", "a.idl", "b.idl"])?;
-    assert_eq!(rt; widl(alloc, &words, &mut folder, &mut out), Status::Missing);
-    assert_eq!(rt; out.held(), b"missing b.idl\n".as_slice());
-    Ok(())
+    let text = "missing b.idl\n";
+    expect_over(&rt, alloc, &words, files, Status::Missing, text)
 }
 
 #[test]
@@ -259,16 +288,13 @@ fn the_encoding_of_all_files_comes_before_their_grammar(rt: HostRuntime) -> Resu
     add(alloc, &mut files, "a.idl", "namespace")?;
     let bytes = Vec::from_slice(alloc, b"\x80")?;
     files.push(NamedFile::new(String::from_str(alloc, "b.idl")?, bytes))?;
+    let both = words_of(alloc, &["check", "a.idl", "b.idl"])?;
+    let one = words_of(alloc, &["check", "a.idl"])?;
     let mut folder = SureFolder::new(files);
-    let mut out = MemorySink::new(alloc, 1_000, 1_000, Numbers::new(alloc))?;
-    let words = words_of(alloc, &["check", "a.idl", "b.idl"])?;
-    assert_eq!(rt; widl(alloc, &words, &mut folder, &mut out), Status::Refused);
-    assert_eq!(rt; out.held(), b"refused utf8 1 0\n".as_slice());
-    let words = words_of(alloc, &["check", "a.idl"])?;
-    let mut out = MemorySink::new(alloc, 1_000, 1_000, Numbers::new(alloc))?;
-    assert_eq!(rt; widl(alloc, &words, &mut folder, &mut out), Status::Refused);
-    assert_eq!(rt; out.held(), b"refused syntax 0 9\n".as_slice());
-    Ok(())
+    let text = "refused utf8 1 0\n";
+    expect_answer(&rt, alloc, &both, &mut folder, Status::Refused, text)?;
+    let text = "refused syntax 0 9\n";
+    expect_answer(&rt, alloc, &one, &mut folder, Status::Refused, text)
 }
 
 #[test]
@@ -290,10 +316,7 @@ fn the_disk_is_read(rt: HostRuntime) -> Result<(), Fail> {
     let alloc = rt.alloc();
     fs::write(&rt, "script.txt", "do N.f(300)\n")?;
     fs::write(&rt, "fragment.idl", FRAGMENT)?;
-    let mut folder = DiskFolder::new(&rt);
-    let mut out = MemorySink::new(alloc, 1_000, 1_000, Numbers::new(alloc))?;
     let words = words_of(alloc, &["run", "5", "script.txt", "fragment.idl"])?;
-    assert_eq!(rt; widl(alloc, &words, &mut folder, &mut out), Status::Done);
-    assert_eq!(rt; out.held(), TRACE.as_bytes());
-    Ok(())
+    let mut folder = DiskFolder::new(&rt);
+    expect_answer(&rt, alloc, &words, &mut folder, Status::Done, TRACE)
 }

@@ -1,7 +1,7 @@
 //! Runs with every budget: with each that is too small the lines are the first ones of the whole, and the last is that of the stop.
 
-use super::{files_of, run_words};
-use crate::{MemoryFolder, Status, widl};
+use super::{answer, files_of, run_words};
+use crate::{Files, MemoryFolder, Status, Words};
 use std::alloc::Global;
 use std::process::Abort;
 use std::test::Fail;
@@ -20,6 +20,24 @@ fn expect_stopped(rt: &impl Abort, held: &[u8], status: Status, text: &str) -> R
     Ok(())
 }
 
+/// Whether a run prints the whole; where it doesn't it stops for want of units.
+fn is_whole(
+    rt: &impl Abort,
+    alloc: Global,
+    words: &Words,
+    files: Files,
+    text: &str,
+) -> Result<bool, Fail> {
+    let mut out = MemorySink::new(alloc, 10_000, 10_000, Numbers::new(alloc))?;
+    let mut folder = MemoryFolder::new(files, Numbers::new(alloc));
+    let status = answer(alloc, words, &mut folder, &mut out);
+    if out.held() == text.as_bytes() {
+        return Ok(true);
+    }
+    expect_stopped(rt, out.held(), status, text)?;
+    Ok(false)
+}
+
 /// Runs a script with each budget from one unit on until it prints the whole, and gives the units that this takes.
 pub fn units_of(
     rt: &impl Abort,
@@ -31,14 +49,10 @@ pub fn units_of(
     for budget in 1..TOO_MANY {
         let digits = format!(in alloc; "{budget}")?;
         let files = files_of(alloc, script, fragment)?;
-        let mut folder = MemoryFolder::new(files, Numbers::new(alloc));
-        let mut out = MemorySink::new(alloc, 10_000, 10_000, Numbers::new(alloc))?;
         let words = run_words(alloc, &digits)?;
-        let status = widl(alloc, &words, &mut folder, &mut out);
-        if out.held() == text.as_bytes() {
+        if is_whole(rt, alloc, &words, files, text)? {
             return Ok(budget);
         }
-        expect_stopped(rt, out.held(), status, text)?;
     }
     Ok(TOO_MANY)
 }

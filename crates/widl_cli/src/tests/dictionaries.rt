@@ -3,11 +3,10 @@
 use super::hostile_runs::{MOST, expect_end, expect_ends};
 use super::runs::{Row, expect_runs};
 use super::sizes::Parts;
-use super::{add, words_of};
-use crate::{Files, MemoryFolder, Status, widl};
+use super::{add, expect_over, words_of};
+use crate::{Files, Status};
 use std::alloc::Global;
 use std::test::Fail;
-use widl_sink::{MemorySink, Numbers};
 
 const DEFAULTED: &str =
     "dictionary D { long a = 1; long b; }; namespace N { undefined f(optional D d = {}); };";
@@ -157,14 +156,10 @@ fn members_of_three_files_are_one_order(rt: HostRuntime) -> Result<(), Fail> {
         "c",
         "dictionary B { long x = 3; }; partial dictionary D { long a; };",
     )?;
-    let mut folder = MemoryFolder::new(files, Numbers::new(alloc));
-    let mut out = MemorySink::new(alloc, 10_000, 10_000, Numbers::new(alloc))?;
     let words = words_of(alloc, &["run", "100", "s", "a", "b", "c"])?;
     let text =
         "call #19 this #18 (#20)\nget #20 \"x\"\nget #20 \"a\"\nget #20 \"y\"\nget #20 \"z\"\nop N.f#0 (D{x: 3, y: 2, z: 1})\nret undefined\ndone\n";
-    assert_eq!(rt; widl(alloc, &words, &mut folder, &mut out), Status::Done);
-    assert_eq!(rt; out.held(), text.as_bytes());
-    Ok(())
+    expect_over(&rt, alloc, &words, files, Status::Done, text)
 }
 
 /// A line of dictionaries, each of which inherits from the one before, with as many members.

@@ -10,12 +10,12 @@ use super::reentrance::{
 use super::runs::{ANY, GIVEN_BACK, GIVES_BACK};
 use super::scalars::LONG;
 use super::suspended::{CALLED_AGAIN, CALLS_AGAIN};
-use super::{FRAGMENT, TRACE, files_of, numbers_of, run_words};
-use crate::{MemoryFolder, Status, SureFolder, widl};
+use super::{FRAGMENT, TRACE, answer, expect_answer, files_of, numbers_of, run_words};
+use crate::{MemoryFolder, Status, SureFolder};
 use std::alloc::Global;
 use std::process::Abort;
 use std::test::Fail;
-use widl_sink::{MemorySink, Numbers};
+use widl_sink::MemorySink;
 
 /// A run that ends well: its fragment, its script and what it prints.
 struct Run {
@@ -68,15 +68,10 @@ fn expect_read_fault(
     status: Status,
     text: &str,
 ) -> Result<(), Fail> {
-    let mut folder = MemoryFolder::new(
-        files_of(alloc, run.script, run.fragment)?,
-        numbers_of(alloc, call)?,
-    );
-    let mut out = MemorySink::new(alloc, 1_000, 1_000, Numbers::new(alloc))?;
     let words = run_words(alloc, "100000")?;
-    assert_eq!(rt; widl(alloc, &words, &mut folder, &mut out), status);
-    assert_eq!(rt; out.held(), text.as_bytes());
-    Ok(())
+    let files = files_of(alloc, run.script, run.fragment)?;
+    let mut folder = MemoryFolder::new(files, numbers_of(alloc, call)?);
+    expect_answer(rt, alloc, &words, &mut folder, status, text)
 }
 
 #[test]
@@ -106,10 +101,10 @@ fn expect_torn(
 ) -> Result<bool, Fail>
     requires { 0 < most }
 {
-    let mut folder = SureFolder::new(files_of(alloc, run.script, run.fragment)?);
-    let mut out = MemorySink::new(alloc, 1_000, most, numbers_of(alloc, call)?)?;
     let words = run_words(alloc, "100000")?;
-    let status = widl(alloc, &words, &mut folder, &mut out);
+    let mut out = MemorySink::new(alloc, 1_000, most, numbers_of(alloc, call)?)?;
+    let mut folder = SureFolder::new(files_of(alloc, run.script, run.fragment)?);
+    let status = answer(alloc, &words, &mut folder, &mut out);
     assert!(rt; run.text.as_bytes().starts_with(out.held()));
     if status == Status::Done {
         assert_eq!(rt; out.held(), run.text.as_bytes());

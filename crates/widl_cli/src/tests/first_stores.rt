@@ -1,9 +1,8 @@
 //! The objects before a script begins, over namespaces in parts.
 
-use super::{add, words_of};
-use crate::{Files, MemoryFolder, Status, widl};
+use super::{add, expect_over, words_of};
+use crate::{Files, Status};
 use std::test::Fail;
-use widl_sink::{MemorySink, Numbers};
 
 /// A partial definition, and before its main one another namespace.
 const FIRST_FILE: &str = "partial namespace N { any c(); }; namespace M { any f(); };";
@@ -23,10 +22,6 @@ fn functions_have_the_order_of_the_merged_operations(rt: HostRuntime) -> Result<
     add(alloc, &mut files, "s", SCRIPT)?;
     add(alloc, &mut files, "a.idl", FIRST_FILE)?;
     add(alloc, &mut files, "b.idl", SECOND_FILE)?;
-    let mut folder = MemoryFolder::new(files, Numbers::new(alloc));
-    let mut out = MemorySink::new(alloc, 1_000, 1_000, Numbers::new(alloc))?;
     let words = words_of(alloc, &["run", "100000", "s", "a.idl", "b.idl"])?;
-    assert_eq!(rt; widl(alloc, &words, &mut folder, &mut out), Status::Done);
-    assert_eq!(rt; out.held(), TRACE.as_bytes());
-    Ok(())
+    expect_over(&rt, alloc, &words, files, Status::Done, TRACE)
 }

@@ -5,8 +5,8 @@ ghost use Rattle.std.specs.Prelude.{◌<◌, ◌≤◌};
 use super::containers::{CHOICE, RECORD};
 use super::runs::ANY;
 use super::sizes::{Parts, add_overload, bytes_of};
-use super::words_of;
-use crate::{Files, MemoryFolder, NamedFile, Status, widl};
+use super::{answer, words_of};
+use crate::{Files, MemoryFolder, NamedFile, Status};
 use std::alloc::{AllocError, Global};
 use std::process::Abort;
 use std::test::Fail;
@@ -25,10 +25,10 @@ pub fn expect_end(
     let mut files = Files::new(alloc);
     files.push(NamedFile::new(String::from_str(alloc, "s")?, script))?;
     files.push(NamedFile::new(String::from_str(alloc, "n.idl")?, fragment))?;
-    let mut folder = MemoryFolder::new(files, Numbers::new(alloc));
-    let mut out = MemorySink::new(alloc, 40_000_000, 4_096, Numbers::new(alloc))?;
     let words = words_of(alloc, &["run", budget, "s", "n.idl"])?;
-    assert_eq!(rt; widl(alloc, &words, &mut folder, &mut out), status);
+    let mut out = MemorySink::new(alloc, 40_000_000, 4_096, Numbers::new(alloc))?;
+    let mut folder = MemoryFolder::new(files, Numbers::new(alloc));
+    assert_eq!(rt; answer(alloc, &words, &mut folder, &mut out), status);
     assert!(rt; out.held().ends_with(end.as_bytes()), "{end}");
     Ok(())
 }

@@ -1,11 +1,10 @@
 //! How many files a run has, and how long they are.
 
-use super::{add, words_of};
-use crate::{Files, MemoryFolder, NamedFile, Status, widl};
+use super::{add, expect_over, words_of};
+use crate::{Files, NamedFile, Status};
 use std::alloc::Global;
 use std::process::Abort;
 use std::test::Fail;
-use widl_sink::{MemorySink, Numbers};
 
 /// Runs an empty script over an empty file that is named many times.
 fn expect_files(
@@ -18,15 +17,11 @@ fn expect_files(
     let mut files = Files::new(alloc);
     add(alloc, &mut files, "s", "")?;
     add(alloc, &mut files, "n.idl", "")?;
-    let mut folder = MemoryFolder::new(files, Numbers::new(alloc));
-    let mut out = MemorySink::new(alloc, 1_000, 1_000, Numbers::new(alloc))?;
     let mut words = words_of(alloc, &["run", "5", "s"])?;
     for _ in 0..count {
         words.push(String::from_str(alloc, "n.idl")?)?;
     }
-    assert_eq!(rt; widl(alloc, &words, &mut folder, &mut out), status);
-    assert_eq!(rt; out.held(), text.as_bytes());
-    Ok(())
+    expect_over(rt, alloc, &words, files, status, text)
 }
 
 #[test]
@@ -51,12 +46,8 @@ fn expect_length(
     files.push(NamedFile::new(String::from_str(alloc, "s")?, comment))?;
     let blanks = vec![in alloc; b' '; length]?;
     files.push(NamedFile::new(String::from_str(alloc, "n.idl")?, blanks))?;
-    let mut folder = MemoryFolder::new(files, Numbers::new(alloc));
-    let mut out = MemorySink::new(alloc, 1_000, 1_000, Numbers::new(alloc))?;
     let words = words_of(alloc, &["run", "5", "s", "n.idl"])?;
-    assert_eq!(rt; widl(alloc, &words, &mut folder, &mut out), status);
-    assert_eq!(rt; out.held(), text.as_bytes());
-    Ok(())
+    expect_over(rt, alloc, &words, files, status, text)
 }
 
 #[test]

@@ -5,67 +5,70 @@ use crate::Status;
 use std::alloc::{AllocError, Global};
 use std::test::Fail;
 
+const BROKEN: [(&str, &str); 17] = [
+    ("namespace N { }; dictionary N { };", "refused 1 0 28\n"),
+    ("interface toString { };", "refused 2 0 10\n"),
+    (
+        "interface I { attribute long _constructor; };",
+        "refused 2 0 29\n",
+    ),
+    ("partial interface A { };", "refused 3 0 18\n"),
+    (
+        "dictionary A { }; partial interface A { };",
+        "refused 3 0 36\n",
+    ),
+    ("interface mixin M { }; A includes M;", "refused 4 0 23\n"),
+    ("interface A { }; A includes B;", "refused 5 0 28\n"),
+    ("interface A : B { };", "refused 6 0 14\n"),
+    ("dictionary B { }; interface A : B { };", "refused 6 0 32\n"),
+    ("interface A : A { };", "refused 7 0 10\n"),
+    (
+        "dictionary C : A { }; dictionary A : B { }; dictionary B : A { };",
+        "refused 7 0 33\n",
+    ),
+    ("typedef sequence<T> U;", "refused 8 0 17\n"),
+    ("interface mixin M { }; typedef M U;", "refused 8 0 31\n"),
+    ("typedef A B; typedef B A;", "refused 9 0 10\n"),
+    ("typedef (long or sequence<A>) A;", "refused 9 0 30\n"),
+    (
+        "interface I { undefined f(); }; partial interface I { undefined f(); };",
+        "refused 10 0 64\n",
+    ),
+    (
+        "interface A { }; interface mixin M { undefined f(); }; A includes M; A includes M;",
+        "refused 10 0 47\n",
+    ),
+];
+
 #[test]
 fn each_rule_is_broken_at_its_place(rt: HostRuntime) -> Result<(), Fail> {
-    let rows = [
-        ("namespace N { }; dictionary N { };", "refused 1 0 28\n"),
-        ("interface toString { };", "refused 2 0 10\n"),
-        (
-            "interface I { attribute long _constructor; };",
-            "refused 2 0 29\n",
-        ),
-        ("partial interface A { };", "refused 3 0 18\n"),
-        (
-            "dictionary A { }; partial interface A { };",
-            "refused 3 0 36\n",
-        ),
-        ("interface mixin M { }; A includes M;", "refused 4 0 23\n"),
-        ("interface A { }; A includes B;", "refused 5 0 28\n"),
-        ("interface A : B { };", "refused 6 0 14\n"),
-        ("dictionary B { }; interface A : B { };", "refused 6 0 32\n"),
-        ("interface A : A { };", "refused 7 0 10\n"),
-        (
-            "dictionary C : A { }; dictionary A : B { }; dictionary B : A { };",
-            "refused 7 0 33\n",
-        ),
-        ("typedef sequence<T> U;", "refused 8 0 17\n"),
-        ("interface mixin M { }; typedef M U;", "refused 8 0 31\n"),
-        ("typedef A B; typedef B A;", "refused 9 0 10\n"),
-        ("typedef (long or sequence<A>) A;", "refused 9 0 30\n"),
-        (
-            "interface I { undefined f(); }; partial interface I { undefined f(); };",
-            "refused 10 0 64\n",
-        ),
-        (
-            "interface A { }; interface mixin M { undefined f(); }; A includes M; A includes M;",
-            "refused 10 0 47\n",
-        ),
-    ];
-    expect_rows(&rt, rt.alloc(), &rows)
+    expect_rows(&rt, rt.alloc(), &BROKEN)
 }
+
+const KEPT: [&str; 6] = [
+    "partial namespace N { }; namespace N { };",
+    "interface I { attribute long toStrings; };",
+    "interface A { }; partial interface mixin M { }; interface mixin M { }; A includes M;",
+    "interface A : B { }; interface B { };",
+    "typedef A B; typedef sequence<B> C; typedef long A;",
+    "interface I { undefined f(); undefined f(long a); }; partial interface I { static undefined f(); };",
+];
 
 #[test]
 fn the_sets_beside_them_are_kept(rt: HostRuntime) -> Result<(), Fail> {
-    let sets = [
-        "partial namespace N { }; namespace N { };",
-        "interface I { attribute long toStrings; };",
-        "interface A { }; partial interface mixin M { }; interface mixin M { }; A includes M;",
-        "interface A : B { }; interface B { };",
-        "typedef A B; typedef sequence<B> C; typedef long A;",
-        "interface I { undefined f(); undefined f(long a); }; partial interface I { static undefined f(); };",
-    ];
-    expect_kept(&rt, rt.alloc(), &sets)
+    expect_kept(&rt, rt.alloc(), &KEPT)
 }
+
+const EARLIEST_OF_SEVERAL: [(&str, &str); 3] = [
+    ("partial interface toString { };", "refused 2 0 18\n"),
+    ("typedef X A; interface I : Y { };", "refused 8 0 8\n"),
+    ("typedef X A; typedef double B;", "refused X1 0 21\n"),
+];
 
 #[test]
 fn of_several_rules_the_least_place_counts(rt: HostRuntime) -> Result<(), Fail> {
     let alloc = rt.alloc();
-    let rows = [
-        ("partial interface toString { };", "refused 2 0 18\n"),
-        ("typedef X A; interface I : Y { };", "refused 8 0 8\n"),
-        ("typedef X A; typedef double B;", "refused X1 0 21\n"),
-    ];
-    expect_rows(&rt, alloc, &rows)?;
+    expect_rows(&rt, alloc, &EARLIEST_OF_SEVERAL)?;
     let space = "namespace N { };";
     expect_check(
         &rt,

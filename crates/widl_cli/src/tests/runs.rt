@@ -1,12 +1,11 @@
 //! What runs of scripts by the engine print.
 
 use super::budgets::expect_each_budget;
-use super::{FRAGMENT, add, expect_run, words_of};
-use crate::{Files, MemoryFolder, Status, widl};
+use super::{FRAGMENT, add, expect_over, expect_run, words_of};
+use crate::{Files, Status};
 use std::alloc::Global;
 use std::process::Abort;
 use std::test::Fail;
-use widl_sink::{MemorySink, Numbers};
 
 /// One operation, which takes and gives any value.
 pub const ANY: &str = "namespace N { any f(any a); };";
@@ -295,12 +294,8 @@ fn two_fragments_are_merged(rt: HostRuntime) -> Result<(), Fail> {
         "b.idl",
         "partial namespace N { any g(); };",
     )?;
-    let mut folder = MemoryFolder::new(files, Numbers::new(alloc));
-    let mut out = MemorySink::new(alloc, 1_000, 1_000, Numbers::new(alloc))?;
     let words = words_of(alloc, &["run", "100000", "s", "a.idl", "b.idl"])?;
     let text =
         "call #20 this #18 ()\nop N.g#0 ()\nret undefined\ncall #19 this #18 (1)\nop N.f#0 (1)\nret undefined\ndone\n";
-    assert_eq!(rt; widl(alloc, &words, &mut folder, &mut out), Status::Done);
-    assert_eq!(rt; out.held(), text.as_bytes());
-    Ok(())
+    expect_over(&rt, alloc, &words, files, Status::Done, text)
 }

@@ -45,41 +45,43 @@ fn expect_each(
     Ok(())
 }
 
+const SUPPORTED: [&str; 18] = [
+    "",
+    "enum E { \"a\" };",
+    "namespace N { };",
+    "namespace N { any f(any a); undefined g(); };",
+    "typedef any T; namespace N { T f(T a); };",
+    "namespace N { undefined f(optional any a); undefined f(any a, any b, any... c); };",
+    "namespace N { undefined f(boolean a); octet f([Clamp] octet a, [EnforceRange] long long b); };",
+    "namespace N { ByteString f([LegacyNullToEmptyString] DOMString a, USVString b); };",
+    "enum E { \"a\" }; namespace N { E f(optional E a = \"a\"); object g(object a); };",
+    "namespace N { undefined f(long a); undefined f(long a, sequence<long> b); };",
+    "typedef sequence<any> T; namespace N { undefined f(record<USVString, T> a, T... b); };",
+    "namespace N { boolean f(); }; partial namespace N { unsigned short g(); };",
+    "dictionary D { long? a; }; dictionary E : D { sequence<D> b = []; }; namespace N { E f(optional D a = {}); };",
+    "namespace N { octet? g(octet a); sequence<long>? h(optional sequence<long>? b = null); };",
+    "namespace N { record<DOMString, long> f((long or DOMString) a); sequence<(long or object?)> g(); };",
+    "typedef DOMString? T; namespace N { T f(optional any a, T... b); };",
+    "namespace N { (long or DOMString)? f((long or (boolean? or sequence<(long or DOMString)>)) a); };",
+    "dictionary D { (long or DOMString) a; }; namespace N { undefined f(sequence<record<DOMString, (long or D)>> a); };",
+];
+
 #[test]
 fn runs_are_supported_over_operations(rt: HostRuntime) -> Result<(), Fail> {
-    let files = [
-        "",
-        "enum E { \"a\" };",
-        "namespace N { };",
-        "namespace N { any f(any a); undefined g(); };",
-        "typedef any T; namespace N { T f(T a); };",
-        "namespace N { undefined f(optional any a); undefined f(any a, any b, any... c); };",
-        "namespace N { undefined f(boolean a); octet f([Clamp] octet a, [EnforceRange] long long b); };",
-        "namespace N { ByteString f([LegacyNullToEmptyString] DOMString a, USVString b); };",
-        "enum E { \"a\" }; namespace N { E f(optional E a = \"a\"); object g(object a); };",
-        "namespace N { undefined f(long a); undefined f(long a, sequence<long> b); };",
-        "typedef sequence<any> T; namespace N { undefined f(record<USVString, T> a, T... b); };",
-        "namespace N { boolean f(); }; partial namespace N { unsigned short g(); };",
-        "dictionary D { long? a; }; dictionary E : D { sequence<D> b = []; }; namespace N { E f(optional D a = {}); };",
-        "namespace N { octet? g(octet a); sequence<long>? h(optional sequence<long>? b = null); };",
-        "namespace N { record<DOMString, long> f((long or DOMString) a); sequence<(long or object?)> g(); };",
-        "typedef DOMString? T; namespace N { T f(optional any a, T... b); };",
-        "namespace N { (long or DOMString)? f((long or (boolean? or sequence<(long or DOMString)>)) a); };",
-        "dictionary D { (long or DOMString) a; }; namespace N { undefined f(sequence<record<DOMString, (long or D)>> a); };",
-    ];
-    expect_each(&rt, rt.alloc(), &files, true)
+    expect_each(&rt, rt.alloc(), &SUPPORTED, true)
 }
+
+const NOT_SUPPORTED: [&str; 7] = [
+    "namespace N { Promise<undefined> f(); };",
+    "namespace N { sequence<Promise<any>> f(); };",
+    "namespace N { readonly attribute any a; };",
+    "namespace N { const long c = 1; };",
+    "interface I { };",
+    "callback C = undefined ();",
+    "callback interface C { undefined f(); };",
+];
 
 #[test]
 fn runs_are_not_supported_over_other_sets(rt: HostRuntime) -> Result<(), Fail> {
-    let files = [
-        "namespace N { Promise<undefined> f(); };",
-        "namespace N { sequence<Promise<any>> f(); };",
-        "namespace N { readonly attribute any a; };",
-        "namespace N { const long c = 1; };",
-        "interface I { };",
-        "callback C = undefined ();",
-        "callback interface C { undefined f(); };",
-    ];
-    expect_each(&rt, rt.alloc(), &files, false)
+    expect_each(&rt, rt.alloc(), &NOT_SUPPORTED, false)
 }

@@ -1,12 +1,11 @@
 //! Sets of files that say much in few bytes, or one thing in many: each has its answer, and none is too much
 //! for the memory of a machine.
 
-use super::words_of;
-use crate::{Files, MemoryFolder, NamedFile, Status, widl};
+use super::{expect_over, words_of};
+use crate::{Files, NamedFile, Status};
 use std::alloc::{AllocError, Global};
 use std::process::Abort;
 use std::test::Fail;
-use widl_sink::{MemorySink, Numbers};
 
 /// A fragment or a script: texts, each of which comes so many times, with the number of the time in place of each `#`.
 pub type Parts = &'static [(&'static str, usize)];
@@ -67,12 +66,8 @@ fn expect_size(
     let mut files = Files::new(alloc);
     let name = String::from_str(alloc, "a.idl")?;
     files.push(NamedFile::new(name, bytes_of(alloc, parts)?))?;
-    let mut folder = MemoryFolder::new(files, Numbers::new(alloc));
-    let mut out = MemorySink::new(alloc, 1_000, 1_000, Numbers::new(alloc))?;
     let words = words_of(alloc, &["check", "a.idl"])?;
-    assert_eq!(rt; widl(alloc, &words, &mut folder, &mut out), status);
-    assert_eq!(rt; out.held(), text.as_bytes());
-    Ok(())
+    expect_over(rt, alloc, &words, files, status, text)
 }
 
 /// A chain of typedefs with more `?`s than any list of definitions keeps.
