@@ -9,7 +9,5 @@
 
 mod keyed;
 pub mod laws;
-#[cfg(test)]
-mod tests;
 
 pub use keyed::{Keyed, first_of};

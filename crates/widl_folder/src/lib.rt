@@ -9,8 +9,6 @@ mod folder;
 mod memory_folder;
 mod reading;
 mod sure_folder;
-#[cfg(test)]
-mod tests;
 mod whole_file;
 
 pub use disk_folder::DiskFolder;

@@ -28,6 +28,3 @@ pub use sentence::read_definitions;
 pub use source::{check_syntax, check_terminals, terminal_of, terminals_of};
 pub use table::is_same;
 pub use terminal::Terminal;
-
-#[cfg(test)]
-mod tests;

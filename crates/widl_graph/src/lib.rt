@@ -12,8 +12,6 @@
 
 mod graph;
 mod search;
-#[cfg(test)]
-mod tests;
 mod walk;
 
 pub use graph::Graph;

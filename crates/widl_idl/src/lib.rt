@@ -35,8 +35,6 @@ mod profile_rule;
 mod refusal;
 mod sameness;
 mod signature;
-#[cfg(test)]
-mod tests;
 mod text_kind;
 pub mod tree;
 mod types;

@@ -20,6 +20,3 @@ pub use quoted::is_quoted;
 pub use token::{Token, TokenKind};
 pub use tokens::Tokens;
 pub use utf8::utf8_fault;
-
-#[cfg(test)]
-mod tests;

@@ -39,8 +39,3 @@ pub use texts::{is_large, units_of};
 pub use widl_text::integer_of;
 pub use word_form::WordForm;
 pub use words::Word;
-
-#[cfg(test)]
-mod script_tests;
-#[cfg(test)]
-mod tests;

@@ -22,8 +22,6 @@ mod sets;
 mod span;
 mod standing;
 mod telling;
-#[cfg(test)]
-mod tests;
 mod tuple;
 mod type_role;
 mod validity_rule;

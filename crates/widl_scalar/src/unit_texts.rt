@@ -33,31 +33,3 @@ pub fn is_byte_text(text: &Units) -> bool
 {
     text.as_slice().iter().all(|unit| *unit <= 255)
 }
-
-#[cfg(test)]
-mod tests {
-    use super::*;
-
-    #[test]
-    fn replaces_lone_surrogates(rt: HostRuntime) -> Result<(), AllocError> {
-        let mut text = Units::new(rt.alloc());
-        for unit in [0xDE00, 0xD83D, 0xD83D, 0xDE00, 0xDC00, 0x61, 0xD800] {
-            text.push(unit)?;
-        }
-        let scalar = scalar_text(rt.alloc(), &text)?;
-        assert_eq!(rt;
-            scalar.as_slice(),
-            [0xFFFD, 0xFFFD, 0xD83D, 0xDE00, 0xFFFD, 0x61, 0xFFFD].as_slice()
-        );
-        Ok(())
-    }
-
-    #[test]
-    fn tells_texts_of_bytes(rt: HostRuntime) -> Result<(), AllocError> {
-        for (text, want) in [("", true), ("a\u{FF}", true), ("a\u{100}", false)] {
-            let text = Units::of_str(rt.alloc(), text)?;
-            assert_eq!(rt; is_byte_text(&text), want, "{text:?}");
-        }
-        Ok(())
-    }
-}

@@ -16,8 +16,6 @@ mod script;
 mod statement;
 mod steps;
 mod tables;
-#[cfg(test)]
-mod tests;
 mod units;
 
 pub use expression::{Expression, MemberKey, MemberOf};

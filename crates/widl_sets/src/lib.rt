@@ -7,8 +7,6 @@
 mod laws;
 mod lines;
 mod listing;
-#[cfg(test)]
-mod tests;
 
 pub use laws::one_term_has_one_listing;
 pub use listing::set_lines;

@@ -10,8 +10,6 @@ mod numbers;
 mod sink;
 mod stdout_sink;
 mod sure_sink;
-#[cfg(test)]
-mod tests;
 mod writer;
 
 pub use line::{Line, cost};

@@ -1,6 +1,6 @@
 //! The store before a script begins.
 
-ghost use Rattle.std.specs.Prelude.{◌≡◌, ◌∷◌, ◌++◌, [], IfOk, OnOk, map, option_map, true};
+ghost use Rattle.std.specs.Prelude.{◌≡◌, ◌∷◌, ◌++◌, [], IfOk, OnOk, map, option_map};
 ghost use Rattle.widl_idl.specs.DefinitionTerms.{defs_term, space_term};
 ghost use Rattle.widl_overload.specs.OperationsAlone.{HasOperationsAlone};
 ghost use Rattle.widl_store.specs.Bounds.{HasRoom};
@@ -49,33 +49,6 @@ fn store_over(alloc: Global, spaces: &[Space]) -> Result<Store, AllocError>
     let mut homes = Items::new(alloc);
     add_namespaces(alloc, &lengths, &mut objects, &mut homes, spaces)?;
     Ok(Store::of(alloc, objects, homes, lengths))
-}
-
-/// The same for tests, where no files were merged: out of memory too where 32 bits can't number the objects.
-#[cfg(test)]
-pub(crate) fn realm_over(alloc: Global, spaces: &[Space]) -> Result<Store, AllocError>
-    ensures { IfOk result (λ store. store ≡ realm_over (map space_term spaces.now)) }
-{
-    if !has_room(spaces) {
-        return Err(AllocError);
-    }
-    store_over(alloc, spaces)
-}
-
-/// Whether 32 bits can surely number the objects over these namespaces.
-#[cfg(test)]
-fn has_room(spaces: &[Space]) -> bool
-    ensures { result ≡ true → HasRoom 18 (map space_term spaces.now) }
-{
-    let mut count = 18;
-    for space in spaces {
-        let more = space.ops.as_slice().len();
-        if count > 1_000_000 || more > 1_000_000 {
-            return false;
-        }
-        count += 1 + more;
-    }
-    true
 }
 
 /// The objects that are there whatever the definitions are.

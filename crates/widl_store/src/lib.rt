@@ -12,14 +12,10 @@ mod functions;
 mod held;
 mod homes;
 mod initial_store;
-#[cfg(test)]
-mod initial_tests;
 mod inner;
 mod intrinsics;
 mod label;
 pub mod laws;
-#[cfg(test)]
-mod many_tests;
 mod meets;
 mod namespaces;
 mod numbered_map;
@@ -29,12 +25,6 @@ mod plans;
 mod property;
 mod property_map;
 mod store;
-#[cfg(test)]
-mod store_tests;
-#[cfg(test)]
-mod test_calls;
-#[cfg(test)]
-mod written;
 
 pub use effects::{DefineFault, NotConfigurable, Put, PutFault};
 pub use found::Found;

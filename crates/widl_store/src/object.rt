@@ -81,20 +81,6 @@ impl Object {
         self.proto
     }
 
-    /// Its shape.
-    #[cfg(test)]
-    pub(crate) fn shape(&self) -> Shape
-        ensures { result ≡ self.now.shape }
-    {
-        self.shape
-    }
-
-    /// Whether it can be called.
-    #[cfg(test)]
-    pub(crate) fn is_callable(&self) -> bool {
-        self.shape == Shape::Callable
-    }
-
     /// Its inner part.
     pub(crate) fn inner(&self) -> &Inner
         ensures { inner_term result.now ≡ self.now.inner }

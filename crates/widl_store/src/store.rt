@@ -257,25 +257,6 @@ impl Store {
         self.homes.home(what)
     }
 
-    /// Whether the store holds the number that the reference has, with its shape.
-    #[cfg(test)]
-    pub(crate) fn is_live(&self, obj: ObjRef) -> bool
-        ensures { result ≡ true → IsLive self.now.objects obj }
-    {
-        match self.objects.get(obj.id as usize) {
-            None => false,
-            Some(object) => object.shape() == obj.shape,
-        }
-    }
-
-    /// All objects by their numbers.
-    #[cfg(test)]
-    pub(crate) fn objects(&self) -> &[Object]
-        ensures { result.now ≡ self.now.objects }
-    {
-        self.objects.as_slice()
-    }
-
     /// That what holds of every store holds of this one: a law, which takes no step.
     pub fn is_sound(&self)
         ensures { Sound self.now.objects }

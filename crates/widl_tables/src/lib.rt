@@ -17,8 +17,6 @@ ghost use Rattle.widl_tables.specs.MemberOrder.{own_order};
 mod decision;
 mod entry_test;
 mod entry_types;
-#[cfg(test)]
-mod hostile_tests;
 mod kept_overloads;
 mod kept_type;
 pub mod laws;
@@ -28,10 +26,6 @@ mod member_pick;
 mod overload_pick;
 mod pick;
 mod telling;
-#[cfg(test)]
-mod test_lists;
-#[cfg(test)]
-mod tests;
 mod type_test;
 mod type_walk;
 mod value_places;

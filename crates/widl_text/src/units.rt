@@ -225,17 +225,3 @@ fn push_character(items: &mut Vec<u16>, character: char) -> Result<(), AllocErro
     items.extend_from_slice(units)?;
     Ok(())
 }
-
-#[cfg(test)]
-mod tests {
-    use super::*;
-
-    #[test]
-    fn leaves_a_long_text_where_its_copy_grows(rt: HostRuntime) -> Result<(), AllocError> {
-        let text = Units::of_bytes(rt.alloc(), &[0x61; 100])?;
-        let mut copy = text.copy()?;
-        copy.push(0x62)?;
-        assert_eq!(rt; (text.len(), copy.len(), copy.at(100)), (100, 101, 0x62));
-        Ok(())
-    }
-}

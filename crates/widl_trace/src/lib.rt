@@ -11,8 +11,6 @@ mod event;
 mod event_line;
 mod idl_value_text;
 mod laws;
-#[cfg(test)]
-mod tests;
 mod value_text;
 mod whole;
 

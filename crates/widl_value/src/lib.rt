@@ -10,8 +10,6 @@ mod idl_entries;
 mod idl_members;
 mod idl_pairs;
 mod idl_slots;
-#[cfg(test)]
-mod idl_tests;
 mod idl_value;
 mod idl_values;
 mod keys;

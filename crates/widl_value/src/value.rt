@@ -69,29 +69,3 @@ impl Value {
         }
     }
 }
-
-#[cfg(test)]
-mod tests {
-    use super::*;
-
-    #[test]
-    fn copies_and_classes(rt: HostRuntime) -> Result<(), AllocError> {
-        let object = |shape| Value::Obj(ObjRef { id: 7, shape });
-        let rows = [
-            (Value::Undefined, Class::Undefined),
-            (Value::Null, Class::Null),
-            (Value::Bool(false), Class::Bool),
-            (Value::Num(Number::Whole(-3)), Class::Num),
-            (Value::Str(Units::of_str(rt.alloc(), "no")?), Class::Str),
-            (Value::Sym(1), Class::Sym),
-            (object(Shape::Platform(4)), Class::Platform(4)),
-            (object(Shape::Callable), Class::Callable),
-            (object(Shape::Plain), Class::Plain),
-        ];
-        for (value, class) in &rows {
-            assert_eq!(rt; value.class(), *class);
-            assert_eq!(rt; value.copy()?, *value);
-        }
-        Ok(())
-    }
-}

@@ -1,0 +1,2 @@
+pub mod KnownShapes
+pub mod ShortTexts

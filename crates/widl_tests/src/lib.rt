@@ -1,0 +1,42 @@
+//! The tests of the crates below, in a crate of their own: a crate with tests is proved twice, once with and once
+//! without them. A module holds the tests of the crate of its name; [`shared`] has the definitions, types and values
+//! that several make. It stands on crates up to `widl_front` and `widl_tables`, and knows none of the crates that
+//! convert, call and run, whose tests are those of the command (`widl_cli`). Nothing stands on it.
+#![tactic(auto)]
+
+#[cfg(test)]
+mod first;
+#[cfg(test)]
+mod folder;
+#[cfg(test)]
+mod grammar;
+#[cfg(test)]
+mod graph;
+#[cfg(test)]
+mod idl;
+#[cfg(test)]
+mod lex;
+#[cfg(test)]
+mod lines;
+#[cfg(test)]
+mod overload;
+#[cfg(test)]
+mod scalar;
+#[cfg(test)]
+mod script_tree;
+#[cfg(test)]
+mod sets;
+#[cfg(test)]
+mod shared;
+#[cfg(test)]
+mod sink;
+#[cfg(test)]
+mod store;
+#[cfg(test)]
+mod tables;
+#[cfg(test)]
+mod text;
+#[cfg(test)]
+mod trace;
+#[cfg(test)]
+mod value;
