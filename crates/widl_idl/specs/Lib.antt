@@ -1,6 +1,7 @@
 pub mod Terms
 pub mod Flattened
 pub mod Sameness
+pub mod SourceTexts
 pub mod Resolution
 pub mod Counts
 pub mod Written

@@ -1,5 +1,5 @@
 -- The trees of files as plain terms: what they say, without the places in memory of their parts.
-use Rattle.std.specs.Prelude.{ℕ, Bool, Option, List, map, option_map, string_bytes}
+use Rattle.std.specs.Prelude.{ℕ, Bool, Option, List, map, option_map}
 use Rattle.widl_text.specs.declared.place.Place.{Place}
 use Rattle.widl_idl.specs.declared.tree.arguments.Argument.{Argument}
 use Rattle.widl_idl.specs.declared.tree.arguments.ArgumentKind.{ArgumentKind}
@@ -222,7 +222,7 @@ abbrev pub dictionary_member_of : DictionaryMember → PlainDictionaryMember
 dictionary_member_of m = record { attributes = map attribute_of m.attributes; needed = m.required; ty = annotated_of m.ty; name = name_of m.name; default = option_map literal_of m.default }
 
 abbrev pub enumeration_value_of : EnumerationValue → PlainEnumerationValue
-enumeration_value_of v = record { at = v.at; text = string_bytes v.text }
+enumeration_value_of v = record { at = v.at; text = v.text }
 
 abbrev pub definition_kind_of : DefinitionKind → PlainKind
 definition_kind_of (kind.Callback c) = CallbackFunctionDefinition (record { name = name_of c.name; returned = type_of c.result; arguments = arguments_of c.arguments })

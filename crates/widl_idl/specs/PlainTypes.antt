@@ -1,5 +1,5 @@
 -- Names, extended attributes, values and types of a tree as plain terms: what they say, without the places in memory of their parts. Texts are their bytes.
-use Rattle.std.specs.Prelude.{ℕ, Bool, Option, List, map, string_bytes}
+use Rattle.std.specs.Prelude.{ℕ, Bool, Option, List, map}
 use Rattle.widl_text.specs.declared.place.Place.{Place}
 use Rattle.widl_idl.specs.declared.int_kind.IntKind.{IntKind}
 use Rattle.widl_idl.specs.declared.text_kind.TextKind.{TextKind}
@@ -82,10 +82,10 @@ mutual
     more_plain : PlainAnnotated → PlainMembers → PlainMembers
 
 abbrev pub name_of : Name → PlainName
-name_of name = record { at = name.at; escaped = name.escaped; text = string_bytes name.text }
+name_of name = record { at = name.at; escaped = name.escaped; text = name.text }
 
 abbrev pub token_of : SourceToken → PlainToken
-token_of token = record { at = token.at; text = string_bytes token.text }
+token_of token = record { at = token.at; text = token.text }
 
 abbrev pub attribute_of : ExtendedAttribute → PlainAttribute
 attribute_of a = record { name = name_of a.name; arguments = map token_of a.arguments }
@@ -94,12 +94,12 @@ abbrev pub value_of : LiteralValue → PlainValue
 value_of value.Null = NullValue
 value_of value.Undefined = UndefinedValue
 value_of (value.Boolean b) = BooleanValue b
-value_of (value.Integer text) = IntegerValue (string_bytes text)
-value_of (value.Decimal text) = DecimalValue (string_bytes text)
+value_of (value.Integer text) = IntegerValue text
+value_of (value.Decimal text) = DecimalValue text
 value_of value.Infinity = InfinityValue
 value_of value.MinusInfinity = MinusInfinityValue
 value_of value.NotANumber = NotANumberValue
-value_of (value.Text text) = TextValue (string_bytes text)
+value_of (value.Text text) = TextValue text
 value_of value.EmptySequence = EmptySequenceValue
 value_of value.EmptyDictionary = EmptyDictionaryValue
 

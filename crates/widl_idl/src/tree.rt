@@ -23,6 +23,7 @@ mod literals;
 mod members;
 mod names;
 mod operations;
+mod source_text;
 mod typedefs;
 mod types;
 
@@ -42,6 +43,7 @@ pub use members::{
 };
 pub use names::Name;
 pub use operations::{Operation, OperationKind, SpecialWord};
+pub use source_text::SourceText;
 pub use typedefs::Typedef;
 pub use types::{
     AnnotatedType, BufferKind, Container, FloatKind, TypeForm, UnionMembers, WrittenType,

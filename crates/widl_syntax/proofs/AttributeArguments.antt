@@ -1,5 +1,5 @@
 -- The tokens of an extended attribute after its name, which the machine of the grammar reads.
-use Rattle.std.proofs.Common.{◌≡◌, ℕ, ◌+◌, ◌<◌, ◌≤◌, Bool, true, false, Option, None, Some, List, [], ◌∷◌, ◌++◌, length, refl, sym, ◌∙◌, ap, subst, arith, string_bytes}
+use Rattle.std.proofs.Common.{◌≡◌, ℕ, ◌+◌, ◌<◌, ◌≤◌, Bool, true, false, Option, None, Some, List, [], ◌∷◌, ◌++◌, length, refl, sym, ◌∙◌, ap, subst, arith}
 use Rattle.std.specs.Prelude.{map}
 use Rattle.widl_idl.specs.declared.tree.extended_attributes.SourceToken.{SourceToken}
 use Rattle.widl_lex.specs.Tokens.{Lexeme}
@@ -26,7 +26,7 @@ use Rattle.widl_syntax.proofs.Lists.{fewer_left, all_signs_more}
 
 -- the signs of a token that was taken as it stands
 abbrev source_token : SourceToken → List Sign
-source_token t = at t.at ⧺ OfText (λ terminal. true) (string_bytes t.text) ∷ []
+source_token t = at t.at ⧺ OfText (λ terminal. true) t.text ∷ []
 
 same_rest : (l m : Lexeme) (rest u w n : List Lexeme) → w ≡ l ∷ rest → n ≡ w → n ≡ m ∷ u → (l ≡ m) × (rest ≡ u)
 same_rest l m rest u w n e f g = (cc, cc)
@@ -69,15 +69,15 @@ machine_begins start tokens stack none is = record {
   shorter = omega arith;
 }
 
-taken_first : (token : SourceToken) (after others : Symbols) (now next : List Lexeme) (a : Terminal) (v : List Terminal) → map terminal_of now ≡ a ∷ v → runs.Runs grammar sets (after ++ others) v → IsTaken token.at now next → IfAhead now (λ l. string_bytes token.text ≡ l.text) → UnparsesTo (source_token token) now next × AnyRuns (after ++ others) next
+taken_first : (token : SourceToken) (after others : Symbols) (now next : List Lexeme) (a : Terminal) (v : List Terminal) → map terminal_of now ≡ a ∷ v → runs.Runs grammar sets (after ++ others) v → IsTaken token.at now next → IfAhead now (λ l. token.text ≡ l.text) → UnparsesTo (source_token token) now next × AnyRuns (after ++ others) next
 taken_first token after others now next a v e r t b =
     let rest = stripped (as_stack v) in
-    let k = (took_text a (λ terminal. true) (string_bytes token.text) refl t b).reads rest (subst (RunsOf (Token a ∷ rest)) (sym e) (runs_taken (as_stack v, refl, reads_itself v))) in
+    let k = (took_text a (λ terminal. true) token.text refl t b).reads rest (subst (RunsOf (Token a ∷ rest)) (sym e) (runs_taken (as_stack v, refl, reads_itself v))) in
     let left = subst (λ s. runs.Runs grammar sets s (map terminal_of next)) k.1.1 (any_levels k.1.2) in
     (k.0, subst (runs.Runs grammar sets (after ++ others)) (sym (reads_only v (map terminal_of next) left)) r)
 
 -- one token more
-pub machine_goes_on : {start now next : List Lexeme} {tokens : List SourceToken} {stack after : Symbols} {turns : ℕ} (ahead_is : Option Terminal) (goes : Bool) (token : SourceToken) → InMachine start now tokens stack turns → ahead_is ≡ ahead (map terminal_of now) → Takes grammar sets ahead_is stack after goes → goes ≡ true → IsTaken token.at now next → IfAhead now (λ l. string_bytes token.text ≡ l.text) → InMachine start next (tokens ++ token ∷ []) after (turns + 1)
+pub machine_goes_on : {start now next : List Lexeme} {tokens : List SourceToken} {stack after : Symbols} {turns : ℕ} (ahead_is : Option Terminal) (goes : Bool) (token : SourceToken) → InMachine start now tokens stack turns → ahead_is ≡ ahead (map terminal_of now) → Takes grammar sets ahead_is stack after goes → goes ≡ true → IsTaken token.at now next → IfAhead now (λ l. token.text ≡ l.text) → InMachine start next (tokens ++ token ∷ []) after (turns + 1)
 machine_goes_on l false token m is takes e t b = cc
 machine_goes_on {start} {now} {next} {tokens} {stack} {after} {turns} l true token m is takes e t b = record {
   so_far = λ others r.

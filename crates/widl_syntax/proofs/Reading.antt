@@ -3,7 +3,7 @@ use Rattle.widl_predictive.proofs.Check.{each, each_coded}
 use Rattle.widl_predictive.proofs.Booleans.{or_cases, and_cases, and_both}
 use Rattle.widl_grammar.specs.Terminals.{terminal_code, all_terminals, terminal_at, terminals}
 use Rattle.std.specs.Prelude.{◌||◌, ◌&&◌, nat_le}
-use Rattle.std.proofs.Common.{string_bytes, if◌then◌else◌, nat_eq, length, get_or, eqb-true, leb-true, arith, ◌≤◌, ◌≡◌, ℕ, zero, suc, Bool, true, false, Option, Some, None, List, [], ◌∷◌, ◌++◌, refl, sym, ◌∙◌, ap, subst, inl, inr, drop, append_assoc}
+use Rattle.std.proofs.Common.{if◌then◌else◌, nat_eq, length, get_or, eqb-true, leb-true, arith, ◌≤◌, ◌≡◌, ℕ, zero, suc, Bool, true, false, Option, Some, None, List, [], ◌∷◌, ◌++◌, refl, sym, ◌∙◌, ap, subst, inl, inr, drop, append_assoc}
 use Rattle.std.specs.Prelude.{map, is_some, not, MatchOption, Result, Ok, Err, IfOk}
 use Rattle.widl_text.specs.declared.place.Place.{Place}
 use Rattle.widl_idl.specs.declared.tree.names.Name.{Name}
@@ -120,7 +120,7 @@ escape_known : (a : Terminal) (x : Sign) {w m : List Lexeme} {name : Name} → I
 escape_known a x {w} {m} {name} n f = record {
   reads = λ z r.
       let first = first_of_token a z w r in
-      let known : is_escape_apart name.escaped (string_bytes name.text) ≡ true = ahead_first (λ l. is_escape_apart name.escaped (string_bytes name.text) ≡ true) w first.lexeme first.rest first.is n.escape in
+      let known : is_escape_apart name.escaped name.text ≡ true = ahead_first (λ l. is_escape_apart name.escaped name.text ≡ true) w first.lexeme first.rest first.is n.escape in
       let h = f.reads z r in
       let none : [] ≡ escape_apart name = ap (λ b. if b then [] else Nowhere ∷ []) (sym known) in
       (subst (λ more. UnparsesTo (at name.at ⧺ x ∷ more) w m) none h.0, h.1);

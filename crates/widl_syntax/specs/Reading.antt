@@ -1,5 +1,5 @@
 -- What a part of the grammar reads of a file's tokens.
-use Rattle.std.specs.Prelude.{true, string_bytes, ◌≡◌, ◌≢◌, drop, List, [], ◌∷◌, ◌++◌}
+use Rattle.std.specs.Prelude.{true, ◌≡◌, ◌≢◌, drop, List, [], ◌∷◌, ◌++◌}
 use Rattle.widl_text.specs.declared.place.Place.{Place}
 use Rattle.widl_idl.specs.declared.tree.names.Name.{Name}
 use Rattle.widl_lex.specs.Tokens.{Lexeme}
@@ -49,4 +49,4 @@ pub record IsPassedBy (t : Terminal) (from to : List Lexeme) : Type 0 where
 pub record IsName (name : Name) (from to : List Lexeme) : Type 0 where
   pub taken : IsTaken name.at from to
   pub bytes : IfAhead from (λ l. name_bytes name ≡ l.text)
-  pub escape : IfAhead from (λ l. is_escape_apart name.escaped (string_bytes name.text) ≡ true)
+  pub escape : IfAhead from (λ l. is_escape_apart name.escaped name.text ≡ true)

@@ -1,5 +1,5 @@
 -- The signs of definitions and of files.
-use Rattle.std.specs.Prelude.{true, Bool, false, Option, None, Some, List, [], ◌∷◌, string_bytes}
+use Rattle.std.specs.Prelude.{true, Bool, false, Option, None, Some, List, [], ◌∷◌}
 use Rattle.widl_idl.specs.declared.tree.callbacks.Callback.{Callback}
 use Rattle.widl_idl.specs.declared.tree.callbacks.CallbackInterface.{CallbackInterface}
 use Rattle.widl_idl.specs.declared.tree.definitions.Definition.{Definition}
@@ -65,7 +65,7 @@ abbrev pub dictionary : Dictionary → List Sign
 dictionary d = word t.Dictionary ⧺ identifier d.name ⧺ parent d.parent ⧺ body (all_signs dictionary_member d.members)
 
 abbrev pub enumeration_value : EnumerationValue → List Sign
-enumeration_value v = at v.at ⧺ OfBytes t.String (quoted_bytes (string_bytes v.text)) ∷ []
+enumeration_value v = at v.at ⧺ OfBytes t.String (quoted_bytes v.text) ∷ []
 
 abbrev pub enumeration : Enumeration → List Sign
 enumeration e = word t.Enum ⧺ identifier e.name ⧺ body (separated t.Comma enumeration_value e.values ⧺ word_if e.trailing_comma t.Comma)

@@ -1,6 +1,6 @@
 -- The signs of names, extended attributes and literals.
 use Rattle.std.specs.List.{list_any}
-use Rattle.std.specs.Prelude.{nat_eq, not, ℕ, Bool, true, false, Option, None, Some, List, [], ◌∷◌, ◌++◌, if◌then◌else◌, string_bytes, map}
+use Rattle.std.specs.Prelude.{nat_eq, not, ℕ, Bool, true, false, Option, None, Some, List, [], ◌∷◌, ◌++◌, if◌then◌else◌, map}
 use Rattle.widl_idl.specs.declared.tree.extended_attributes.ExtendedAttribute.{ExtendedAttribute}
 use Rattle.widl_idl.specs.declared.tree.extended_attributes.SourceToken.{SourceToken}
 use Rattle.widl_idl.specs.declared.tree.literals.Literal.{Literal}
@@ -19,7 +19,7 @@ use Rattle.widl_syntax.specs.Signs.{Sign, Text, OfBytes, OfText, OfPart, Nowhere
 
 -- the bytes of a name, with the `_` before it
 abbrev pub name_bytes : Name → List ℕ
-name_bytes name = if name.escaped then 0x5F ∷ string_bytes name.text else string_bytes name.text
+name_bytes name = if name.escaped then 0x5F ∷ name.text else name.text
 
 -- a `_` before a name is no part of its text
 abbrev pub is_escape_apart : Bool → List ℕ → Bool
@@ -29,7 +29,7 @@ is_escape_apart false (b ∷ more) = not (nat_eq b 0x5F)
 
 -- no more tokens; and where a name has the `_` before it in its text, it has no spelling
 abbrev pub escape_apart : Name → List Sign
-escape_apart name = if is_escape_apart name.escaped (string_bytes name.text) then [] else Nowhere ∷ []
+escape_apart name = if is_escape_apart name.escaped name.text then [] else Nowhere ∷ []
 
 -- an identifier
 abbrev pub identifier : Name → List Sign
@@ -58,7 +58,7 @@ word_if true t = word t
 word_if false t = []
 
 abbrev pub text_of : SourceToken → Text
-text_of t = record { at = t.at; bytes = string_bytes t.text }
+text_of t = record { at = t.at; bytes = t.text }
 
 -- what stands after the name of an extended attribute
 abbrev pub attribute_rest : List SourceToken → List Sign
@@ -81,12 +81,12 @@ literal_value value.Null = word Null
 literal_value value.Undefined = word Undefined
 literal_value (value.Boolean true) = word True
 literal_value (value.Boolean false) = word False
-literal_value (value.Integer text) = OfBytes Integer (string_bytes text) ∷ []
-literal_value (value.Decimal text) = OfBytes Decimal (string_bytes text) ∷ []
+literal_value (value.Integer text) = OfBytes Integer text ∷ []
+literal_value (value.Decimal text) = OfBytes Decimal text ∷ []
 literal_value value.Infinity = word Infinity
 literal_value value.MinusInfinity = word MinusInfinity
 literal_value value.NotANumber = word Nan
-literal_value (value.Text text) = OfBytes String (quoted_bytes (string_bytes text)) ∷ []
+literal_value (value.Text text) = OfBytes String (quoted_bytes text) ∷ []
 literal_value value.EmptySequence = word OpenBracket ⧺ word CloseBracket
 literal_value value.EmptyDictionary = word OpenBrace ⧺ word CloseBrace
 

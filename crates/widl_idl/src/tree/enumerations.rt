@@ -1,6 +1,6 @@
 //! Enumerations.
 
-use super::Name;
+use super::{Name, SourceText};
 use widl_text::{Items, Place};
 
 /// An enumeration ([Web IDL, Enumerations](https://webidl.spec.whatwg.org/#idl-enums)).
@@ -20,7 +20,7 @@ pub struct EnumerationValue {
     /// Where its text stands.
     pub at: Place,
     /// Its text, without the quotation marks.
-    pub text: String,
+    pub text: SourceText,
 }
 
 /// Values in the order of the source.

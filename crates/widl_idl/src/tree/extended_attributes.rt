@@ -1,6 +1,6 @@
 //! Extended attributes.
 
-use super::Name;
+use super::{Name, SourceText};
 use widl_text::{Items, Place};
 
 /// An extended attribute ([Web IDL, Extended
@@ -23,7 +23,7 @@ pub struct SourceToken {
     /// Where it stands.
     pub at: Place,
     /// Its text, which tells its kind.
-    pub text: String,
+    pub text: SourceText,
 }
 
 /// Tokens in the order of the source.

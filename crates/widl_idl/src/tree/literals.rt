@@ -1,5 +1,6 @@
 //! The values of constants, and default values.
 
+use super::SourceText;
 use widl_text::Place;
 
 /// A value that the source writes ([Web IDL, Constants](https://webidl.spec.whatwg.org/#idl-constants),
@@ -22,9 +23,9 @@ pub enum LiteralValue {
     /// `true` or `false`.
     Boolean(bool),
     /// An integer, by its token: decimal, octal or hexadecimal, with its sign.
-    Integer(String),
+    Integer(SourceText),
     /// A number with a fraction or an exponent, by its token.
-    Decimal(String),
+    Decimal(SourceText),
     /// `Infinity`.
     Infinity,
     /// `-Infinity`.
@@ -32,7 +33,7 @@ pub enum LiteralValue {
     /// `NaN`.
     NotANumber,
     /// A text, without its quotation marks.
-    Text(String),
+    Text(SourceText),
     /// `[]`.
     EmptySequence,
     /// `{}`.

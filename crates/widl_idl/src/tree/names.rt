@@ -1,5 +1,6 @@
 //! Names in a tree.
 
+use super::SourceText;
 use widl_text::Place;
 
 /// A name of the source: an identifier without the `_` that may stand before it, or a word that is
@@ -12,5 +13,5 @@ pub struct Name {
     /// Whether a `_` stands before it, which is no part of the name.
     pub escaped: bool,
     /// Its text, without that `_`.
-    pub text: String,
+    pub text: SourceText,
 }

@@ -1,5 +1,5 @@
 -- Definitions and files have one spelling each.
-use Rattle.std.proofs.Common.{◌≡◌, ℕ, ◌<◌, Bool, true, false, Option, Some, List, [], ◌∷◌, length, refl, sym, ◌∙◌, ap, subst, arith, drop, string_bytes}
+use Rattle.std.proofs.Common.{◌≡◌, ℕ, ◌<◌, Bool, true, false, Option, Some, List, [], ◌∷◌, length, refl, sym, ◌∙◌, ap, subst, arith, drop}
 use Rattle.std.specs.Prelude.{not}
 use Rattle.widl_idl.specs.declared.tree.callbacks.Callback.{Callback}
 use Rattle.widl_idl.specs.declared.tree.callbacks.CallbackInterface.{CallbackInterface}
@@ -111,8 +111,8 @@ dictionary_tells a b same =
 
 enumeration_value_tells : (a b : EnumerationValue) → Tells (SameEnumerationValue a b) Anywhere (enumeration_value a) (enumeration_value b)
 enumeration_value_tells a b =
-    told (place_then a.at b.at (bytes_then t.String (quoted_bytes (string_bytes a.text)) (quoted_bytes (string_bytes b.text)) nothing_told))
-    (λ p. record { at = p.0; text = in_quotes (string_bytes a.text) (string_bytes b.text) p.1.0 })
+    told (place_then a.at b.at (bytes_then t.String (quoted_bytes a.text) (quoted_bytes b.text) nothing_told))
+    (λ p. record { at = p.0; text = in_quotes a.text b.text p.1.0 })
 
 -- no text is ahead, and none after a comma
 record ValuesEnd (w : List Lexeme) : Type 0 where

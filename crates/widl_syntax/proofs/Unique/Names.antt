@@ -1,5 +1,5 @@
 -- Names, extended attributes and literals have one spelling each.
-use Rattle.std.proofs.Common.{sym, ◌∙◌, ap, if◌then◌else◌, ◌≡◌, ℕ, Bool, true, false, Option, Some, List, [], ◌∷◌, ◌++◌, refl, string_bytes}
+use Rattle.std.proofs.Common.{sym, ◌∙◌, ap, if◌then◌else◌, ◌≡◌, ℕ, Bool, true, false, Option, Some, List, [], ◌∷◌, ◌++◌, refl}
 use Rattle.std.specs.Prelude.{map, not}
 use Rattle.widl_lex.specs.Tokens.{Lexeme}
 use Rattle.widl_grammar.specs.declared.terminal.Terminal.{Terminal}
@@ -25,7 +25,7 @@ use Rattle.widl_syntax.proofs.Unique.Parts.{part_tells}
 
 -- whether a `_` stands before a name is told by the bytes
 abbrev IsApart : Name → Type 0
-IsApart name = is_escape_apart name.escaped (string_bytes name.text) ≡ true
+IsApart name = is_escape_apart name.escaped name.text ≡ true
 
 escape_tells : (a b : Bool) → Tells ((a ≡ true) × (b ≡ true)) Anywhere (if a then [] else Nowhere ∷ []) (if b then [] else Nowhere ∷ [])
 escape_tells true true = told nothing_told (λ u. (refl, refl))
@@ -33,7 +33,7 @@ escape_tells true false = record { tells = λ w m n s r em en. absurd r.1 }
 escape_tells false b = record { tells = λ w m n s r em en. absurd s.1 }
 
 apart_tells : (a b : Name) → Tells (IsApart a × IsApart b) Anywhere (escape_apart a) (escape_apart b)
-apart_tells a b = escape_tells (is_escape_apart a.escaped (string_bytes a.text)) (is_escape_apart b.escaped (string_bytes b.text))
+apart_tells a b = escape_tells (is_escape_apart a.escaped a.text) (is_escape_apart b.escaped b.text)
 
 same_text : (e f : Bool) (xs ys : List ℕ) → (if e then 0x5F ∷ xs else xs) ≡ (if f then 0x5F ∷ ys else ys) → is_escape_apart e xs ≡ true → is_escape_apart f ys ≡ true → (e ≡ f) × (xs ≡ ys)
 same_text true true xs ys same h k = (refl, cc)
@@ -43,7 +43,7 @@ same_text false true xs ys same h k = let bad : false ≡ true = ap (is_escape_a
 
 same_name : (a b : Name) → a.at ≡ b.at → name_bytes a ≡ name_bytes b → IsApart a → IsApart b → SameName a b
 same_name a b place same h k =
-    let both = same_text a.escaped b.escaped (string_bytes a.text) (string_bytes b.text) same h k in
+    let both = same_text a.escaped b.escaped a.text b.text same h k in
     record { at = place; escaped = both.0; text = both.1 }
 
 pub identifier_tells : (a b : Name) → Tells (SameName a b) Anywhere (identifier a) (identifier b)
@@ -105,12 +105,12 @@ value_tells value.Null value.Null = word_told t.Null
 value_tells value.Undefined value.Undefined = word_told t.Undefined
 value_tells (value.Boolean true) (value.Boolean true) = told (word_told t.True) (λ u. refl)
 value_tells (value.Boolean false) (value.Boolean false) = told (word_told t.False) (λ u. refl)
-value_tells (value.Integer a) (value.Integer b) = told (bytes_then t.Integer (string_bytes a) (string_bytes b) nothing_told) (λ p. p.0)
-value_tells (value.Decimal a) (value.Decimal b) = told (bytes_then t.Decimal (string_bytes a) (string_bytes b) nothing_told) (λ p. p.0)
+value_tells (value.Integer a) (value.Integer b) = told (bytes_then t.Integer a b nothing_told) (λ p. p.0)
+value_tells (value.Decimal a) (value.Decimal b) = told (bytes_then t.Decimal a b nothing_told) (λ p. p.0)
 value_tells value.Infinity value.Infinity = word_told t.Infinity
 value_tells value.MinusInfinity value.MinusInfinity = word_told t.MinusInfinity
 value_tells value.NotANumber value.NotANumber = word_told t.Nan
-value_tells (value.Text a) (value.Text b) = told (bytes_then t.String (quoted_bytes (string_bytes a)) (quoted_bytes (string_bytes b)) nothing_told) (λ p. in_quotes (string_bytes a) (string_bytes b) p.0)
+value_tells (value.Text a) (value.Text b) = told (bytes_then t.String (quoted_bytes a) (quoted_bytes b) nothing_told) (λ p. in_quotes a b p.0)
 value_tells value.EmptySequence value.EmptySequence = word_then t.OpenBracket (word_told t.CloseBracket)
 value_tells value.EmptyDictionary value.EmptyDictionary = word_then t.OpenBrace (word_told t.CloseBrace)
 value_tells (value.Boolean true) b = clashes (literal_value (value.Boolean true)) (literal_value b) refl

@@ -1,5 +1,5 @@
 -- When two trees of files are the same: alike in each of their parts, with equal places and equal texts.
-use Rattle.std.specs.Prelude.{◌≡◌, Option, None, Some, List, [], ◌∷◌, map, string_bytes}
+use Rattle.std.specs.Prelude.{◌≡◌, Option, None, Some, List, [], ◌∷◌, map}
 use Rattle.widl_idl.specs.declared.tree.arguments.Argument.{Argument}
 use Rattle.widl_idl.specs.declared.tree.arguments.ArgumentKind.{ArgumentKind}
 use Rattle.widl_idl.specs.declared.tree.arguments.ArgumentKind.TheVariants as argument_kind
@@ -53,7 +53,7 @@ SameItems same xs ys = ⊥
 pub record SameName (a b : Name) : Type 0 where
   pub at : a.at ≡ b.at
   pub escaped : a.escaped ≡ b.escaped
-  pub text : string_bytes a.text ≡ string_bytes b.text
+  pub text : a.text ≡ b.text
 
 pub record SameExtendedAttribute (a b : ExtendedAttribute) : Type 0 where
   pub name : SameName a.name b.name
@@ -66,12 +66,12 @@ abbrev pub SameValue : LiteralValue → LiteralValue → Type 0
 SameValue value.Null value.Null = Unit {0}
 SameValue value.Undefined value.Undefined = Unit {0}
 SameValue (value.Boolean a) (value.Boolean b) = a ≡ b
-SameValue (value.Integer a) (value.Integer b) = string_bytes a ≡ string_bytes b
-SameValue (value.Decimal a) (value.Decimal b) = string_bytes a ≡ string_bytes b
+SameValue (value.Integer a) (value.Integer b) = a ≡ b
+SameValue (value.Decimal a) (value.Decimal b) = a ≡ b
 SameValue value.Infinity value.Infinity = Unit {0}
 SameValue value.MinusInfinity value.MinusInfinity = Unit {0}
 SameValue value.NotANumber value.NotANumber = Unit {0}
-SameValue (value.Text a) (value.Text b) = string_bytes a ≡ string_bytes b
+SameValue (value.Text a) (value.Text b) = a ≡ b
 SameValue value.EmptySequence value.EmptySequence = Unit {0}
 SameValue value.EmptyDictionary value.EmptyDictionary = Unit {0}
 SameValue a b = ⊥
@@ -237,7 +237,7 @@ pub record SameDictionary (a b : Dictionary) : Type 0 where
 
 pub record SameEnumerationValue (a b : EnumerationValue) : Type 0 where
   pub at : a.at ≡ b.at
-  pub text : string_bytes a.text ≡ string_bytes b.text
+  pub text : a.text ≡ b.text
 
 pub record SameEnumeration (a b : Enumeration) : Type 0 where
   pub name : SameName a.name b.name

@@ -1,23 +1,14 @@
 //! Names and other texts.
 
-ghost use Rattle.std.specs.Prelude.{◌≡◌, ℕ, true, List, ◌∷◌, if◌then◌else◌, IfOk, IsUtf8, drop, length, string_bytes};
+ghost use Rattle.std.specs.Prelude.{◌≡◌, ℕ, true, List, ◌∷◌, if◌then◌else◌, IfOk, IsUtf8, drop, length};
 ghost use Rattle.widl_grammar.specs.declared.terminal.Terminal.TheVariants as terminal;
 ghost use Rattle.widl_grammar.specs.Source.{terminal_of};
 ghost use Rattle.widl_syntax.specs.Reading.{IfAhead, IsTaken, IsName};
 ghost use Rattle.widl_syntax.specs.UnparsedNames.{name_bytes, is_escape_apart, quoted_bytes};
 
 use super::Reader;
-use std::alloc::{AllocError, Global};
-use widl_idl::tree::{Name, SourceToken};
-
-/// A copy of the bytes of a token, which are UTF-8.
-fn owned(alloc: Global, text: &[u8]) -> Result<String, AllocError>
-    requires { IsUtf8 text.now }
-    ensures { IfOk result (λ copy. string_bytes copy ≡ text.now) }
-{
-    // The proof meets the `requires` of the call: the bytes need not be decoded again.
-    String::from_str(alloc, unsafe { std::str::from_utf8_unchecked(text) })
-}
+use std::alloc::AllocError;
+use widl_idl::tree::{Name, SourceText, SourceToken};
 
 /// Whether a `_` stands before a name, and the name without it.
 fn unescaped(text: &[u8]) -> (bool, &[u8])
@@ -48,29 +39,29 @@ impl<'t, 's> Reader<'t, 's> {
         ensures { IfOk result (λ name. IsName name self.old self.new) }
     {
         let (escaped, name) = unescaped(self.text());
-        let text = owned(self.alloc(), name)?;
+        let text = SourceText::of_utf8(self.alloc(), name)?;
         let at = self.take();
         Ok(Name { at, escaped, text })
     }
 
     /// The bytes of the token ahead, as a text.
-    pub fn token_text(&self) -> Result<String, AllocError>
-        ensures { IfOk result (λ text. IfAhead self.now (λ lexeme. string_bytes text ≡ lexeme.text)) }
+    pub fn token_text(&self) -> Result<SourceText, AllocError>
+        ensures { IfOk result (λ text. IfAhead self.now (λ lexeme. text ≡ lexeme.text)) }
     {
-        owned(self.alloc(), self.text())
+        SourceText::of_utf8(self.alloc(), self.text())
     }
 
     /// What stands between the quotation marks of the token ahead.
-    pub fn quoted_text(&self) -> Result<String, AllocError>
-        ensures { IfOk result (λ text. IfAhead self.now (λ lexeme. terminal_of lexeme ≡ terminal.String → quoted_bytes (string_bytes text) ≡ lexeme.text)) }
+    pub fn quoted_text(&self) -> Result<SourceText, AllocError>
+        ensures { IfOk result (λ text. IfAhead self.now (λ lexeme. terminal_of lexeme ≡ terminal.String → quoted_bytes text ≡ lexeme.text)) }
     {
-        owned(self.alloc(), unquoted(self.text()))
+        SourceText::of_utf8(self.alloc(), unquoted(self.text()))
     }
 
     /// The token ahead as it stands.
     pub fn source_token(&mut self) -> Result<SourceToken, AllocError>
         ensures taken { IfOk result (λ token. IsTaken token.at self.old self.new) }
-        ensures bytes { IfOk result (λ token. IfAhead self.old (λ lexeme. string_bytes token.text ≡ lexeme.text)) }
+        ensures bytes { IfOk result (λ token. IfAhead self.old (λ lexeme. token.text ≡ lexeme.text)) }
     {
         let text = self.token_text()?;
         let at = self.take();

@@ -1,4 +1,4 @@
-use Rattle.std.proofs.Common.{refl, sym, [], ◌∷◌, string_bytes}
+use Rattle.std.proofs.Common.{refl, sym, [], ◌∷◌}
 use Rattle.widl_grammar.specs.declared.rule.Rule.TheVariants as rule
 use Rattle.widl_grammar.specs.declared.terminal.Terminal.TheVariants as terminal
 use Rattle.widl_syntax.proofs.Reading.{by_row, by_rest, took_at}
@@ -14,12 +14,12 @@ returns-in-False c = λ place after t. by_row rule.ConstValue terminal.False (sy
 pub returns-in_ok-token_text-in-Integer : goal.returns-in_ok-token_text-in-Integer
 returns-in_ok-token_text-in-Integer c = λ place after t.
     by_row rule.ConstValue terminal.Integer (sym c.in-Integer.ensures) refl refl
-    (took_whole terminal.Integer (string_bytes c.in_ok-token_text-in-Integer.field-0) t c.in_ok-token_text-in-Integer.ensures)
+    (took_whole terminal.Integer c.in_ok-token_text-in-Integer.field-0 t c.in_ok-token_text-in-Integer.ensures)
 
 pub returns-in_ok-token_text-in-Decimal : goal.returns-in_ok-token_text-in-Decimal
 returns-in_ok-token_text-in-Decimal c = λ place after t.
     by_row rule.ConstValue terminal.Decimal (sym c.in-Decimal.ensures) refl refl
-    (took_whole terminal.Decimal (string_bytes c.in_ok-token_text-in-Decimal.field-0) t c.in_ok-token_text-in-Decimal.ensures)
+    (took_whole terminal.Decimal c.in_ok-token_text-in-Decimal.field-0 t c.in_ok-token_text-in-Decimal.ensures)
 
 pub returns-in-Infinity : goal.returns-in-Infinity
 returns-in-Infinity c = λ place after t. by_row rule.ConstValue terminal.Infinity (sym c.in-Infinity.ensures) refl refl (took_at terminal.Infinity t)
