@@ -1,5 +1,6 @@
 -- Lemmas: what is written in a definition, and each value of an enumeration, has a token of its own.
 use Rattle.std.proofs.Common.{◌≡◌, ℕ, ◌+◌, ◌≤◌, ◌++◌, Bool, true, false, List, [], ◌∷◌, length, map, flat_map, Option, None, Some, option_map, suc, ap, arith, refl}
+use Rattle.std.specs.Global.{Box}
 use Rattle.std.specs.Prelude.{sum_by}
 use Rattle.std.proofs.lemmas.List.{length-append, length-map}
 use Rattle.std.proofs.lemmas.List.Sums.{sum_by-cons}
@@ -28,7 +29,7 @@ use Rattle.widl_idl.specs.declared.tree.types.WrittenType.{WrittenType}
 use Rattle.widl_idl.specs.Meanings.{declared_name}
 use Rattle.widl_idl.specs.Nodes.{Node, AttributeNode, nodes_inside, nodes_of, nodes_of_annotated, nodes_of_argument, nodes_of_argument_kind, nodes_of_arguments, nodes_of_attributes, nodes_of_callback_member, nodes_of_default, nodes_of_definition, nodes_of_dictionary_member, nodes_of_form, nodes_of_member, nodes_of_member_kind, nodes_of_optional_arguments, nodes_of_optional_name, nodes_of_optional_type, nodes_of_type, nodes_of_union}
 use Rattle.widl_idl.specs.PlainTrees.{PlainDefinition, PlainKind, argument_kind_of, argument_of, arguments_of, definition_kind_of, definition_of, dictionary_member_of, enumeration_value_of, member_kind_of, member_of, plain_definitions}
-use Rattle.widl_idl.specs.PlainTypes.{annotated_of, attribute_of, literal_of, name_of, plain_form, plain_inner, plain_of, plain_union, type_of}
+use Rattle.widl_idl.specs.PlainTypes.{annotated_of, attribute_of, name_of, plain_form, plain_inner, plain_of, plain_union, type_of, written_default}
 use Rattle.widl_idl.specs.TypeTrees.{AnnotatedTree, AnyForm, BigIntForm, BooleanForm, BufferForm, ContainerForm, FloatForm, FormTree, IntegerForm, MemberTrees, NamedForm, ObjectForm, PromiseForm, RecordForm, SymbolForm, TextForm, TypeTree, UndefinedForm, UnionForm, annotated_tree, more_members, no_members, tree_of_annotated, tree_of_type, type_tree}
 use Rattle.widl_lex.specs.Tokens.{Lexeme}
 use Rattle.widl_grammar.specs.declared.rule.Rule.{Rule}
@@ -149,9 +150,9 @@ attributes (a ∷ more) =
     let nodes = length-map (map attribute_of (a ∷ more)) AttributeNode in
     takes_some (omega (arith, plain, nodes)) (both one_word (both (separated_count t.Comma names.extended_attribute one_attribute (a ∷ more)) one_word))
 
-default : (literal : Option Literal) → Takes (length (nodes_of_default (option_map literal_of literal))) (names.default_value literal)
+default : (literal : Option (Box Literal)) → Takes (length (nodes_of_default (written_default literal))) (names.default_value literal)
 default None = none
-default (Some l) = takes_some (omega arith) (both one_word (any_signs (names.literal l)))
+default (Some l) = takes_some (omega arith) (both one_word (any_signs (names.literal l.value)))
 
 -- types
 integer : (k : IntKind) → Takes 1 (types.integer_words k)
@@ -246,7 +247,7 @@ optional_arguments (Some all) = takes_some (omega arith) (arguments all)
 
 -- members
 member_kind : (k : MemberKind) → Takes (length (nodes_of_member_kind (member_kind_of k)) + 1) (members.member_kind k)
-member_kind (member_kinds.Constant c) = takes_some (omega arith) (both no_token (both one_word (both (written c.ty) (both (identifier c.name) (both one_word (both (any_signs (names.literal c.value)) one_word))))))
+member_kind (member_kinds.Constant c) = takes_some (omega arith) (both no_token (both one_word (both (written c.value.ty) (both (identifier c.value.name) (both one_word (both (any_signs (names.literal c.value.value)) one_word))))))
 member_kind (member_kinds.Attribute a) =
     takes_some (omega arith) (both (any_signs (members.attribute_word a.kind)) (both (any_signs (names.word_if a.readonly t.Readonly)) (both one_word (both (annotated a.ty) (both (any_name AttributeName a.name) one_word)))))
 member_kind (member_kinds.Operation o) =
@@ -256,16 +257,16 @@ member_kind (member_kinds.Operation o) =
 member_kind (member_kinds.Constructor c) = takes_some (omega arith) (both no_token (both one_word (both (arguments c.arguments) one_word)))
 member_kind (member_kinds.Stringifier s) = takes_some (omega arith) (both no_token (both one_word one_word))
 member_kind (member_kinds.Iterable i) =
-    let sum = length-append (nodes_of_annotated (annotated_of i.first)) (nodes_of_optional_type (option_map annotated_of i.second)) in
-    takes_some (omega (arith, sum)) (both no_token (both one_word (both one_word (both (annotated i.first) (both (second i.second) (both one_word one_word))))))
+    let sum = length-append (nodes_of_annotated (annotated_of i.value.first)) (nodes_of_optional_type (option_map annotated_of i.value.second)) in
+    takes_some (omega (arith, sum)) (both no_token (both one_word (both one_word (both (annotated i.value.first) (both (second i.value.second) (both one_word one_word))))))
 member_kind (member_kinds.AsyncIterable i) =
-    let outside = length-append (nodes_of_annotated (annotated_of i.first)) (nodes_of_optional_type (option_map annotated_of i.second) ++ nodes_of_optional_arguments (option_map arguments_of i.arguments)) in
-    let inside = length-append (nodes_of_optional_type (option_map annotated_of i.second)) (nodes_of_optional_arguments (option_map arguments_of i.arguments)) in
-    takes_some (omega (arith, outside, inside)) (both no_token (both (any_signs (members.async_words i.word)) (both one_word (both (annotated i.first) (both (second i.second) (both one_word (both (optional_arguments i.arguments) one_word)))))))
+    let outside = length-append (nodes_of_annotated (annotated_of i.value.first)) (nodes_of_optional_type (option_map annotated_of i.value.second) ++ nodes_of_optional_arguments (option_map arguments_of i.value.arguments)) in
+    let inside = length-append (nodes_of_optional_type (option_map annotated_of i.value.second)) (nodes_of_optional_arguments (option_map arguments_of i.value.arguments)) in
+    takes_some (omega (arith, outside, inside)) (both no_token (both (any_signs (members.async_words i.value.word)) (both one_word (both (annotated i.value.first) (both (second i.value.second) (both one_word (both (optional_arguments i.value.arguments) one_word)))))))
 member_kind (member_kinds.Maplike m) =
-    let sum = length-append (nodes_of_annotated (annotated_of m.key)) (nodes_of_annotated (annotated_of m.value)) in
-    takes_some (omega (arith, sum)) (both (any_signs (names.word_if m.readonly t.Readonly)) (both no_token (both one_word (both one_word (both (annotated m.key) (both one_word (both (annotated m.value) (both one_word one_word))))))))
-member_kind (member_kinds.Setlike s) = takes_some (omega arith) (both (any_signs (names.word_if s.readonly t.Readonly)) (both no_token (both one_word (both one_word (both (annotated s.value) (both one_word one_word))))))
+    let sum = length-append (nodes_of_annotated (annotated_of m.value.key)) (nodes_of_annotated (annotated_of m.value.value)) in
+    takes_some (omega (arith, sum)) (both (any_signs (names.word_if m.value.readonly t.Readonly)) (both no_token (both one_word (both one_word (both (annotated m.value.key) (both one_word (both (annotated m.value.value) (both one_word one_word))))))))
+member_kind (member_kinds.Setlike s) = takes_some (omega arith) (both (any_signs (names.word_if s.value.readonly t.Readonly)) (both no_token (both one_word (both one_word (both (annotated s.value.value) (both one_word one_word))))))
 
 member : (m : Member) → Takes (length (nodes_of_member (member_of m))) (members.member m)
 member m =
@@ -283,8 +284,8 @@ member_type false ty = bare ty
 
 dictionary_member : (m : DictionaryMember) → Takes (length (nodes_of_dictionary_member (dictionary_member_of m))) (unparsed.dictionary_member m)
 dictionary_member m =
-    let outside = length-append (nodes_of_attributes (map attribute_of m.attributes)) (nodes_of_annotated (annotated_of m.ty) ++ nodes_of_default (option_map literal_of m.default)) in
-    let inside = length-append (nodes_of_annotated (annotated_of m.ty)) (nodes_of_default (option_map literal_of m.default)) in
+    let outside = length-append (nodes_of_attributes (map attribute_of m.attributes)) (nodes_of_annotated (annotated_of m.ty) ++ nodes_of_default (written_default m.default)) in
+    let inside = length-append (nodes_of_annotated (annotated_of m.ty)) (nodes_of_default (written_default m.default)) in
     takes_some (omega (arith, outside, inside)) (both (attributes m.attributes) (both (member_type m.required m.ty) (both (identifier m.name) (both (default m.default) one_word))))
 
 -- definitions

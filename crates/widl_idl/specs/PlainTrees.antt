@@ -23,7 +23,7 @@ use Rattle.widl_idl.specs.declared.tree.members.MemberKind.{MemberKind}
 use Rattle.widl_idl.specs.declared.tree.members.MemberKind.TheVariants as member_kind
 use Rattle.widl_idl.specs.declared.tree.operations.Operation.{Operation}
 use Rattle.widl_idl.specs.declared.tree.operations.OperationKind.{OperationKind}
-use Rattle.widl_idl.specs.PlainTypes.{PlainName, PlainAttribute, PlainLiteral, PlainType, PlainAnnotated, name_of, attribute_of, literal_of, type_of, annotated_of}
+use Rattle.widl_idl.specs.PlainTypes.{PlainName, PlainAttribute, PlainLiteral, PlainType, PlainAnnotated, name_of, attribute_of, literal_of, written_default, type_of, annotated_of}
 
 -- whether a call may leave an argument out, with its default value, or repeat it, with the place of its ellipsis
 pub data PlainArgumentKind : Type 0 where
@@ -168,7 +168,7 @@ pub record PlainDefinition : Type 0 where
 
 abbrev pub argument_kind_of : ArgumentKind → PlainArgumentKind
 argument_kind_of argument_kind.Required = RequiredArgument
-argument_kind_of (argument_kind.Optional default) = OptionalArgument (option_map literal_of default)
+argument_kind_of (argument_kind.Optional default) = OptionalArgument (written_default default)
 argument_kind_of (argument_kind.Variadic ellipsis) = VariadicArgument ellipsis
 
 abbrev pub argument_of : Argument → PlainArgument
@@ -202,15 +202,15 @@ abbrev pub setlike_of : Setlike → PlainSetlike
 setlike_of s = record { at = s.at; readonly = s.readonly; value = annotated_of s.value }
 
 abbrev pub member_kind_of : MemberKind → PlainMemberKind
-member_kind_of (member_kind.Constant c) = ConstantMember (constant_of c)
+member_kind_of (member_kind.Constant c) = ConstantMember (constant_of c.value)
 member_kind_of (member_kind.Attribute a) = AttributeMember (attribute_member_of a)
 member_kind_of (member_kind.Operation o) = OperationMember (operation_of o)
 member_kind_of (member_kind.Constructor c) = ConstructorMember (constructor_of c)
 member_kind_of (member_kind.Stringifier s) = StringifierMember s.at
-member_kind_of (member_kind.Iterable i) = IterableMember (iterable_of i)
-member_kind_of (member_kind.AsyncIterable i) = AsyncIterableMember (async_iterable_of i)
-member_kind_of (member_kind.Maplike m) = MaplikeMember (maplike_of m)
-member_kind_of (member_kind.Setlike s) = SetlikeMember (setlike_of s)
+member_kind_of (member_kind.Iterable i) = IterableMember (iterable_of i.value)
+member_kind_of (member_kind.AsyncIterable i) = AsyncIterableMember (async_iterable_of i.value)
+member_kind_of (member_kind.Maplike m) = MaplikeMember (maplike_of m.value)
+member_kind_of (member_kind.Setlike s) = SetlikeMember (setlike_of s.value)
 
 abbrev pub member_of : Member → PlainMember
 member_of m = record { attributes = map attribute_of m.attributes; kind = member_kind_of m.kind }
@@ -219,7 +219,7 @@ abbrev pub members_of : List Member → List PlainMember
 members_of members = map member_of members
 
 abbrev pub dictionary_member_of : DictionaryMember → PlainDictionaryMember
-dictionary_member_of m = record { attributes = map attribute_of m.attributes; needed = m.required; ty = annotated_of m.ty; name = name_of m.name; default = option_map literal_of m.default }
+dictionary_member_of m = record { attributes = map attribute_of m.attributes; needed = m.required; ty = annotated_of m.ty; name = name_of m.name; default = written_default m.default }
 
 abbrev pub enumeration_value_of : EnumerationValue → PlainEnumerationValue
 enumeration_value_of v = record { at = v.at; text = v.text }

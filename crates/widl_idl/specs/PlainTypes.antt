@@ -1,5 +1,6 @@
 -- Names, extended attributes, values and types of a tree as plain terms: what they say, without the places in memory of their parts. Texts are their bytes.
-use Rattle.std.specs.Prelude.{ℕ, Bool, Option, List, map}
+use Rattle.std.specs.Prelude.{ℕ, Bool, Option, List, map, option_map}
+use Rattle.std.specs.Global.{Box}
 use Rattle.widl_text.specs.declared.place.Place.{Place}
 use Rattle.widl_idl.specs.declared.int_kind.IntKind.{IntKind}
 use Rattle.widl_idl.specs.declared.text_kind.TextKind.{TextKind}
@@ -105,6 +106,10 @@ value_of value.EmptyDictionary = EmptyDictionaryValue
 
 abbrev pub literal_of : Literal → PlainLiteral
 literal_of l = record { at = l.at; value = value_of l.value }
+
+-- a default value, if there is one
+abbrev pub written_default : Option (Box Literal) → Option PlainLiteral
+written_default default = option_map (λ l. literal_of l.value) default
 
 abbrev mutual
   pub plain_form : FormTree → PlainForm

@@ -1,8 +1,8 @@
 //! The default values that are written in a set of files, each with its type.
 
-ghost use Rattle.std.specs.Prelude.{◌≡◌, ◌++◌, flat_map, map, option_map, IfOk, OnOk};
+ghost use Rattle.std.specs.Prelude.{◌≡◌, ◌++◌, flat_map, map, IfOk, OnOk};
 ghost use Rattle.widl_idl.specs.PlainTrees.{argument_of, arguments_of, definition_kind_of, dictionary_member_of};
-ghost use Rattle.widl_idl.specs.PlainTypes.{annotated_of, attribute_of, literal_of};
+ghost use Rattle.widl_idl.specs.PlainTypes.{annotated_of, attribute_of, written_default};
 ghost use Rattle.widl_inheritance.specs.WrittenDefaults.{default_of_member, default_of_argument, defaults_in, listed_defaults};
 ghost use Rattle.widl_inheritance.specs.WrittenLists.{listed_arguments};
 ghost use Rattle.widl_names.specs.Listings.{listed_definitions};
@@ -138,9 +138,9 @@ fn add_default<'a>(
     defaults: &mut Vec<Defaulted<'a>>,
     attributes: &'a ExtendedAttributes,
     ty: &'a AnnotatedType,
-    default: &'a Option<Literal>,
+    default: &'a Option<Box<Literal>>,
 ) -> Result<(), AllocError>
-    ensures { OnOk result (listed_defaults defaults.new.items ≡ listed_defaults defaults.old.items ++ defaulted (map attribute_of attributes.now) (annotated_of ty.now) (option_map literal_of default.now)) }
+    ensures { OnOk result (listed_defaults defaults.new.items ≡ listed_defaults defaults.old.items ++ defaulted (map attribute_of attributes.now) (annotated_of ty.now) (written_default default.now)) }
 {
     match default {
         None => Ok(()),

@@ -1,6 +1,7 @@
 -- The members of an interface or a namespace, gathered a member at a time.
 use Rattle.std.proofs.Common.{◌≡◌, ◌⊎◌, inl, inr, ℕ, ◌+◌, ◌<◌, ◌≤◌, ◌^◌, ◌++◌, Bool, true, false, cond, ◌&&◌, bytes_eq, List, [], ◌∷◌, length, take, map, get_or, Option, None, Some, is_some, option_map, arith, refl, sym, ap, subst, ◌∙◌, append_assoc, Bor}
 use Rattle.std.specs.Cmp.Lexicographic.{bytes_decides}
+use Rattle.std.specs.Global.{Box}
 use Rattle.std.specs.Option.{option_or}
 use Rattle.std.proofs.lemmas.List.{append-nil, length-map, map-append}
 use Rattle.std.proofs.lemmas.Option.{slice_get_within}
@@ -368,7 +369,7 @@ none_of None e = refl
 none_of (Some x) e = absurd (cc)
 
 pub unsupported_more : (definitions : List PlainDefinition) (members : List PlainMember) (m : Member) (old : MergedMembers) (number : List ℕ → Bool → Option ℕ)
-    → ((x : AsyncIterable) × (m.kind ≡ member_kind.AsyncIterable x)) ⊎ (((x : Maplike) × (m.kind ≡ member_kind.Maplike x)) ⊎ ((x : Setlike) × (m.kind ≡ member_kind.Setlike x)))
+    → ((x : Box AsyncIterable) × (m.kind ≡ member_kind.AsyncIterable x)) ⊎ (((x : Box Maplike) × (m.kind ≡ member_kind.Maplike x)) ⊎ ((x : Box Setlike) × (m.kind ≡ member_kind.Setlike x)))
     → Gathered definitions members old number → Gathered definitions (members ++ member_of m ∷ []) old number
 unsupported_more definitions members m old number (inl p) g = of_kind definitions members m (member_kind.AsyncIterable p.0) old number p.1 (no_more definitions members (map attribute_of m.attributes) (member_kind_of (member_kind.AsyncIterable p.0)) old number refl g)
 unsupported_more definitions members m old number (inr (inl p)) g = of_kind definitions members m (member_kind.Maplike p.0) old number p.1 (no_more definitions members (map attribute_of m.attributes) (member_kind_of (member_kind.Maplike p.0)) old number refl g)

@@ -3,8 +3,8 @@
 //! What a mixin brings stands in each interface that includes it. There the copies of a long text share its
 //! units, so that a short file with a long name has no long list.
 
-ghost use Rattle.std.specs.Prelude.{◌≡◌, IfOk, option_map};
-ghost use Rattle.widl_idl.specs.PlainTypes.{literal_of, value_of};
+ghost use Rattle.std.specs.Prelude.{◌≡◌, IfOk};
+ghost use Rattle.widl_idl.specs.PlainTypes.{value_of, written_default};
 ghost use Rattle.widl_idl.specs.WrittenLiterals.{default_of, units_of, value_meant};
 ghost use Rattle.widl_merge.specs.LongTexts.{KeepsUnits};
 
@@ -92,9 +92,9 @@ impl<'a> LongTexts<'a> {
     pub fn default_of(
         &mut self,
         alloc: Global,
-        default: &'a Option<tree::Literal>,
+        default: &'a Option<Box<tree::Literal>>,
     ) -> Result<Option<Literal>, AllocError>
-        ensures { IfOk result (λ l. l ≡ default_of (option_map literal_of default.now)) }
+        ensures { IfOk result (λ l. l ≡ default_of (written_default default.now)) }
     {
         match default {
             None => Ok(None),

@@ -3,7 +3,7 @@
 ghost use Rattle.std.specs.Prelude.{◌≡◌, ◌++◌, List, [], ◌∷◌, map, flat_map, option_map, IfOk, OnOk};
 ghost use Rattle.widl_idl.specs.Nodes.{nodes_of, nodes_of_attributes, nodes_of_form, nodes_of_type, nodes_of_annotated, nodes_of_union, nodes_of_default, nodes_of_argument_kind, nodes_of_argument, nodes_of_arguments, nodes_of_optional_arguments, nodes_of_optional_name, nodes_of_optional_type, nodes_of_member_kind, nodes_of_member, nodes_of_callback_member, nodes_of_dictionary_member, nodes_inside, nodes_of_definition};
 ghost use Rattle.widl_idl.specs.Meanings.{declared_name};
-ghost use Rattle.widl_idl.specs.PlainTypes.{name_of, attribute_of, literal_of, form_term, type_of, annotated_of, union_of};
+ghost use Rattle.widl_idl.specs.PlainTypes.{name_of, attribute_of, written_default, form_term, type_of, annotated_of, union_of};
 ghost use Rattle.widl_idl.specs.PlainTrees.{argument_kind_of, argument_of, arguments_of, member_kind_of, member_of, members_of, dictionary_member_of, definition_kind_of, definition_of};
 ghost use Rattle.widl_names.specs.Listings.{Adds, node_of, nodes_listed, listed_definitions};
 
@@ -82,9 +82,9 @@ fn list_union<'a>(nodes: &mut Vec<Node<'a>>, members: &'a [AnnotatedType]) -> Re
 /// Adds a default value, if there is one.
 fn list_default<'a>(
     nodes: &mut Vec<Node<'a>>,
-    default: &'a Option<Literal>,
+    default: &'a Option<Box<Literal>>,
 ) -> Result<(), AllocError>
-    ensures { OnOk result (Adds nodes.old.items nodes.new.items (nodes_of_default (option_map literal_of default.now))) }
+    ensures { OnOk result (Adds nodes.old.items nodes.new.items (nodes_of_default (written_default default.now))) }
 {
     match default {
         None => Ok(()),

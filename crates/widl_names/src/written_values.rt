@@ -1,7 +1,7 @@
 //! What written values mean.
 
-ghost use Rattle.std.specs.Prelude.{◌≡◌, option_map, IfOk};
-ghost use Rattle.widl_idl.specs.PlainTypes.{literal_of, value_of};
+ghost use Rattle.std.specs.Prelude.{◌≡◌, IfOk};
+ghost use Rattle.widl_idl.specs.PlainTypes.{value_of, written_default};
 ghost use Rattle.widl_idl.specs.WrittenLiterals.{default_of, value_meant};
 
 use std::alloc::{AllocError, Global};
@@ -42,9 +42,9 @@ pub fn value_meant(alloc: Global, value: &LiteralValue) -> Result<Literal, Alloc
 /// `AllocError` where there is no memory.
 pub fn default_meant(
     alloc: Global,
-    default: &Option<tree::Literal>,
+    default: &Option<Box<tree::Literal>>,
 ) -> Result<Option<Literal>, AllocError>
-    ensures { IfOk result (λ l. l ≡ default_of (option_map literal_of default.now)) }
+    ensures { IfOk result (λ l. l ≡ default_of (written_default default.now)) }
 {
     match default {
         None => Ok(None),

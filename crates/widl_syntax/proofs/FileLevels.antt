@@ -1,10 +1,11 @@
 -- A tree that spells a file has no type of more than 16 levels: no sign of it is of nothing.
 use Rattle.std.proofs.Common.{◌≡◌, ◌≤◌, ◌<◌, length, get_or, ℕ, zero, suc, Bool, true, false, Option, Some, None, List, [], ◌∷◌, ◌++◌, refl, subst, arith, max}
 use Rattle.std.specs.Prelude.{map, flat_map, option_map, Contains}
+use Rattle.std.specs.Global.{Box}
 use Rattle.widl_idl.specs.Meanings.{declared_name}
 use Rattle.widl_idl.specs.Nodes.{Node, TypeNode, AttributeNode, LiteralNode, NameNode, MemberNode, CallbackMemberNode, nodes_of_attributes, nodes_of_form, nodes_of_type, nodes_of_annotated, nodes_of_union, nodes_of_default, nodes_of_argument_kind, nodes_of_argument, nodes_of_arguments, nodes_of_optional_arguments, nodes_of_optional_name, nodes_of_optional_type, nodes_of_member_kind, nodes_of_member, nodes_of_callback_member, nodes_of_dictionary_member, nodes_inside, nodes_of_definition, nodes_of}
 use Rattle.widl_idl.specs.PlainTrees.{PlainKind, argument_kind_of, argument_of, arguments_of, member_kind_of, member_of, members_of, dictionary_member_of, definition_kind_of, definition_of, plain_definitions}
-use Rattle.widl_idl.specs.PlainTypes.{PlainName, PlainAttribute, PlainForm, PlainType, PlainAnnotated, PlainMembers, PlainContainer, PlainRecord, PlainPromise, PlainUnion, plain_type, plain_annotated, no_plain, more_plain, name_of, attribute_of, literal_of, plain_of, plain_inner, type_of, annotated_of}
+use Rattle.widl_idl.specs.PlainTypes.{PlainName, PlainAttribute, PlainForm, PlainType, PlainAnnotated, PlainMembers, PlainContainer, PlainRecord, PlainPromise, PlainUnion, plain_type, plain_annotated, no_plain, more_plain, name_of, attribute_of, written_default, plain_of, plain_inner, type_of, annotated_of}
 use Rattle.widl_idl.specs.TypeTrees.{AnnotatedTree, TypeTree, annotated_tree, tree_of_type, tree_of_annotated}
 use Rattle.widl_idl.specs.declared.tree.arguments.Argument.{Argument}
 use Rattle.widl_idl.specs.declared.tree.arguments.ArgumentKind.{ArgumentKind}
@@ -115,7 +116,7 @@ second : (ty : Option AnnotatedType) → Told (second_type ty) → Fits (nodes_o
 second None told = nothing
 second (Some ty) told = annotated ty (told_after told)
 
-default_fits : (value : Option Literal) → Fits (nodes_of_default (option_map literal_of value))
+default_fits : (value : Option (Box Literal)) → Fits (nodes_of_default (written_default value))
 default_fits None = nothing
 default_fits (Some value) = record { all = (tt, tt) }
 
@@ -155,7 +156,7 @@ a_name None = nothing
 a_name (Some name) = record { all = (tt, tt) }
 
 a_member_kind : (k : MemberKind) → Told (member_kind k) → Fits (nodes_of_member_kind (member_kind_of k))
-a_member_kind (member_kinds.Constant c) told = record { all = (tt, (tt, (written c.ty (told_first (written_type c.ty) _ (told_after (told_after told)))).all)) }
+a_member_kind (member_kinds.Constant c) told = record { all = (tt, (tt, (written c.value.ty (told_first (written_type c.value.ty) _ (told_after (told_after told)))).all)) }
 a_member_kind (member_kinds.Attribute a) told =
     let rest = told_after (told_rest (word_if a.readonly t.Readonly) _ (told_rest (attribute_word a.kind) _ told)) in
     record { all = (tt, (annotated a.ty (told_first (annotated_type a.ty) _ rest)).all) }
@@ -167,16 +168,16 @@ a_member_kind (member_kinds.Constructor c) told = arguments c.arguments (told_fi
 a_member_kind (member_kinds.Stringifier s) told = nothing
 a_member_kind (member_kinds.Iterable i) told =
     let rest = told_after (told_after (told_after told)) in
-    joined (annotated i.first (told_first (annotated_type i.first) _ rest)) (second i.second (told_first (second_type i.second) _ (told_rest (annotated_type i.first) _ rest)))
+    joined (annotated i.value.first (told_first (annotated_type i.value.first) _ rest)) (second i.value.second (told_first (second_type i.value.second) _ (told_rest (annotated_type i.value.first) _ rest)))
 a_member_kind (member_kinds.AsyncIterable i) told =
-    let rest = told_after (told_rest (async_words i.word) _ (told_after told)) in
-    let further = told_rest (annotated_type i.first) _ rest in
-    joined (annotated i.first (told_first (annotated_type i.first) _ rest)) (joined (second i.second (told_first (second_type i.second) _ further)) (some_arguments i.arguments (told_first (optional_arguments i.arguments) _ (told_after (told_rest (second_type i.second) _ further)))))
+    let rest = told_after (told_rest (async_words i.value.word) _ (told_after told)) in
+    let further = told_rest (annotated_type i.value.first) _ rest in
+    joined (annotated i.value.first (told_first (annotated_type i.value.first) _ rest)) (joined (second i.value.second (told_first (second_type i.value.second) _ further)) (some_arguments i.value.arguments (told_first (optional_arguments i.value.arguments) _ (told_after (told_rest (second_type i.value.second) _ further)))))
 a_member_kind (member_kinds.Maplike m) told =
-    let rest = told_after (told_after (told_after (told_rest (word_if m.readonly t.Readonly) _ told))) in
-    joined (annotated m.key (told_first (annotated_type m.key) _ rest)) (annotated m.value (told_first (annotated_type m.value) _ (told_after (told_rest (annotated_type m.key) _ rest))))
+    let rest = told_after (told_after (told_after (told_rest (word_if m.value.readonly t.Readonly) _ told))) in
+    joined (annotated m.value.key (told_first (annotated_type m.value.key) _ rest)) (annotated m.value.value (told_first (annotated_type m.value.value) _ (told_after (told_rest (annotated_type m.value.key) _ rest))))
 a_member_kind (member_kinds.Setlike s) told =
-    annotated s.value (told_first (annotated_type s.value) _ (told_after (told_after (told_after (told_rest (word_if s.readonly t.Readonly) _ told)))))
+    annotated s.value.value (told_first (annotated_type s.value.value) _ (told_after (told_after (told_after (told_rest (word_if s.value.readonly t.Readonly) _ told)))))
 
 a_member : (m : Member) → Told (member m) → Fits (nodes_of_member (member_of m))
 a_member m told = record { all = (tt, (joined (attributes (map attribute_of m.attributes)) (a_member_kind m.kind (told_rest (extended_attributes m.attributes) _ told))).all) }

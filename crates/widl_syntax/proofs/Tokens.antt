@@ -24,9 +24,9 @@ member_kind_has_token (member_kinds.Operation o) = token_in_rest (operation_word
 member_kind_has_token (member_kinds.Constructor c) = refl
 member_kind_has_token (member_kinds.Stringifier s) = refl
 member_kind_has_token (member_kinds.Iterable i) = refl
-member_kind_has_token (member_kinds.AsyncIterable i) = token_in_rest (async_words i.word) _ refl
-member_kind_has_token (member_kinds.Maplike m) = token_in_rest (word_if m.readonly t.Readonly) _ refl
-member_kind_has_token (member_kinds.Setlike s) = token_in_rest (word_if s.readonly t.Readonly) _ refl
+member_kind_has_token (member_kinds.AsyncIterable i) = token_in_rest (async_words i.value.word) _ refl
+member_kind_has_token (member_kinds.Maplike m) = token_in_rest (word_if m.value.readonly t.Readonly) _ refl
+member_kind_has_token (member_kinds.Setlike s) = token_in_rest (word_if s.value.readonly t.Readonly) _ refl
 
 pub member_has_token : (m : Member) → has_token (member m) ≡ true
 member_has_token m = token_in_rest (extended_attributes m.attributes) _ (member_kind_has_token m.kind)

@@ -105,15 +105,15 @@ abbrev pub setlike_rest : Setlike → List Sign
 setlike_rest s = at s.at ⧺ word t.Setlike ⧺ word t.Less ⧺ annotated_type s.value ⧺ word t.Greater ⧺ word t.Semicolon
 
 abbrev pub member_kind : MemberKind → List Sign
-member_kind (kind.Constant c) = constant c
+member_kind (kind.Constant c) = constant c.value
 member_kind (kind.Attribute a) = attribute a
 member_kind (kind.Operation o) = operation o
 member_kind (kind.Constructor c) = constructor c
 member_kind (kind.Stringifier s) = stringifier s
-member_kind (kind.Iterable i) = iterable i
-member_kind (kind.AsyncIterable i) = async_iterable i
-member_kind (kind.Maplike m) = word_if m.readonly t.Readonly ⧺ maplike_rest m
-member_kind (kind.Setlike s) = word_if s.readonly t.Readonly ⧺ setlike_rest s
+member_kind (kind.Iterable i) = iterable i.value
+member_kind (kind.AsyncIterable i) = async_iterable i.value
+member_kind (kind.Maplike m) = word_if m.value.readonly t.Readonly ⧺ maplike_rest m.value
+member_kind (kind.Setlike s) = word_if s.value.readonly t.Readonly ⧺ setlike_rest s.value
 
 abbrev pub member : Member → List Sign
 member m = extended_attributes m.attributes ⧺ member_kind m.kind

@@ -1,6 +1,7 @@
 -- The signs of names, extended attributes and literals.
 use Rattle.std.specs.List.{list_any}
 use Rattle.std.specs.Prelude.{nat_eq, not, ℕ, Bool, true, false, Option, None, Some, List, [], ◌∷◌, ◌++◌, if◌then◌else◌, map}
+use Rattle.std.specs.Global.{Box}
 use Rattle.widl_idl.specs.declared.tree.extended_attributes.ExtendedAttribute.{ExtendedAttribute}
 use Rattle.widl_idl.specs.declared.tree.extended_attributes.SourceToken.{SourceToken}
 use Rattle.widl_idl.specs.declared.tree.literals.Literal.{Literal}
@@ -93,6 +94,6 @@ literal_value value.EmptyDictionary = word OpenBrace ⧺ word CloseBrace
 abbrev pub literal : Literal → List Sign
 literal l = at l.at ⧺ literal_value l.value
 
-abbrev pub default_value : Option Literal → List Sign
+abbrev pub default_value : Option (Box Literal) → List Sign
 default_value None = []
-default_value (Some l) = word Equals ⧺ literal l
+default_value (Some l) = word Equals ⧺ literal l.value

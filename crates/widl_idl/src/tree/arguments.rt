@@ -21,8 +21,8 @@ pub struct Argument {
 pub enum ArgumentKind {
     /// A call has it.
     Required,
-    /// `optional`: a call may leave it out. It may have a default value.
-    Optional(Option<Literal>),
+    /// `optional`: a call may leave it out. It may have a default value, in a box since most have none.
+    Optional(Option<Box<Literal>>),
     /// A call may have it any number of times. The place is that of its ellipsis.
     Variadic(Place),
 }

@@ -27,8 +27,8 @@ pub struct DictionaryMember {
     pub ty: AnnotatedType,
     /// Its name.
     pub name: Name,
-    /// Its default value. A required member has none.
-    pub default: Option<Literal>,
+    /// Its default value, in a box since most members have none. A required one never has.
+    pub default: Option<Box<Literal>>,
 }
 
 /// Members in the order of the source.

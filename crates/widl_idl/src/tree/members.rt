@@ -16,11 +16,11 @@ pub struct Member {
     pub kind: MemberKind,
 }
 
-/// What a member is.
+/// What a member is. Rare kinds stand in boxes, so that the others take less room.
 #[derive(Drop)]
 pub enum MemberKind {
     /// A constant.
-    Constant(Constant),
+    Constant(Box<Constant>),
     /// An attribute, also one that is a stringifier.
     Attribute(Attribute),
     /// An operation.
@@ -30,13 +30,13 @@ pub enum MemberKind {
     /// A stringifier without an attribute.
     Stringifier(Stringifier),
     /// An iterable declaration.
-    Iterable(Iterable),
+    Iterable(Box<Iterable>),
     /// An asynchronously iterable declaration.
-    AsyncIterable(AsyncIterable),
+    AsyncIterable(Box<AsyncIterable>),
     /// A maplike declaration.
-    Maplike(Maplike),
+    Maplike(Box<Maplike>),
     /// A setlike declaration.
-    Setlike(Setlike),
+    Setlike(Box<Setlike>),
 }
 
 /// Members in the order of the source.

@@ -1,6 +1,7 @@
 -- Trees that are the same have equal terms.
 use Rattle.std.proofs.Common.{◌≡◌, List, [], ◌∷◌, map, refl, sym, ap, ◌∙◌}
 use Rattle.std.specs.Prelude.{Option, Some, None, option_map}
+use Rattle.std.specs.Global.{Box}
 use Rattle.widl_idl.specs.declared.tree.arguments.Argument.{Argument}
 use Rattle.widl_idl.specs.declared.tree.arguments.ArgumentKind.{ArgumentKind}
 use Rattle.widl_idl.specs.declared.tree.arguments.ArgumentKind.TheVariants as argument_kind
@@ -29,11 +30,11 @@ use Rattle.widl_idl.specs.declared.tree.operations.Operation.{Operation}
 use Rattle.widl_idl.specs.declared.tree.types.AnnotatedType.{AnnotatedType}
 use Rattle.widl_idl.specs.declared.tree.types.WrittenType.{WrittenType}
 use Rattle.widl_idl.specs.TypeTrees.{FormTree, TypeTree, AnnotatedTree, MemberTrees, AnyForm, UndefinedForm, BooleanForm, ObjectForm, SymbolForm, BigIntForm, IntegerForm, FloatForm, TextForm, BufferForm, NamedForm, ContainerForm, RecordForm, PromiseForm, UnionForm, type_tree, annotated_tree, no_members, more_members, tree_of_type, tree_of_annotated}
-use Rattle.widl_idl.specs.PlainTypes.{PlainToken, name_of, token_of, attribute_of, value_of, literal_of, plain_form, plain_of, plain_inner, plain_union, type_of, annotated_of, PlainInteger, PlainFloat, PlainText, PlainBuffer, PlainNamed, PlainContainer, PlainRecord, PlainPromise, PlainUnion, BooleanValue, IntegerValue, DecimalValue, TextValue, more_plain}
+use Rattle.widl_idl.specs.PlainTypes.{PlainToken, name_of, token_of, attribute_of, value_of, literal_of, written_default, plain_form, plain_of, plain_inner, plain_union, type_of, annotated_of, PlainInteger, PlainFloat, PlainText, PlainBuffer, PlainNamed, PlainContainer, PlainRecord, PlainPromise, PlainUnion, BooleanValue, IntegerValue, DecimalValue, TextValue, more_plain}
 use Rattle.widl_idl.specs.PlainTrees.{argument_kind_of, argument_of, arguments_of, constant_of, attribute_member_of, operation_of, constructor_of, iterable_of, async_iterable_of, maplike_of, setlike_of, member_kind_of, member_of, members_of, dictionary_member_of, enumeration_value_of, definition_kind_of, definition_of, plain_definitions, OptionalArgument, VariadicArgument, ConstantMember, AttributeMember, OperationMember, ConstructorMember, StringifierMember, IterableMember, AsyncIterableMember, MaplikeMember, SetlikeMember}
 use Rattle.widl_syntax.specs.Signs.{Text}
 use Rattle.widl_syntax.specs.UnparsedNames.{text_of}
-use Rattle.widl_syntax.proofs.Unique.Same.{SameOption, SameItems, SameName, SameExtendedAttribute, SameExtendedAttributes, SameValue, SameLiteral, SameForm, SameTypeTree, SameAnnotatedTree, SameMembersTree, SameType, SameAnnotatedType, SameArgumentKind, SameArgument, SameArguments, SameConstant, SameAttribute, SameOperation, SameConstructor, SameIterable, SameAsyncIterable, SameMaplike, SameSetlike, SameMemberKind, SameMember, SameMembers, SameDictionaryMember, SameEnumerationValue, SameDefinitionKind, SameDefinition, SameDefinitions}
+use Rattle.widl_syntax.proofs.Unique.Same.{SameOption, SameItems, SameName, SameExtendedAttribute, SameExtendedAttributes, SameValue, SameLiteral, SameBoxed, SameForm, SameTypeTree, SameAnnotatedTree, SameMembersTree, SameType, SameAnnotatedType, SameArgumentKind, SameArgument, SameArguments, SameConstant, SameAttribute, SameOperation, SameConstructor, SameIterable, SameAsyncIterable, SameMaplike, SameSetlike, SameMemberKind, SameMember, SameMembers, SameDictionaryMember, SameEnumerationValue, SameDefinitionKind, SameDefinition, SameDefinitions}
 
 module _ {X Y : Type 0} (term : X → Y) (Same : X → X → Type 0) (one : (x y : X) → Same x y → term x ≡ term y) where
   equal_option : (a b : Option X) → SameOption Same a b → option_map term a ≡ option_map term b
@@ -121,9 +122,12 @@ equal_written a b h = equal_type (tree_of_type a) (tree_of_type b) h
 equal_annotated : (a b : AnnotatedType) → SameAnnotatedType a b → annotated_of a ≡ annotated_of b
 equal_annotated a b h = equal_inner (tree_of_annotated a) (tree_of_annotated b) h
 
+equal_default : (a b : Option (Box Literal)) → SameOption SameBoxed a b → written_default a ≡ written_default b
+equal_default = equal_option (λ l. literal_of l.value) SameBoxed (λ a b h. equal_literal a.value b.value h)
+
 equal_argument_kind : (a b : ArgumentKind) → SameArgumentKind a b → argument_kind_of a ≡ argument_kind_of b
 equal_argument_kind argument_kind.Required argument_kind.Required h = refl
-equal_argument_kind (argument_kind.Optional a) (argument_kind.Optional b) h = ap OptionalArgument (equal_option literal_of SameLiteral equal_literal a b h)
+equal_argument_kind (argument_kind.Optional a) (argument_kind.Optional b) h = ap OptionalArgument (equal_default a b h)
 equal_argument_kind (argument_kind.Variadic a) (argument_kind.Variadic b) h = ap VariadicArgument h
 equal_argument_kind a b h = absurd h
 
@@ -165,15 +169,15 @@ equal_setlike : (a b : Setlike) → SameSetlike a b → setlike_of a ≡ setlike
 equal_setlike a b h = let at = h.at in let readonly = h.readonly in let v = equal_annotated a.value b.value h.value in (cc)
 
 equal_member_kind : (a b : MemberKind) → SameMemberKind a b → member_kind_of a ≡ member_kind_of b
-equal_member_kind (member_kind.Constant a) (member_kind.Constant b) h = ap ConstantMember (equal_constant a b h)
+equal_member_kind (member_kind.Constant a) (member_kind.Constant b) h = ap ConstantMember (equal_constant a.value b.value h)
 equal_member_kind (member_kind.Attribute a) (member_kind.Attribute b) h = ap AttributeMember (equal_attribute_member a b h)
 equal_member_kind (member_kind.Operation a) (member_kind.Operation b) h = ap OperationMember (equal_operation a b h)
 equal_member_kind (member_kind.Constructor a) (member_kind.Constructor b) h = ap ConstructorMember (equal_constructor a b h)
 equal_member_kind (member_kind.Stringifier a) (member_kind.Stringifier b) h = ap StringifierMember h
-equal_member_kind (member_kind.Iterable a) (member_kind.Iterable b) h = ap IterableMember (equal_iterable a b h)
-equal_member_kind (member_kind.AsyncIterable a) (member_kind.AsyncIterable b) h = ap AsyncIterableMember (equal_async_iterable a b h)
-equal_member_kind (member_kind.Maplike a) (member_kind.Maplike b) h = ap MaplikeMember (equal_maplike a b h)
-equal_member_kind (member_kind.Setlike a) (member_kind.Setlike b) h = ap SetlikeMember (equal_setlike a b h)
+equal_member_kind (member_kind.Iterable a) (member_kind.Iterable b) h = ap IterableMember (equal_iterable a.value b.value h)
+equal_member_kind (member_kind.AsyncIterable a) (member_kind.AsyncIterable b) h = ap AsyncIterableMember (equal_async_iterable a.value b.value h)
+equal_member_kind (member_kind.Maplike a) (member_kind.Maplike b) h = ap MaplikeMember (equal_maplike a.value b.value h)
+equal_member_kind (member_kind.Setlike a) (member_kind.Setlike b) h = ap SetlikeMember (equal_setlike a.value b.value h)
 equal_member_kind a b h = absurd h
 
 equal_member : (a b : Member) → SameMember a b → member_of a ≡ member_of b
@@ -185,7 +189,7 @@ equal_members = equal_items member_of SameMember equal_member
 equal_dictionary_member : (a b : DictionaryMember) → SameDictionaryMember a b → dictionary_member_of a ≡ dictionary_member_of b
 equal_dictionary_member a b h =
     let attributes = equal_attributes a.attributes b.attributes h.attributes in let required = h.required in let ty = equal_annotated a.ty b.ty h.ty in
-    let name = equal_name a.name b.name h.name in let default = equal_option literal_of SameLiteral equal_literal a.default b.default h.default in (cc)
+    let name = equal_name a.name b.name h.name in let default = equal_default a.default b.default h.default in (cc)
 
 equal_enumeration_value : (a b : EnumerationValue) → SameEnumerationValue a b → enumeration_value_of a ≡ enumeration_value_of b
 equal_enumeration_value a b h = let at = h.at in let text = h.text in (cc)

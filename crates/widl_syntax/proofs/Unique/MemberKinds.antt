@@ -128,26 +128,26 @@ setlike_ahead true x w m e s = by_two number_by t.Readonly x w m (ap is_other e)
 setlike_ahead false x w m e s = by_first number_by x w m (ap is_other e) s ∙ ap (λ word. number_by word (terminal_ahead (drop 1 w))) e
 
 kind_ahead : (k : MemberKind) (w m : List Lexeme) → UnparsesTo (member_kind k) w m → number_at number_by w ≡ number_of k
-kind_ahead (kind.Constant c) w m s = by_first number_by (constant c) w m refl s
+kind_ahead (kind.Constant c) w m s = by_first number_by (constant c.value) w m refl s
 kind_ahead (kind.Attribute a) w m s = attribute_ahead a.kind a.readonly _ w m s
 kind_ahead (kind.Operation o) w m s = operation_ahead o.kind (tree_of_type o.result) _ w m s
 kind_ahead (kind.Constructor c) w m s = by_first number_by (constructor c) w m refl s
 kind_ahead (kind.Stringifier c) w m s = by_two number_by t.Stringifier (word t.Semicolon) w m refl (without_place (word t.Stringifier ⧺ word t.Semicolon) m s)
-kind_ahead (kind.Iterable i) w m s = by_first number_by (iterable i) w m refl s
-kind_ahead (kind.AsyncIterable i) w m s = async_ahead i.word _ w m (without_place _ m s)
-kind_ahead (kind.Maplike a) w m s = maplike_ahead a.readonly (maplike_rest a) w m refl s
-kind_ahead (kind.Setlike a) w m s = setlike_ahead a.readonly (setlike_rest a) w m refl s
+kind_ahead (kind.Iterable i) w m s = by_first number_by (iterable i.value) w m refl s
+kind_ahead (kind.AsyncIterable i) w m s = async_ahead i.value.word _ w m (without_place _ m s)
+kind_ahead (kind.Maplike a) w m s = maplike_ahead a.value.readonly (maplike_rest a.value) w m refl s
+kind_ahead (kind.Setlike a) w m s = setlike_ahead a.value.readonly (setlike_rest a.value) w m refl s
 
 of_one_kind : (a b : MemberKind) → number_of a ≡ number_of b → Tells (SameMemberKind a b) Anywhere (member_kind a) (member_kind b)
-of_one_kind (kind.Constant a) (kind.Constant b) e = constant_tells a b
+of_one_kind (kind.Constant a) (kind.Constant b) e = constant_tells a.value b.value
 of_one_kind (kind.Attribute a) (kind.Attribute b) e = attribute_tells a b
 of_one_kind (kind.Operation a) (kind.Operation b) e = operation_tells a b
 of_one_kind (kind.Constructor a) (kind.Constructor b) e = constructor_tells a b
 of_one_kind (kind.Stringifier a) (kind.Stringifier b) e = stringifier_tells a b
-of_one_kind (kind.Iterable a) (kind.Iterable b) e = iterable_tells a b
-of_one_kind (kind.AsyncIterable a) (kind.AsyncIterable b) e = async_iterable_tells a b
-of_one_kind (kind.Maplike a) (kind.Maplike b) e = maplike_tells a b
-of_one_kind (kind.Setlike a) (kind.Setlike b) e = setlike_tells a b
+of_one_kind (kind.Iterable a) (kind.Iterable b) e = iterable_tells a.value b.value
+of_one_kind (kind.AsyncIterable a) (kind.AsyncIterable b) e = async_iterable_tells a.value b.value
+of_one_kind (kind.Maplike a) (kind.Maplike b) e = maplike_tells a.value b.value
+of_one_kind (kind.Setlike a) (kind.Setlike b) e = setlike_tells a.value b.value
 of_one_kind a b e = other_number (number_of a) (number_of b) e refl
 
 member_kind_tells : (a b : MemberKind) → Tells (SameMemberKind a b) Anywhere (member_kind a) (member_kind b)
@@ -175,15 +175,15 @@ async_inside TwoWords x = begins_else (async_words TwoWords ⧺ x) around_member
 async_inside OneWord x = begins_else (async_words OneWord ⧺ x) around_members refl
 
 kind_inside : (k : MemberKind) → Inside (member_kind k)
-kind_inside (kind.Constant c) = begins_else (constant c) around_members refl
+kind_inside (kind.Constant c) = begins_else (constant c.value) around_members refl
 kind_inside (kind.Attribute a) = attribute_inside a.kind a.readonly _
 kind_inside (kind.Operation o) = operation_inside o.kind (tree_of_type o.result) _
 kind_inside (kind.Constructor c) = begins_else (constructor c) around_members refl
 kind_inside (kind.Stringifier s) = begins_else (stringifier s) around_members refl
-kind_inside (kind.Iterable i) = begins_else (iterable i) around_members refl
-kind_inside (kind.AsyncIterable i) = place_keeps (async_inside i.word _)
-kind_inside (kind.Maplike a) = word_if_keeps t.Readonly a.readonly (maplike_rest a) around_members refl (begins_else (maplike_rest a) around_members refl)
-kind_inside (kind.Setlike a) = word_if_keeps t.Readonly a.readonly (setlike_rest a) around_members refl (begins_else (setlike_rest a) around_members refl)
+kind_inside (kind.Iterable i) = begins_else (iterable i.value) around_members refl
+kind_inside (kind.AsyncIterable i) = place_keeps (async_inside i.value.word _)
+kind_inside (kind.Maplike a) = word_if_keeps t.Readonly a.value.readonly (maplike_rest a.value) around_members refl (begins_else (maplike_rest a.value) around_members refl)
+kind_inside (kind.Setlike a) = word_if_keeps t.Readonly a.value.readonly (setlike_rest a.value) around_members refl (begins_else (setlike_rest a.value) around_members refl)
 
 member_tells : (a b : Member) → Tells (SameMember a b) Anywhere (member a) (member b)
 member_tells a b =

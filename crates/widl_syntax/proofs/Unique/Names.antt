@@ -1,5 +1,6 @@
 -- Names, extended attributes and literals have one spelling each.
 use Rattle.std.proofs.Common.{sym, ◌∙◌, ap, if◌then◌else◌, ◌≡◌, ℕ, Bool, true, false, Option, Some, List, [], ◌∷◌, ◌++◌, refl}
+use Rattle.std.specs.Global.{Box}
 use Rattle.std.specs.Prelude.{map, not}
 use Rattle.widl_lex.specs.Tokens.{Lexeme}
 use Rattle.widl_grammar.specs.declared.terminal.Terminal.{Terminal}
@@ -13,7 +14,7 @@ use Rattle.widl_grammar.specs.declared.rule.Rule.TheVariants.{ExtendedAttributeR
 use Rattle.widl_grammar.specs.declared.terminal.Terminal.TheVariants as t
 use Rattle.widl_syntax.specs.Signs.{Sign, Nowhere, after}
 use Rattle.widl_syntax.specs.UnparsedNames.{name_bytes, is_escape_apart, escape_apart, identifier, is_word_of, any_name, optional_name, text_of, extended_attribute, extended_attributes, quoted_bytes, literal_value, literal, default_value}
-use Rattle.widl_syntax.proofs.Unique.Same.{SameName, SameOption, SameExtendedAttribute, SameExtendedAttributes, SameValue, SameLiteral}
+use Rattle.widl_syntax.proofs.Unique.Same.{SameName, SameOption, SameExtendedAttribute, SameExtendedAttributes, SameValue, SameLiteral, SameBoxed}
 use Rattle.widl_grammar.specs.Tables.{sets}
 use Rattle.widl_syntax.specs.Reading.{terminal_ahead}
 use Rattle.widl_syntax.proofs.Derived.{Follows}
@@ -123,5 +124,5 @@ pub literal_tells : (a b : Literal) → Tells (SameLiteral a b) Anywhere (litera
 literal_tells a b = told (place_then a.at b.at (value_tells a.value b.value)) (λ p. record { at = p.0; value = p.1 })
 
 -- a default value, where no `=` follows
-pub default_value_tells : (a b : Option Literal) → Tells (SameOption SameLiteral a b) (NoneAhead (t.Equals ∷ [])) (default_value a) (default_value b)
-default_value_tells a b = option_tells default_value refl (λ x. not_without t.Equals (default_value (Some x)) refl refl) (λ x y. under (word_then t.Equals (literal_tells x y))) a b
+pub default_value_tells : (a b : Option (Box Literal)) → Tells (SameOption SameBoxed a b) (NoneAhead (t.Equals ∷ [])) (default_value a) (default_value b)
+default_value_tells a b = option_tells default_value refl (λ x. not_without t.Equals (default_value (Some x)) refl refl) (λ x y. under (word_then t.Equals (literal_tells x.value y.value))) a b

@@ -1,5 +1,6 @@
 -- When two trees of files are the same: alike in each of their parts, with equal places and equal texts.
 use Rattle.std.specs.Prelude.{◌≡◌, Option, None, Some, List, [], ◌∷◌, map}
+use Rattle.std.specs.Global.{Box}
 use Rattle.widl_idl.specs.declared.tree.arguments.Argument.{Argument}
 use Rattle.widl_idl.specs.declared.tree.arguments.ArgumentKind.{ArgumentKind}
 use Rattle.widl_idl.specs.declared.tree.arguments.ArgumentKind.TheVariants as argument_kind
@@ -80,6 +81,10 @@ pub record SameLiteral (a b : Literal) : Type 0 where
   pub at : a.at ≡ b.at
   pub value : SameValue a.value b.value
 
+-- literals in boxes
+abbrev pub SameBoxed : Box Literal → Box Literal → Type 0
+SameBoxed a b = SameLiteral a.value b.value
+
 -- the terms of types
 abbrev mutual
   pub SameForm : FormTree → FormTree → Type 0
@@ -119,7 +124,7 @@ SameAnnotatedType a b = SameAnnotatedTree (tree_of_annotated a) (tree_of_annotat
 
 abbrev pub SameArgumentKind : ArgumentKind → ArgumentKind → Type 0
 SameArgumentKind argument_kind.Required argument_kind.Required = Unit {0}
-SameArgumentKind (argument_kind.Optional a) (argument_kind.Optional b) = SameOption SameLiteral a b
+SameArgumentKind (argument_kind.Optional a) (argument_kind.Optional b) = SameOption SameBoxed a b
 SameArgumentKind (argument_kind.Variadic a) (argument_kind.Variadic b) = a ≡ b
 SameArgumentKind a b = ⊥
 
@@ -179,15 +184,15 @@ pub record SameSetlike (a b : Setlike) : Type 0 where
   pub value : SameAnnotatedType a.value b.value
 
 abbrev pub SameMemberKind : MemberKind → MemberKind → Type 0
-SameMemberKind (member_kind.Constant a) (member_kind.Constant b) = SameConstant a b
+SameMemberKind (member_kind.Constant a) (member_kind.Constant b) = SameConstant a.value b.value
 SameMemberKind (member_kind.Attribute a) (member_kind.Attribute b) = SameAttribute a b
 SameMemberKind (member_kind.Operation a) (member_kind.Operation b) = SameOperation a b
 SameMemberKind (member_kind.Constructor a) (member_kind.Constructor b) = SameConstructor a b
 SameMemberKind (member_kind.Stringifier a) (member_kind.Stringifier b) = a.at ≡ b.at
-SameMemberKind (member_kind.Iterable a) (member_kind.Iterable b) = SameIterable a b
-SameMemberKind (member_kind.AsyncIterable a) (member_kind.AsyncIterable b) = SameAsyncIterable a b
-SameMemberKind (member_kind.Maplike a) (member_kind.Maplike b) = SameMaplike a b
-SameMemberKind (member_kind.Setlike a) (member_kind.Setlike b) = SameSetlike a b
+SameMemberKind (member_kind.Iterable a) (member_kind.Iterable b) = SameIterable a.value b.value
+SameMemberKind (member_kind.AsyncIterable a) (member_kind.AsyncIterable b) = SameAsyncIterable a.value b.value
+SameMemberKind (member_kind.Maplike a) (member_kind.Maplike b) = SameMaplike a.value b.value
+SameMemberKind (member_kind.Setlike a) (member_kind.Setlike b) = SameSetlike a.value b.value
 SameMemberKind a b = ⊥
 
 pub record SameMember (a b : Member) : Type 0 where
@@ -227,7 +232,7 @@ pub record SameDictionaryMember (a b : DictionaryMember) : Type 0 where
   pub required : a.required ≡ b.required
   pub ty : SameAnnotatedType a.ty b.ty
   pub name : SameName a.name b.name
-  pub default : SameOption SameLiteral a.default b.default
+  pub default : SameOption SameBoxed a.default b.default
 
 pub record SameDictionary (a b : Dictionary) : Type 0 where
   pub partial : a.partial ≡ b.partial

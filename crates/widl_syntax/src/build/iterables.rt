@@ -35,8 +35,8 @@ impl<'t, 's> Reader<'t, 's> {
     }
 
     /// An iterable declaration.
-    pub fn iterable(&mut self) -> Result<Iterable, AllocError>
-        ensures { IfOk result (λ read. Reads (part rule.Iterable) (iterable read) self.old self.new) }
+    pub fn iterable(&mut self) -> Result<Box<Iterable>, AllocError>
+        ensures { IfOk result (λ read. Reads (part rule.Iterable) (iterable read.value) self.old self.new) }
     {
         let at = self.take();
         let _less = self.take();
@@ -44,7 +44,8 @@ impl<'t, 's> Reader<'t, 's> {
         let second = self.second_type()?;
         let _greater = self.take();
         let _semicolon = self.take();
-        Ok(Iterable { at, first, second })
+        let iterable = Iterable { at, first, second };
+        Ok(Box::new(self.alloc(), iterable)?)
     }
 
     /// The word or the two words that such a declaration begins with.
@@ -65,8 +66,8 @@ impl<'t, 's> Reader<'t, 's> {
     }
 
     /// An asynchronously iterable declaration.
-    pub fn async_iterable(&mut self) -> Result<AsyncIterable, AllocError>
-        ensures { IfOk result (λ read. Reads (part rule.AsyncIterable) (async_iterable read) self.old self.new) }
+    pub fn async_iterable(&mut self) -> Result<Box<AsyncIterable>, AllocError>
+        ensures { IfOk result (λ read. Reads (part rule.AsyncIterable) (async_iterable read.value) self.old self.new) }
     {
         let at = self.at();
         let word = self.async_word();
@@ -76,19 +77,20 @@ impl<'t, 's> Reader<'t, 's> {
         let _greater = self.take();
         let arguments = self.arguments_if()?;
         let _semicolon = self.take();
-        Ok(AsyncIterable {
+        let iterable = AsyncIterable {
             at,
             word,
             first,
             second,
             arguments,
-        })
+        };
+        Ok(Box::new(self.alloc(), iterable)?)
     }
 
     /// A maplike declaration from its word on.
-    pub fn maplike(&mut self, readonly: bool) -> Result<Maplike, AllocError>
-        ensures readonly { IfOk result (λ read. read.readonly ≡ readonly) }
-        ensures reads { IfOk result (λ read. Reads (part rule.Maplike) (maplike_rest read) self.old self.new) }
+    pub fn maplike(&mut self, readonly: bool) -> Result<Box<Maplike>, AllocError>
+        ensures readonly { IfOk result (λ read. read.value.readonly ≡ readonly) }
+        ensures reads { IfOk result (λ read. Reads (part rule.Maplike) (maplike_rest read.value) self.old self.new) }
     {
         let at = self.take();
         let _less = self.take();
@@ -97,28 +99,30 @@ impl<'t, 's> Reader<'t, 's> {
         let value = self.annotated_type()?;
         let _greater = self.take();
         let _semicolon = self.take();
-        Ok(Maplike {
+        let maplike = Maplike {
             at,
             readonly,
             key,
             value,
-        })
+        };
+        Ok(Box::new(self.alloc(), maplike)?)
     }
 
     /// A setlike declaration from its word on.
-    pub fn setlike(&mut self, readonly: bool) -> Result<Setlike, AllocError>
-        ensures readonly { IfOk result (λ read. read.readonly ≡ readonly) }
-        ensures reads { IfOk result (λ read. Reads (part rule.Setlike) (setlike_rest read) self.old self.new) }
+    pub fn setlike(&mut self, readonly: bool) -> Result<Box<Setlike>, AllocError>
+        ensures readonly { IfOk result (λ read. read.value.readonly ≡ readonly) }
+        ensures reads { IfOk result (λ read. Reads (part rule.Setlike) (setlike_rest read.value) self.old self.new) }
     {
         let at = self.take();
         let _less = self.take();
         let value = self.annotated_type()?;
         let _greater = self.take();
         let _semicolon = self.take();
-        Ok(Setlike {
+        let setlike = Setlike {
             at,
             readonly,
             value,
-        })
+        };
+        Ok(Box::new(self.alloc(), setlike)?)
     }
 }

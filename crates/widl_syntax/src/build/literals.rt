@@ -81,12 +81,13 @@ impl<'t, 's> Reader<'t, 's> {
     }
 
     /// A default value, if there is one.
-    pub fn default_value(&mut self) -> Result<Option<Literal>, AllocError>
+    pub fn default_value(&mut self) -> Result<Option<Box<Literal>>, AllocError>
         ensures { IfOk result (λ value. Reads (part rule.Default) (default_value value) self.old self.new) }
     {
         if self.take_if(Terminal::Equals).is_none() {
             return Ok(None);
         }
-        Ok(Some(self.literal()?))
+        let value = self.literal()?;
+        Ok(Some(Box::new(self.alloc(), value)?))
     }
 }

@@ -134,8 +134,8 @@ impl<'t, 's> Reader<'t, 's> {
     }
 
     /// A constant.
-    fn constant(&mut self) -> Result<Constant, AllocError>
-        ensures { IfOk result (λ read. Reads (part rule.Const) (constant read) self.old self.new) }
+    fn constant(&mut self) -> Result<Box<Constant>, AllocError>
+        ensures { IfOk result (λ read. Reads (part rule.Const) (constant read.value) self.old self.new) }
     {
         let at = self.take();
         let ty = self.constant_type()?;
@@ -143,12 +143,13 @@ impl<'t, 's> Reader<'t, 's> {
         let _equals = self.take();
         let value = self.constant_value()?;
         let _semicolon = self.take();
-        Ok(Constant {
+        let constant = Constant {
             at,
             ty,
             name,
             value,
-        })
+        };
+        Ok(Box::new(self.alloc(), constant)?)
     }
 
     /// A constructor.

@@ -1,4 +1,4 @@
-use Rattle.std.proofs.Common.{List, map}
+use Rattle.std.proofs.Common.{List, map, subst}
 use Rattle.std.proofs.lemmas.Result.{IfOk-weaker}
 use Rattle.widl_idl.specs.declared.interface.Stringify.TheVariants as stringify
 use Rattle.widl_idl.specs.declared.tree.members.MemberKind.TheVariants as kind
@@ -11,8 +11,8 @@ use Rattle.widl_merge.proofs.merged_members.MergedMembers.add.Goals as goal
 pub returns-in-Constant : goal.returns-in-Constant
 returns-in-Constant c =
     let number = number_named c.args.numbers.now.regular c.args.numbers.now.fixed in
-    IfOk-weaker c.add_constant.result (λ x. (attributes : List PlainAttribute) → Grows (plain_definitions c.args.resolver.now) attributes (ConstantMember (constant_of c.in-Constant.constant)) c.args.self.now c.add_constant.new.self) (λ x. GrowsByMember (plain_definitions c.args.resolver.now) (member_of c.args.member.now) c.args.self.now number c.add_constant.new.self number)
-    (λ x grows members g. of_kind (plain_definitions c.args.resolver.now) members c.args.member.now (kind.Constant c.in-Constant.constant) c.add_constant.new.self number c.in-Constant.is (grows (map attribute_of c.args.member.now.attributes) members number g))
+    IfOk-weaker c.add_constant.result (λ x. (attributes : List PlainAttribute) → Grows (plain_definitions c.args.resolver.now) attributes (ConstantMember (constant_of c.deref.result.now)) c.args.self.now c.add_constant.new.self) (λ x. GrowsByMember (plain_definitions c.args.resolver.now) (member_of c.args.member.now) c.args.self.now number c.add_constant.new.self number)
+    (λ x grows members g. of_kind (plain_definitions c.args.resolver.now) members c.args.member.now (kind.Constant c.in-Constant.constant) c.add_constant.new.self number c.in-Constant.is (subst (λ m. Grows (plain_definitions c.args.resolver.now) (map attribute_of c.args.member.now.attributes) (ConstantMember (constant_of m)) c.args.self.now c.add_constant.new.self) c.deref.ensures (grows (map attribute_of c.args.member.now.attributes)) members number g))
     c.add_constant.ensures
 
 pub returns-in-Constructor : goal.returns-in-Constructor
@@ -25,8 +25,8 @@ returns-in-Constructor c =
 pub returns-in-Iterable : goal.returns-in-Iterable
 returns-in-Iterable c =
     let number = number_named c.args.numbers.now.regular c.args.numbers.now.fixed in
-    IfOk-weaker c.add_iterable.result (λ x. (attributes : List PlainAttribute) → Grows (plain_definitions c.args.resolver.now) attributes (IterableMember (iterable_of c.in-Iterable.iterable)) c.args.self.now c.add_iterable.new.self) (λ x. GrowsByMember (plain_definitions c.args.resolver.now) (member_of c.args.member.now) c.args.self.now number c.add_iterable.new.self number)
-    (λ x grows members g. of_kind (plain_definitions c.args.resolver.now) members c.args.member.now (kind.Iterable c.in-Iterable.iterable) c.add_iterable.new.self number c.in-Iterable.is (grows (map attribute_of c.args.member.now.attributes) members number g))
+    IfOk-weaker c.add_iterable.result (λ x. (attributes : List PlainAttribute) → Grows (plain_definitions c.args.resolver.now) attributes (IterableMember (iterable_of c.deref-in-Iterable.result.now)) c.args.self.now c.add_iterable.new.self) (λ x. GrowsByMember (plain_definitions c.args.resolver.now) (member_of c.args.member.now) c.args.self.now number c.add_iterable.new.self number)
+    (λ x grows members g. of_kind (plain_definitions c.args.resolver.now) members c.args.member.now (kind.Iterable c.in-Iterable.iterable) c.add_iterable.new.self number c.in-Iterable.is (subst (λ m. Grows (plain_definitions c.args.resolver.now) (map attribute_of c.args.member.now.attributes) (IterableMember (iterable_of m)) c.args.self.now c.add_iterable.new.self) c.deref-in-Iterable.ensures (grows (map attribute_of c.args.member.now.attributes)) members number g))
     c.add_iterable.ensures
 
 pub returns-in-Stringifier : goal.returns-in-Stringifier

@@ -1,14 +1,16 @@
-use Rattle.std.proofs.Common.{refl}
+use Rattle.std.proofs.Common.{refl, ap}
 use Rattle.widl_grammar.specs.declared.rule.Rule.TheVariants as rule
 use Rattle.widl_grammar.specs.declared.terminal.Terminal.TheVariants as terminal
+use Rattle.widl_syntax.specs.UnparsedMembers.{iterable}
 use Rattle.widl_syntax.proofs.Reading.{by_only, and_then, took, took_at}
+use Rattle.widl_syntax.proofs.Types.{of_signs}
 use Rattle.widl_syntax.proofs.build.reader.Reader.iterable.Goals as goal
 
 pub returns : goal.returns
-returns c = by_only rule.Iterable refl
+returns c = of_signs (ap iterable c.in_ok-new.ensures.ok) (by_only rule.Iterable refl
     (and_then (took_at terminal.Iterable c.take-at.ensures)
     (and_then (took terminal.Less c.take-less.ensures)
     (and_then c.in_ok-first.ensures.reads
     (and_then c.in_ok-second.ensures
     (and_then (took terminal.Greater c.take-greater.ensures)
-    (took terminal.Semicolon c.take-semicolon.ensures))))))
+    (took terminal.Semicolon c.take-semicolon.ensures)))))))
