@@ -4,19 +4,18 @@ ghost use Rattle.std.specs.Prelude.{◌≡◌, ◌<◌, ◌^◌, IfOk, IsErrOf, 
 ghost use Rattle.widl_idl.specs.declared.refusal.Refusal.{Refusal as RefusalType};
 ghost use Rattle.widl_idl.specs.MergedSets.{AreFiles, IsMerged};
 ghost use Rattle.widl_idl.specs.Meanings.{definitions_of};
-ghost use Rattle.widl_idl.specs.Nodes.{nodes_of};
-ghost use Rattle.widl_names.specs.Listings.{listed_definitions, nodes_listed};
+ghost use Rattle.widl_names.specs.Listings.{listed_definitions};
 ghost use Rattle.widl_merge.specs.Countable.{IsCountable};
 ghost use Rattle.widl_merge.specs.MergedDefs.{AreMerged};
 ghost use Rattle.widl_merge.specs.Refusals.{IsRefusal};
 
 use crate::defs::merge_definitions;
-use crate::refusals::find_in_nodes;
+use crate::refusals::find_in_definitions;
 use std::alloc::{AllocError, Global};
 use thiserror::Error;
 use widl_idl::tree::Definition;
 use widl_idl::{Defs, Fragment, Fragments, Merged, Refusal};
-use widl_names::{MOST_TYPES, Meanings, Node, list_definitions, list_nodes};
+use widl_names::{MOST_TYPES, Meanings, list_definitions};
 
 /// Why a set of files has no merged list.
 #[derive(Clone, Copy, Debug, PartialEq, Eq, Error)]
@@ -67,22 +66,16 @@ fn merge_files(alloc: Global, fragments: &[Fragment]) -> Result<Defs, MergeFault
     ensures refused { (refusal : RefusalType) → IsErrOf result (MergeFault.Refused refusal) → IsRefusal (definitions_of fragments.now) (Some refusal) }
 {
     let definitions = list_definitions(alloc, fragments)?;
-    let nodes = list_nodes(alloc, &definitions)?;
-    merge_listed(alloc, &definitions, &nodes)
+    merge_listed(alloc, &definitions)
 }
 
-/// The same, where the definitions and everything that is written in them are listed.
-fn merge_listed(
-    alloc: Global,
-    definitions: &[&Definition],
-    nodes: &[Node<'_>],
-) -> Result<Defs, MergeFault>
-    requires listed { nodes_listed nodes.now ≡ nodes_of (listed_definitions definitions.now) }
-    requires few { length definitions.now < 2 ^ 32 }
+/// The same, where the definitions are listed.
+fn merge_listed(alloc: Global, definitions: &[&Definition]) -> Result<Defs, MergeFault>
+    requires { length definitions.now < 2 ^ 32 }
     ensures merged { IfOk result (λ defs. AreMerged (listed_definitions definitions.now) defs) }
     ensures refused { (refusal : RefusalType) → IsErrOf result (MergeFault.Refused refusal) → IsRefusal (listed_definitions definitions.now) (Some refusal) }
 {
-    let found = find_in_nodes(alloc, definitions, nodes)?;
+    let found = find_in_definitions(alloc, definitions)?;
     match found {
         Some(refusal) => Err(MergeFault::Refused(refusal)),
         None => Ok(merge_unbroken(alloc, definitions)?),

@@ -23,8 +23,23 @@ pub fn find_refusal(alloc: Global, fragments: &Fragments) -> Result<Option<Refus
     ensures { IfOk result (λ refusal. IsRefusal (definitions_of fragments.now) refusal) }
 {
     let definitions = list_definitions(alloc, fragments.as_slice())?;
-    let nodes = list_nodes(alloc, &definitions)?;
-    find_in_nodes(alloc, &definitions, &nodes)
+    find_in_definitions(alloc, &definitions)
+}
+
+/// The same of these definitions. What is listed for it is given back with the answer, before the merged list is
+/// made.
+///
+/// # Errors
+///
+/// `AllocError` where there is no memory.
+pub fn find_in_definitions(
+    alloc: Global,
+    definitions: &[&Definition],
+) -> Result<Option<Refusal>, AllocError>
+    ensures { IfOk result (λ refusal. IsRefusal (listed_definitions definitions.now) refusal) }
+{
+    let nodes = list_nodes(alloc, definitions)?;
+    find_in_nodes(alloc, definitions, &nodes)
 }
 
 /// The same, where everything that is written in the definitions is listed.
@@ -32,7 +47,7 @@ pub fn find_refusal(alloc: Global, fragments: &Fragments) -> Result<Option<Refus
 /// # Errors
 ///
 /// `AllocError` where there is no memory.
-pub fn find_in_nodes(
+fn find_in_nodes(
     alloc: Global,
     definitions: &[&Definition],
     nodes: &[Node<'_>],
