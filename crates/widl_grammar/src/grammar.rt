@@ -1,6 +1,6 @@
 //! The grammar as `widl_predictive` takes it.
 
-use crate::table::{begins_type, is_same, row};
+use crate::table::{begins_type, is_same, is_same_rule, row, slot, slots};
 use crate::{Rule, Terminal};
 use widl_predictive::Symbol;
 
@@ -33,6 +33,18 @@ impl widl_predictive::Rule for Rule {
 
     fn is_same(one: Terminal, other: Terminal) -> bool {
         is_same(one, other)
+    }
+
+    fn is_same_rule(one: Rule, other: Rule) -> bool {
+        is_same_rule(one, other)
+    }
+
+    fn slots() -> usize {
+        slots()
+    }
+
+    fn slot(self, level: u8, ahead: Option<Terminal>) -> usize {
+        slot(self, level, ahead)
     }
 
     ghost predictive = { owed };

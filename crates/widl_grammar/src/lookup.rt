@@ -9,12 +9,15 @@ ghost use Rattle.widl_grammar.specs.Words.{quoted, quoted_among, spelling};
 use crate::Terminal;
 use crate::spelling::{QUOTED, QUOTED_FROM, SPELLINGS};
 
-/// Whether the texts are the same. Few of the words that begin with one byte have the same length, so
-/// the lengths are compared first.
+/// Whether the texts are the same. Most are signs of one byte; few of the words that begin with one byte have the same
+/// length, so the lengths are compared first.
 fn is_same_text(one: &[u8], other: &[u8]) -> bool
     ensures { result ≡ bytes_eq one.now other.now }
 {
-    one.len() == other.len() && one == other
+    match (one, other) {
+        ([first], [second]) => first == second,
+        _ => one.len() == other.len() && one == other,
+    }
 }
 
 /// How each of the quoted terminals is spelled.

@@ -5,6 +5,7 @@
 ghost use Rattle.std.specs.Prelude.{◌≡◌, ◌≢◌, ◌≤◌, Option, Some, None, MatchOption, IsTrue, false};
 ghost use Rattle.widl_predictive.specs.Lookahead.{nth};
 ghost use Rattle.widl_lines.specs.Grammar.{rows_of, begins_bracket};
+ghost use Rattle.widl_lines.specs.RuleNumbers.{rule_code};
 ghost use Rattle.widl_lines.specs.TerminalNumbers.{terminal_code, column};
 ghost use Rattle.widl_lines.specs.Tables.{picked};
 
@@ -190,6 +191,19 @@ fn number_of(terminal: Terminal) -> usize
     terminal as usize
 }
 
+fn number_of_rule(rule: Rule) -> usize
+    ensures { result ≡ rule_code rule }
+{
+    rule as usize
+}
+
+/// Whether two rules are the same.
+fn is_the_same_rule(one: Rule, other: Rule) -> bool
+    ensures { IsTrue result → one ≡ other }
+{
+    number_of_rule(one) == number_of_rule(other)
+}
+
 /// Whether two terminals are the same.
 fn is_same_terminal(one: Terminal, other: Terminal) -> bool
     ensures yes { IsTrue result → one ≡ other }
@@ -227,6 +241,19 @@ impl widl_predictive::Rule for Rule {
 
     fn is_same(one: Terminal, other: Terminal) -> bool {
         is_same_terminal(one, other)
+    }
+
+    fn is_same_rule(one: Rule, other: Rule) -> bool {
+        is_the_same_rule(one, other)
+    }
+
+    // A line is short: to keep what its rules give way to would take longer than to work it out.
+    fn slots() -> usize {
+        0
+    }
+
+    fn slot(self, level: u8, ahead: Option<Terminal>) -> usize {
+        0
     }
 
     ghost predictive = { owed };

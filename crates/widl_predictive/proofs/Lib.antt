@@ -1,6 +1,7 @@
 pub mod Booleans
 pub mod Theory
 pub mod Steps
+pub mod Unfolding
 pub mod Places
 pub mod Unique
 pub mod Running

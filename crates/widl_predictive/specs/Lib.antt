@@ -7,3 +7,4 @@ pub mod Coded
 pub mod Table
 pub mod Runs
 pub mod Expression
+pub mod Unfoldings

@@ -45,5 +45,16 @@ pub trait Rule: Copy + 'static {
         ensures yes { IsTrue result → one ≡ other }
         ensures no { result ≡ false → one ≢ other };
 
+    /// Whether two rules are the same.
+    fn is_same_rule(one: Self, other: Self) -> bool
+        ensures { IsTrue result → one ≡ other };
+
+    /// How many slots there are to keep what rules give way to. Nothing depends on it but time and memory.
+    fn slots() -> usize;
+
+    /// The slot where it is kept what the rule gives way to at the level, before this token or before the end. Where two
+    /// share a slot only what came first is kept; one past the last slot is never kept.
+    fn slot(self, level: u8, ahead: Option<Self::Terminal>) -> usize;
+
     ghost predictive: { IsPredictive grammar sets };
 }

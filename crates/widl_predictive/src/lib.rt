@@ -13,6 +13,7 @@ mod fault;
 mod grammar;
 pub mod laws;
 mod machine;
+mod unfoldings;
 
 pub use fault::Fault;
 pub use grammar::{Rule, Symbol};

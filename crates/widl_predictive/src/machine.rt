@@ -8,6 +8,7 @@ ghost use Rattle.widl_predictive.specs.Grammar.{row_at, at_level, Leveled, is_de
 ghost use Rattle.widl_predictive.specs.Machine.{stack_of, symbol_of, topped, Unfolds, EndsAt, IsFound};
 ghost use Rattle.widl_predictive.specs.Runs.{left_of, Takes};
 
+use crate::unfoldings::{Unfoldings, unfold_known};
 use crate::{Fault, Rule, Symbol};
 use std::alloc::{AllocError, Global};
 
@@ -70,7 +71,7 @@ fn top_of<R: Rule>(frame: Frame<R::Terminal, R>) -> Top<R::Terminal, R>
     }
 }
 
-fn take_top<R: Rule>(stack: &mut Vec<Frame<R::Terminal, R>>) -> Top<R::Terminal, R>
+pub(crate) fn take_top<R: Rule>(stack: &mut Vec<Frame<R::Terminal, R>>) -> Top<R::Terminal, R>
     ensures { topped result (stack_of stack.new.items) ≡ stack_of stack.old.items }
 {
     match stack.pop() {
@@ -124,7 +125,7 @@ fn is_deep<R: Rule>(rule: R, level: u8) -> bool
     level == R::deep_level() && rule.begins_level()
 }
 
-fn either(a: bool, b: bool) -> bool
+pub(crate) fn either(a: bool, b: bool) -> bool
     ensures { result ≡ (a || b) }
 {
     a || b
@@ -132,7 +133,7 @@ fn either(a: bool, b: bool) -> bool
 
 /// Replaces the rules on top of the stack by the rows that what is ahead picks, and takes the token
 /// that is then wanted.
-fn unfold<R: Rule>(
+pub(crate) fn unfold<R: Rule>(
     stack: &mut Vec<Frame<R::Terminal, R>>,
     ahead: Option<R::Terminal>,
 ) -> Result<Unfolded<R::Terminal, R>, AllocError>
@@ -172,8 +173,9 @@ fn run_machine<R: Rule>(alloc: Global, start: R, tokens: &[R::Terminal]) -> Resu
 {
     let mut stack = Vec::new(alloc);
     stack.push(Frame::Open(start, 1))?;
+    let mut known = Unfoldings::none(alloc, R::slots())?;
     for (place, terminal) in tokens.iter().enumerate() {
-        let unfolded = unfold::<R>(&mut stack, Some(*terminal))?;
+        let unfolded = unfold_known::<R>(&mut known, &mut stack, Some(*terminal))?;
         if !is_wanted::<R>(unfolded.top, *terminal) {
             return Err(Fault::Syntax(place));
         }
