@@ -9,7 +9,7 @@ use Rattle.widl_overload.specs.declared.validity_rule.ValidityRule.{ValidityRule
 use Rattle.widl_overload.specs.declared.validity_rule.ValidityRule.TheVariants as rule
 use Rattle.widl_overload.specs.ArgumentRules.{FollowsEllipsis, FollowsOptional, InOneList, IsArgumentPastLimit, RepeatsArgument, lists_in_definition}
 use Rattle.widl_valid.specs.DefinitionRefusals.{BreaksDefinition, DefinitionsBreak, InItsLists}
-use Rattle.widl_valid.proofs.FirstRefusals.{item_pushed, list_pushed}
+use Rattle.widl_refusals.proofs.FirstRefusals.{item_pushed, list_pushed}
 
 lists_pushed : (P : List PlainArgument → PlainArgument → Violation → Type 0) (before : List PlainDefinition) (d : PlainDefinition) → Either (InOneList P before) (InItsLists P d) (InOneList P (before ++ d ∷ []))
 lists_pushed P = list_pushed (AtOne P) (λ (d : PlainDefinition). lists_in_definition d.kind)

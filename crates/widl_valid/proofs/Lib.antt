@@ -1,4 +1,3 @@
-pub mod FirstRefusals
 pub mod DefinitionRefusals
 pub mod ResolvedUses
 pub mod SettledUses

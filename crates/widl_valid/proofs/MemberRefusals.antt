@@ -9,7 +9,7 @@ use Rattle.widl_overload.specs.declared.validity_rule.ValidityRule.{ValidityRule
 use Rattle.widl_overload.specs.declared.validity_rule.ValidityRule.TheVariants as rule
 use Rattle.widl_valid.specs.MemberRefusals.{ByEither, ByOwner, ByType}
 use Rattle.widl_valid.specs.MemberTypes.{BreaksNode, NodesBreak, member_nodes, own_members}
-use Rattle.widl_valid.proofs.FirstRefusals.{item_pushed, list_pushed}
+use Rattle.widl_refusals.proofs.FirstRefusals.{item_pushed, list_pushed}
 use Rattle.widl_valid.proofs.MemberNodes.{definition_same, is_member}
 
 module _ (definitions : List PlainDefinition) where

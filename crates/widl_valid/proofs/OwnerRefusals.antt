@@ -25,8 +25,8 @@ use Rattle.widl_overload.specs.declared.validity_rule.ValidityRule.TheVariants a
 use Rattle.widl_overload.specs.MemberRules.{InOneOwner, has_members_of_its_own, is_interface_kind}
 use Rattle.widl_valid.specs.MemberRefusals.{ByOwner, member_rules}
 use Rattle.widl_valid.specs.Owners.{BreaksMember, InDefinitions, InMembers, InOwnerAt, MembersBreak, OwnerBreaks, OwnersBreak, asks, is_owner}
-use Rattle.widl_valid.specs.Refusals.{IsFirst}
-use Rattle.widl_valid.proofs.FirstRefusals.{same_breaks}
+use Rattle.widl_refusals.specs.Refusals.{IsFirst}
+use Rattle.widl_refusals.proofs.FirstRefusals.{same_breaks}
 
 -- the kinds that a rule asks have members of their own
 abbrev Narrow : (Kind → Bool) → Type 0

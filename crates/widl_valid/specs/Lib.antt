@@ -6,7 +6,6 @@ pub mod KnownTexts
 pub mod MemberTables
 pub mod Owners
 pub mod Invalidity
-pub mod Refusals
 pub mod DefinitionRefusals
 pub mod TypeRefusals
 pub mod Misplaced

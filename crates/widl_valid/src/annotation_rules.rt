@@ -5,14 +5,15 @@ ghost use Rattle.widl_idl.specs.First.{FirstWhere, Somewhere};
 ghost use Rattle.widl_idl.specs.PlainTypes.{attribute_of};
 ghost use Rattle.widl_idl.specs.Terms.{type_term};
 ghost use Rattle.widl_idl.specs.WrittenTypes.{annotation_of};
-ghost use Rattle.widl_overload.specs.TypeRules.{HasMisplacedAnnotation, IsAnnotatedMember, is_annotated, is_integer, is_member_role, is_misplaced, is_unit_string, without_nullable};
+ghost use Rattle.widl_overload.specs.TypeRules.{HasMisplacedAnnotation, IsAnnotatedMember, is_annotated, is_integer, is_member_role, is_misplaced, without_nullable};
 ghost use Rattle.widl_valid.specs.Misplaced.{IsMisplacedOn};
 ghost use Rattle.widl_valid.specs.UsesListed.{resolved_use};
 
 use crate::resolved_uses::ResolvedUse;
 use widl_idl::tree::ExtendedAttribute;
-use widl_idl::{IdlType, Mode, TextKind, Violation, earlier_violation};
+use widl_idl::{IdlType, Mode, Violation, earlier_violation};
 use widl_overload::TypeRole;
+use widl_refusals::is_unit_string;
 
 /// The place of a union's member type that is annotated, also by a typedef.
 pub fn annotated_member(ty: &ResolvedUse<'_>) -> Option<Violation>
@@ -101,14 +102,4 @@ fn is_integer(t: &IdlType) -> bool
     ensures { result ≡ is_integer (type_term t.now) }
 {
     matches!(t, IdlType::Int(_, _))
-}
-
-/// Whether a type is one of the string types DOMString and USVString.
-pub fn is_unit_string(t: &IdlType) -> bool
-    ensures { result ≡ is_unit_string (type_term t.now) }
-{
-    match t {
-        IdlType::Text { kind, .. } => matches!(kind, TextKind::Dom | TextKind::Usv),
-        _ => false,
-    }
 }

@@ -7,7 +7,7 @@ ghost use Rattle.widl_idl.specs.declared.defs.Defs.{Defs};
 ghost use Rattle.widl_idl.specs.PlainTrees.{definition_of};
 ghost use Rattle.widl_names.specs.Listings.{listed_definitions};
 ghost use Rattle.widl_valid.specs.DefinitionRefusals.{BreaksDefinition, definition_rules};
-ghost use Rattle.widl_valid.specs.Refusals.{IsFirst, IsFirstOver};
+ghost use Rattle.widl_refusals.specs.Refusals.{IsFirst, IsFirstOver};
 
 use crate::argument_rules::{
     first_after_ellipsis, first_argument_past_limit, first_repeated_argument,
@@ -17,12 +17,12 @@ use crate::definition_rules::{
     first_annotation_of_no_type, first_misformed_operation, first_nameless_operation,
     first_repeated_value, other_than_one_operation,
 };
-use crate::refusals::{earlier_refusal, first};
 use std::alloc::{AllocError, Global};
 use widl_idl::Refusal;
 use widl_idl::tree::Definition;
 use widl_inheritance::arguments_in;
 use widl_overload::ValidityRule;
+use widl_refusals::{earlier_refusal, first};
 
 /// The first refusal by these rules, in all these definitions.
 ///

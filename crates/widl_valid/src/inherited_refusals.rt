@@ -10,9 +10,8 @@ ghost use Rattle.widl_inheritance.specs.HoldingGraph.{AreWithin};
 ghost use Rattle.widl_inheritance.specs.ReachedFlags.{IsAcyclic};
 ghost use Rattle.widl_overload.specs.Dictionaries.{dictionary_terms};
 ghost use Rattle.widl_valid.specs.InheritedRefusals.{default_rules, dictionary_rules, iterable_rules, overload_rules};
-ghost use Rattle.widl_valid.specs.Refusals.{IsFirstOver};
+ghost use Rattle.widl_refusals.specs.Refusals.{IsFirstOver};
 
-use crate::refusals::first;
 use std::alloc::{AllocError, Global};
 use widl_idl::{Defs, Refusal};
 use widl_inheritance::{
@@ -21,6 +20,7 @@ use widl_inheritance::{
 };
 use widl_names::{Meanings, Parts, Resolver};
 use widl_overload::{ValidityRule, first_overload_violations};
+use widl_refusals::first;
 
 /// The first refusal by the rules on overloads.
 ///

@@ -5,7 +5,7 @@ ghost use Rattle.widl_idl.specs.declared.defs.Defs.{Defs};
 ghost use Rattle.widl_idl.specs.PlainTrees.{plain_definitions};
 ghost use Rattle.widl_valid.specs.Invalidity.{IsInvalidity};
 ghost use Rattle.widl_valid.specs.MemberRefusals.{member_rules};
-ghost use Rattle.widl_valid.specs.Refusals.{IsFirstOver};
+ghost use Rattle.widl_refusals.specs.Refusals.{IsFirstOver};
 
 use crate::definition_refusals::find_in_definitions;
 use crate::inherited_refusals::{
@@ -13,11 +13,11 @@ use crate::inherited_refusals::{
 };
 use crate::member_types::find_in_member_types;
 use crate::owners::find_in_owners;
-use crate::refusals::earlier_refusal;
 use crate::type_refusals::find_in_types;
 use std::alloc::{AllocError, Global};
 use widl_idl::{Merged, Refusal};
 use widl_names::{Meanings, Parts, Resolver, list_definitions};
+use widl_refusals::earlier_refusal;
 
 /// The first refusal of a set of files by the rules of validity, or none where all of them are kept.
 ///

@@ -26,7 +26,6 @@ mod overload_counts;
 mod owner_members;
 mod owners;
 mod promise_overloads;
-mod refusals;
 mod related_interfaces;
 mod repeated_members;
 mod resolved_uses;

@@ -12,16 +12,15 @@ ghost use Rattle.widl_overload.specs.MemberRules.{is_promise};
 ghost use Rattle.widl_overload.specs.TypeRules.{HasOtherValue, IsOtherStringifier, IsWritablePromise};
 ghost use Rattle.widl_valid.specs.MemberRefusals.{member_rules};
 ghost use Rattle.widl_valid.specs.MemberTypes.{BreaksNode, NodesBreak, member_nodes, own_members};
-ghost use Rattle.widl_valid.specs.Refusals.{IsFirst};
+ghost use Rattle.widl_refusals.specs.Refusals.{IsFirst};
 
-use crate::annotation_rules::is_unit_string;
 use crate::constant_values::other_constant_value;
-use crate::refusals::{earlier_refusal, first};
 use std::alloc::{AllocError, Global};
 use widl_idl::tree::{Attribute, AttributeKind, Definition, DefinitionKind, Member, MemberKind};
 use widl_idl::{IdlType, Refusal, Violation};
 use widl_names::{MOST_TYPES, Resolver};
 use widl_overload::ValidityRule;
+use widl_refusals::{earlier_refusal, first, is_unit_string};
 
 /// The first refusal by these rules, in all these definitions.
 ///

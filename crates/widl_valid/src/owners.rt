@@ -9,13 +9,12 @@ ghost use Rattle.widl_names.specs.Listings.{listed_members};
 ghost use Rattle.widl_valid.specs.ApartMembers.{SharesLabel};
 ghost use Rattle.widl_valid.specs.MemberRefusals.{ByOwner, member_rules};
 ghost use Rattle.widl_valid.specs.Owners.{InMembers, MembersBreak, OwnerBreaks, is_owner};
-ghost use Rattle.widl_valid.specs.Refusals.{IsFirst};
+ghost use Rattle.widl_refusals.specs.Refusals.{IsFirst};
 
 use crate::apart_members::are_apart;
 use crate::kept_names::first_kept_name;
 use crate::overload_counts::first_overload_past_limit;
 use crate::promise_overloads::first_mixing_promises;
-use crate::refusals::{earlier_refusal, first};
 use crate::repeated_members::first_repeated_member;
 use crate::stringifiers::first_second_stringifier;
 use std::alloc::{AllocError, Global};
@@ -23,6 +22,7 @@ use widl_idl::tree::{DefinitionKind, Member};
 use widl_idl::{Kind, Refusal, Violation};
 use widl_names::{Meanings, Parts, Resolver, kind_of, list_members, means_itself};
 use widl_overload::ValidityRule;
+use widl_refusals::{earlier_refusal, first};
 
 /// The first refusal by the rules on members, in all interfaces and namespaces.
 ///

@@ -8,7 +8,7 @@ ghost use Rattle.widl_fits.specs.Hierarchies.{IsForest, interface_parents};
 ghost use Rattle.widl_idl.specs.PlainTrees.{definition_kind_of, plain_definitions};
 ghost use Rattle.widl_overload.specs.TypeUses.{uses_in_definition};
 ghost use Rattle.widl_valid.specs.Lineages.{TellRelated};
-ghost use Rattle.widl_valid.specs.Refusals.{IsFirst, IsFirstOver};
+ghost use Rattle.widl_refusals.specs.Refusals.{IsFirst, IsFirstOver};
 ghost use Rattle.widl_valid.specs.TypeRefusals.{BreaksType, BreaksUse, SomeBreaks, type_rules};
 ghost use Rattle.widl_valid.specs.UsesListed.{resolved_use, use_of};
 
@@ -18,7 +18,6 @@ use crate::lineages::Lineages;
 use crate::nullable_rules::{
     nullable_beside_dictionary, nullable_dictionary, several_nullable, wrongly_nullable,
 };
-use crate::refusals::{earlier_refusal, first};
 use crate::resolved_uses::{ResolvedUse, is_settled, resolve_use};
 use crate::role_rules::{copied_attribute, other_constant_type, undefined_inside};
 use crate::type_uses::{TypeUse, list_type_uses};
@@ -28,6 +27,7 @@ use widl_idl::tree::DefinitionKind;
 use widl_idl::{Defs, Refusal};
 use widl_names::{Meanings, Resolver};
 use widl_overload::ValidityRule;
+use widl_refusals::{earlier_refusal, first};
 
 /// The first refusal by the rules on types, in all definitions.
 ///

@@ -8,7 +8,7 @@ use Rattle.widl_overload.specs.Validity.{validity_number}
 use Rattle.widl_overload.specs.declared.validity_rule.ValidityRule.TheVariants as rule
 use Rattle.widl_inheritance.specs.WrittenLists.{listed_arguments}
 use Rattle.widl_valid.specs.DefinitionRefusals.{BreaksDefinition, InItsLists}
-use Rattle.widl_valid.proofs.FirstRefusals.{Breaking}
+use Rattle.widl_refusals.proofs.FirstRefusals.{Breaking}
 use Rattle.widl_valid.proofs.definition_refusals.find_in_definition.Goals as goal
 
 pub returns : goal.returns

@@ -5,7 +5,7 @@ use Rattle.widl_names.specs.Listings.{listed_definitions}
 use Rattle.widl_overload.specs.Validity.{BreaksRule}
 use Rattle.widl_valid.specs.DefinitionRefusals.{BreaksDefinition, DefinitionsBreak, definition_rules}
 use Rattle.widl_valid.proofs.DefinitionRefusals.{definition_pushed, no_definitions}
-use Rattle.widl_valid.proofs.FirstRefusals.{all_items, next_item, same_rules}
+use Rattle.widl_refusals.proofs.FirstRefusals.{all_items, next_item, same_rules}
 use Rattle.widl_valid.proofs.definition_refusals.find_in_definitions.Goals as goal
 
 pub loop-definition-init : goal.loop-definition-init

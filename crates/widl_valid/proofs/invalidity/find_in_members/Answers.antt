@@ -6,8 +6,8 @@ use Rattle.widl_names.proofs.NameMeanings.{all_plain}
 use Rattle.widl_overload.specs.Validity.{BreaksRule}
 use Rattle.widl_valid.specs.MemberRefusals.{ByEither, ByOwner, ByType, member_rules}
 use Rattle.widl_valid.specs.MemberTypes.{NodesBreak}
-use Rattle.widl_valid.specs.Refusals.{IsFirst}
-use Rattle.widl_valid.proofs.FirstRefusals.{both_breaks, same_rules}
+use Rattle.widl_refusals.specs.Refusals.{IsFirst}
+use Rattle.widl_refusals.proofs.FirstRefusals.{both_breaks, same_rules}
 use Rattle.widl_valid.proofs.MemberRefusals.{either_way}
 use Rattle.widl_valid.proofs.invalidity.find_in_members.Goals as goal
 

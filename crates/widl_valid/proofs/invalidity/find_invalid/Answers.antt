@@ -20,9 +20,9 @@ use Rattle.widl_overload.specs.Validity.{BreaksValidity}
 use Rattle.widl_valid.specs.DefinitionRefusals.{definition_rules}
 use Rattle.widl_valid.specs.InheritedRefusals.{default_rules, dictionary_rules, iterable_rules, overload_rules}
 use Rattle.widl_valid.specs.MemberRefusals.{member_rules}
-use Rattle.widl_valid.specs.Refusals.{IsFirst, IsFirstOver}
+use Rattle.widl_refusals.specs.Refusals.{IsFirst, IsFirstOver}
 use Rattle.widl_valid.specs.TypeRefusals.{type_rules}
-use Rattle.widl_valid.proofs.FirstRefusals.{both_lists}
+use Rattle.widl_refusals.proofs.FirstRefusals.{both_lists}
 use Rattle.widl_valid.proofs.invalidity.find_invalid.Goals as goal
 
 pub of-requires-2 : goal.of-requires-2

@@ -5,7 +5,7 @@ use Rattle.widl_idl.proofs.Steps.{first_rule, no_rules}
 use Rattle.widl_overload.specs.Validity.{validity_number}
 use Rattle.widl_overload.specs.declared.validity_rule.ValidityRule.TheVariants as rule
 use Rattle.widl_valid.specs.MemberTypes.{BreaksNode}
-use Rattle.widl_valid.proofs.FirstRefusals.{Breaking}
+use Rattle.widl_refusals.proofs.FirstRefusals.{Breaking}
 use Rattle.widl_valid.proofs.member_types.find_in_member.Goals as goal
 
 pub returns : goal.returns

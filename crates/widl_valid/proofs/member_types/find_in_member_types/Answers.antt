@@ -5,8 +5,8 @@ use Rattle.widl_idl.specs.Nodes.{nodes_of}
 use Rattle.widl_idl.proofs.Somewhere.{nowhere}
 use Rattle.widl_valid.specs.MemberRefusals.{member_rules}
 use Rattle.widl_valid.specs.MemberTypes.{BreaksNode, NodesBreak, member_nodes, own_members}
-use Rattle.widl_valid.specs.Refusals.{IsFirst}
-use Rattle.widl_valid.proofs.FirstRefusals.{all_items, next_item}
+use Rattle.widl_refusals.specs.Refusals.{IsFirst}
+use Rattle.widl_refusals.proofs.FirstRefusals.{all_items, next_item}
 use Rattle.widl_valid.proofs.MemberRefusals.{definition_pushed}
 use Rattle.widl_valid.proofs.member_types.find_in_member_types.Goals as goal
 

@@ -4,7 +4,7 @@ use Rattle.widl_idl.specs.Nodes.{nodes_of}
 use Rattle.widl_names.specs.Listings.{listed_definitions}
 use Rattle.widl_valid.specs.MemberRefusals.{member_rules}
 use Rattle.widl_valid.specs.MemberTypes.{NodesBreak}
-use Rattle.widl_valid.specs.Refusals.{IsFirst}
+use Rattle.widl_refusals.specs.Refusals.{IsFirst}
 use Rattle.widl_valid.proofs.member_types.find_in_member_types.Given as goal
 
 abbrev pub invariant-loop-definition : goal.invariant-loop-definition

@@ -5,7 +5,7 @@ use Rattle.widl_idl.specs.Nodes.{MemberNode}
 use Rattle.widl_idl.proofs.Somewhere.{nowhere}
 use Rattle.widl_valid.specs.MemberRefusals.{member_rules}
 use Rattle.widl_valid.specs.MemberTypes.{BreaksNode, NodesBreak, member_nodes}
-use Rattle.widl_valid.proofs.FirstRefusals.{all_items, next_item}
+use Rattle.widl_refusals.proofs.FirstRefusals.{all_items, next_item}
 use Rattle.widl_valid.proofs.MemberRefusals.{member_pushed}
 use Rattle.widl_valid.proofs.member_types.find_in_members.Goals as goal
 

@@ -7,7 +7,7 @@ use Rattle.widl_names.specs.Listings.{listed_members}
 use Rattle.widl_idl.specs.FirstRefusal.{violation_of}
 use Rattle.widl_valid.specs.MemberRefusals.{member_rules}
 use Rattle.widl_valid.specs.Owners.{MembersBreak, OwnerBreaks}
-use Rattle.widl_valid.specs.Refusals.{IsFirst}
+use Rattle.widl_refusals.specs.Refusals.{IsFirst}
 use Rattle.widl_valid.proofs.OwnerRefusals.{no_owner, owner_first}
 use Rattle.widl_valid.proofs.owners.find_in_owner.Goals as goal
 

@@ -3,8 +3,8 @@ use Rattle.widl_idl.specs.PlainTrees.{definition_of, plain_definitions}
 use Rattle.widl_names.proofs.PlainLists.{kind_there, listed_same}
 use Rattle.widl_valid.specs.MemberRefusals.{member_rules}
 use Rattle.widl_valid.specs.Owners.{OwnerBreaks, OwnersBreak}
-use Rattle.widl_valid.specs.Refusals.{IsFirst}
-use Rattle.widl_valid.proofs.FirstRefusals.{all_items, next_item}
+use Rattle.widl_refusals.specs.Refusals.{IsFirst}
+use Rattle.widl_refusals.proofs.FirstRefusals.{all_items, next_item}
 use Rattle.widl_valid.proofs.OwnerRefusals.{number_next, owner_pushed, owners_first}
 use Rattle.widl_valid.proofs.owners.find_in_owners.Goals as goal
 

@@ -3,7 +3,7 @@ use Rattle.widl_idl.specs.PlainTrees.{plain_definitions}
 use Rattle.widl_names.specs.Listings.{listed_definitions}
 use Rattle.widl_valid.specs.MemberRefusals.{member_rules}
 use Rattle.widl_valid.specs.Owners.{OwnersBreak}
-use Rattle.widl_valid.specs.Refusals.{IsFirst}
+use Rattle.widl_refusals.specs.Refusals.{IsFirst}
 use Rattle.widl_valid.proofs.owners.find_in_owners.Given as goal
 
 abbrev pub invariant-loop-number : goal.invariant-loop-number

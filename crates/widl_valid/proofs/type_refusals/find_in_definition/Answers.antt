@@ -2,10 +2,10 @@ use Rattle.std.proofs.Common.{arith, subst, ap, ◌∙◌, map}
 use Rattle.widl_idl.specs.FirstRefusal.{violation_of}
 use Rattle.widl_idl.specs.PlainTrees.{plain_definitions}
 use Rattle.widl_idl.proofs.Somewhere.{nowhere}
-use Rattle.widl_valid.specs.Refusals.{IsFirst}
+use Rattle.widl_refusals.specs.Refusals.{IsFirst}
 use Rattle.widl_valid.specs.TypeRefusals.{BreaksUse, SomeBreaks, type_rules}
 use Rattle.widl_valid.specs.UsesListed.{use_of}
-use Rattle.widl_valid.proofs.FirstRefusals.{all_items, item_pushed, next_item}
+use Rattle.widl_refusals.proofs.FirstRefusals.{all_items, item_pushed, next_item}
 use Rattle.widl_valid.proofs.type_refusals.find_in_definition.Goals as goal
 
 pub loop-written-init : goal.loop-written-init

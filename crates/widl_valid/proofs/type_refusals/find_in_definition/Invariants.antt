@@ -1,6 +1,6 @@
 use Rattle.std.proofs.Common.{map, take}
 use Rattle.widl_idl.specs.PlainTrees.{plain_definitions}
-use Rattle.widl_valid.specs.Refusals.{IsFirst}
+use Rattle.widl_refusals.specs.Refusals.{IsFirst}
 use Rattle.widl_valid.specs.TypeRefusals.{SomeBreaks, type_rules}
 use Rattle.widl_valid.specs.UsesListed.{use_of}
 use Rattle.widl_valid.proofs.type_refusals.find_in_definition.Given as goal

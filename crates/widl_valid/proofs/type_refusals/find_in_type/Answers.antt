@@ -4,7 +4,7 @@ use Rattle.widl_overload.specs.Validity.{validity_number}
 use Rattle.widl_overload.specs.declared.validity_rule.ValidityRule.TheVariants as rule
 use Rattle.widl_valid.specs.TypeRefusals.{BreaksType}
 use Rattle.widl_valid.specs.UsesListed.{resolved_use}
-use Rattle.widl_valid.proofs.FirstRefusals.{Breaking}
+use Rattle.widl_refusals.proofs.FirstRefusals.{Breaking}
 use Rattle.widl_valid.proofs.type_refusals.find_in_type.Goals as goal
 
 pub returns : goal.returns

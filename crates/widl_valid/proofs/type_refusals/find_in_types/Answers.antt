@@ -5,9 +5,9 @@ use Rattle.widl_idl.proofs.Somewhere.{nowhere}
 use Rattle.widl_names.proofs.PlainLists.{listed_same}
 use Rattle.widl_overload.specs.TypeUses.{type_uses_of, uses_in_definition}
 use Rattle.widl_overload.specs.Validity.{BreaksRule}
-use Rattle.widl_valid.specs.Refusals.{IsFirst}
+use Rattle.widl_refusals.specs.Refusals.{IsFirst}
 use Rattle.widl_valid.specs.TypeRefusals.{BreaksUse, SomeBreaks, type_rules}
-use Rattle.widl_valid.proofs.FirstRefusals.{all_items, list_pushed, next_item, same_rules}
+use Rattle.widl_refusals.proofs.FirstRefusals.{all_items, list_pushed, next_item, same_rules}
 use Rattle.widl_valid.proofs.type_refusals.find_in_types.Goals as goal
 
 pub loop-definition-init : goal.loop-definition-init

@@ -3,7 +3,7 @@ use Rattle.widl_idl.specs.PlainTrees.{plain_definitions}
 use Rattle.widl_names.specs.Listings.{listed_definitions}
 use Rattle.widl_overload.specs.TypeUses.{type_uses_of}
 use Rattle.widl_valid.specs.Lineages.{TellRelated}
-use Rattle.widl_valid.specs.Refusals.{IsFirst}
+use Rattle.widl_refusals.specs.Refusals.{IsFirst}
 use Rattle.widl_valid.specs.TypeRefusals.{SomeBreaks, type_rules}
 use Rattle.widl_valid.proofs.type_refusals.find_in_types.Given as goal
 

@@ -2,7 +2,7 @@ use Rattle.std.proofs.Common.{sym, subst, ◌∙◌}
 use Rattle.std.specs.Prelude.{IfOk}
 use Rattle.widl_idl.specs.FirstRefusal.{violation_of}
 use Rattle.widl_idl.specs.PlainTrees.{plain_definitions}
-use Rattle.widl_valid.specs.Refusals.{IsFirst}
+use Rattle.widl_refusals.specs.Refusals.{IsFirst}
 use Rattle.widl_valid.specs.TypeRefusals.{BreaksType, type_rules}
 use Rattle.widl_valid.specs.UsesListed.{use_of}
 use Rattle.widl_valid.proofs.SettledUses.{no_type_rule}

@@ -3,7 +3,7 @@
 ghost use Rattle.std.specs.Prelude.{◌≡◌};
 ghost use Rattle.widl_idl.specs.FirstRefusal.{join};
 ghost use Rattle.widl_overload.specs.Validity.{validity_number};
-ghost use Rattle.widl_valid.specs.Refusals.{earlier_refusal};
+ghost use Rattle.widl_refusals.specs.Refusals.{earlier_refusal};
 
 use widl_idl::{Refusal, Violation, joined};
 use widl_overload::ValidityRule;
