@@ -1,11 +1,7 @@
-pub mod DefinitionRefusals
 pub mod ResolvedUses
 pub mod SettledUses
 pub mod ApartMembers
 pub mod ListedUses
-pub mod RepeatedTexts
-pub mod ArgumentPlaces
-pub mod DefinitionPlaces
 pub mod NamedViolations
 pub mod Repetitions
 pub mod Counted

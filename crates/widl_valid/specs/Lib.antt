@@ -1,12 +1,9 @@
 pub mod UsesListed
 pub mod SettledUses
 pub mod ApartMembers
-pub mod WrittenLists
-pub mod KnownTexts
 pub mod MemberTables
 pub mod Owners
 pub mod Invalidity
-pub mod DefinitionRefusals
 pub mod TypeRefusals
 pub mod Misplaced
 pub mod IndistinguishableKinds

@@ -7,7 +7,6 @@ ghost use Rattle.widl_valid.specs.Invalidity.{IsInvalidity};
 ghost use Rattle.widl_valid.specs.MemberRefusals.{member_rules};
 ghost use Rattle.widl_refusals.specs.Refusals.{IsFirstOver};
 
-use crate::definition_refusals::find_in_definitions;
 use crate::inherited_refusals::{
     find_in_defaults, find_in_dictionaries, find_in_iterables, find_in_overloads,
 };
@@ -15,6 +14,7 @@ use crate::member_types::find_in_member_types;
 use crate::owners::find_in_owners;
 use crate::type_refusals::find_in_types;
 use std::alloc::{AllocError, Global};
+use widl_definition_rules::find_in_definitions;
 use widl_idl::{Merged, Refusal};
 use widl_names::{Meanings, Parts, Resolver, list_definitions};
 use widl_refusals::earlier_refusal;

@@ -17,7 +17,7 @@ use Rattle.widl_names.specs.Listings.{listed_definitions}
 use Rattle.widl_names.proofs.NameMeanings.{all_plain}
 use Rattle.widl_overload.specs.declared.validity_rule.ValidityRule.{ValidityRule}
 use Rattle.widl_overload.specs.Validity.{BreaksValidity}
-use Rattle.widl_valid.specs.DefinitionRefusals.{definition_rules}
+use Rattle.widl_definition_rules.specs.DefinitionRefusals.{definition_rules}
 use Rattle.widl_valid.specs.InheritedRefusals.{default_rules, dictionary_rules, iterable_rules, overload_rules}
 use Rattle.widl_valid.specs.MemberRefusals.{member_rules}
 use Rattle.widl_refusals.specs.Refusals.{IsFirst, IsFirstOver}

@@ -1,0 +1,4 @@
+pub mod DefinitionRefusals
+pub mod RepeatedTexts
+pub mod ArgumentPlaces
+pub mod DefinitionPlaces

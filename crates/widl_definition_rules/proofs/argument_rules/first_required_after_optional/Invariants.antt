@@ -1,0 +1,8 @@
+use Rattle.std.proofs.Common.{map, take}
+use Rattle.widl_idl.specs.First.{AtOne, FirstWhere, Somewhere}
+use Rattle.widl_idl.specs.PlainTrees.{arguments_of}
+use Rattle.widl_overload.specs.ArgumentRules.{FollowsOptional}
+use Rattle.widl_definition_rules.proofs.argument_rules.first_required_after_optional.Given as goal
+
+abbrev pub invariant-loop-list : goal.invariant-loop-list
+invariant-loop-list l = FirstWhere (Somewhere (AtOne FollowsOptional) (map (λ l. arguments_of l.now) (take l.list-index l.lists))) l.best

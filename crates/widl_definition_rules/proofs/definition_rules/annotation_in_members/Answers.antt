@@ -1,0 +1,12 @@
+use Rattle.std.proofs.Common.{arith, subst}
+use Rattle.widl_idl.specs.First.{FirstWhere, Somewhere}
+use Rattle.widl_idl.specs.PlainTrees.{PlainMember, member_of}
+use Rattle.widl_overload.specs.DefinitionRules.{IsAnnotation, attributes_of_no_type}
+use Rattle.widl_names.proofs.MappedLoops.{somewhere_end, somewhere_step}
+use Rattle.widl_definition_rules.proofs.definition_rules.annotation_in_members.Goals as goal
+
+pub loop-member-preserved : goal.loop-member-preserved
+loop-member-preserved c = somewhere_step member_of c.args.members.now (λ (m : PlainMember). Somewhere IsAnnotation (attributes_of_no_type m.attributes m.kind)) c.loop-member.member-index c.member-item.result c.loop-member.best c.first_annotation-found.result c.earlier_violation-best.result (omega arith) c.member-item.is c.earlier_violation-best.ensures (subst (λ attributes. FirstWhere (Somewhere IsAnnotation attributes) c.first_annotation-found.result) c.attributes_of_no_type.ensures c.first_annotation-found.ensures) c.loop-member.invariant
+
+pub returns : goal.returns
+returns c = somewhere_end member_of c.args.members.now (λ (m : PlainMember). Somewhere IsAnnotation (attributes_of_no_type m.attributes m.kind)) c.loop-member.member-index c.loop-member.best (omega arith) c.loop-member.invariant

@@ -1,0 +1,8 @@
+use Rattle.std.proofs.Common.{map, take}
+use Rattle.widl_idl.specs.First.{FirstWhere, Somewhere}
+use Rattle.widl_idl.specs.PlainTrees.{PlainMember, member_of}
+use Rattle.widl_overload.specs.DefinitionRules.{IsAnnotation, attributes_of_no_type}
+use Rattle.widl_definition_rules.proofs.definition_rules.annotation_in_members.Given as goal
+
+abbrev pub invariant-loop-member : goal.invariant-loop-member
+invariant-loop-member l = FirstWhere (Somewhere (λ (m : PlainMember). Somewhere IsAnnotation (attributes_of_no_type m.attributes m.kind)) (map member_of (take l.member-index l.members))) l.best

@@ -1,0 +1,3 @@
+pub mod WrittenLists
+pub mod KnownTexts
+pub mod DefinitionRefusals

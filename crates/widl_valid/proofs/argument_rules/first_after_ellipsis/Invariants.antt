@@ -1,8 +1,0 @@
-use Rattle.std.proofs.Common.{map, take}
-use Rattle.widl_idl.specs.First.{AtOne, FirstWhere, Somewhere}
-use Rattle.widl_idl.specs.PlainTrees.{arguments_of}
-use Rattle.widl_overload.specs.ArgumentRules.{FollowsEllipsis}
-use Rattle.widl_valid.proofs.argument_rules.first_after_ellipsis.Given as goal
-
-abbrev pub invariant-loop-list : goal.invariant-loop-list
-invariant-loop-list l = FirstWhere (Somewhere (AtOne FollowsEllipsis) (map (λ l. arguments_of l.now) (take l.list-index l.lists))) l.best

@@ -1,8 +1,0 @@
-use Rattle.std.proofs.Common.{map, take}
-use Rattle.widl_idl.specs.First.{FirstWhere, Somewhere}
-use Rattle.widl_idl.specs.PlainTrees.{PlainMember, member_of}
-use Rattle.widl_overload.specs.DefinitionRules.{IsMisformed}
-use Rattle.widl_valid.proofs.definition_rules.misformed_in.Given as goal
-
-abbrev pub invariant-loop-member : goal.invariant-loop-member
-invariant-loop-member l = FirstWhere (Somewhere (λ (m : PlainMember). IsMisformed m.kind) (map member_of (take l.member-index l.members))) l.best
