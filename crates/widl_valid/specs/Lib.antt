@@ -1,14 +1,7 @@
-pub mod UsesListed
-pub mod SettledUses
 pub mod ApartMembers
 pub mod MemberTables
 pub mod Owners
 pub mod Invalidity
-pub mod TypeRefusals
-pub mod Misplaced
-pub mod IndistinguishableKinds
-pub mod IndistinguishablePairs
-pub mod Lineages
 pub mod MemberTypes
 pub mod MemberRefusals
 pub mod InheritedRefusals

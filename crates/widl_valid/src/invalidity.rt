@@ -12,12 +12,12 @@ use crate::inherited_refusals::{
 };
 use crate::member_types::find_in_member_types;
 use crate::owners::find_in_owners;
-use crate::type_refusals::find_in_types;
 use std::alloc::{AllocError, Global};
 use widl_definition_rules::find_in_definitions;
 use widl_idl::{Merged, Refusal};
 use widl_names::{Meanings, Parts, Resolver, list_definitions};
 use widl_refusals::earlier_refusal;
+use widl_type_rules::find_in_types;
 
 /// The first refusal of a set of files by the rules of validity, or none where all of them are kept.
 ///

@@ -5,30 +5,17 @@
 #![tactic(auto)]
 
 mod acceptance;
-mod annotation_rules;
 mod apart_members;
-mod clamp_rules;
 mod constant_values;
-mod copied;
-mod indistinguishable_members;
 mod inherited_refusals;
 mod invalidity;
 mod kept_names;
-mod kinds_seen;
-mod lineages;
 mod member_types;
-mod nullable_rules;
 mod overload_counts;
 mod owner_members;
 mod owners;
 mod promise_overloads;
-mod related_interfaces;
 mod repeated_members;
-mod resolved_uses;
-mod role_rules;
 mod stringifiers;
-mod type_refusals;
-mod type_uses;
-mod union_rules;
 
 pub use acceptance::{ValidFault, validate};

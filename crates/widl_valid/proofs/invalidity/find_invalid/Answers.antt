@@ -21,7 +21,7 @@ use Rattle.widl_definition_rules.specs.DefinitionRefusals.{definition_rules}
 use Rattle.widl_valid.specs.InheritedRefusals.{default_rules, dictionary_rules, iterable_rules, overload_rules}
 use Rattle.widl_valid.specs.MemberRefusals.{member_rules}
 use Rattle.widl_refusals.specs.Refusals.{IsFirst, IsFirstOver}
-use Rattle.widl_valid.specs.TypeRefusals.{type_rules}
+use Rattle.widl_type_rules.specs.TypeRefusals.{type_rules}
 use Rattle.widl_refusals.proofs.FirstRefusals.{both_lists}
 use Rattle.widl_valid.proofs.invalidity.find_invalid.Goals as goal
 

@@ -1,0 +1,13 @@
+use Rattle.std.proofs.Common.{take}
+use Rattle.widl_idl.specs.PlainTrees.{plain_definitions}
+use Rattle.widl_names.specs.Listings.{listed_definitions}
+use Rattle.widl_overload.specs.TypeUses.{type_uses_of}
+use Rattle.widl_type_rules.specs.Lineages.{TellRelated}
+use Rattle.widl_refusals.specs.Refusals.{IsFirst}
+use Rattle.widl_type_rules.specs.TypeRefusals.{SomeBreaks, type_rules}
+use Rattle.widl_type_rules.proofs.type_refusals.find_in_types.Given as goal
+
+abbrev pub invariant-loop-definition : goal.invariant-loop-definition
+invariant-loop-definition l =
+    IsFirst (SomeBreaks l.fn.defs.ifaces (plain_definitions l.fn.meanings) (type_uses_of (listed_definitions (take l.definition-index l.definitions)))) type_rules l.best
+    × TellRelated l.fn.defs.ifaces l.lineages.spans.items

@@ -1,0 +1,7 @@
+pub mod UsesListed
+pub mod SettledUses
+pub mod TypeRefusals
+pub mod Misplaced
+pub mod IndistinguishableKinds
+pub mod IndistinguishablePairs
+pub mod Lineages

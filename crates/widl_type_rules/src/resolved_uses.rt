@@ -1,0 +1,110 @@
+//! What a type that is written means, and which types break no rule whatever they mean.
+
+ghost use Rattle.std.specs.Prelude.{◌≡◌, ◌++◌, map, IfOk};
+ghost use Rattle.widl_idl.specs.PlainTrees.{plain_definitions};
+ghost use Rattle.widl_idl.specs.PlainTypes.{attribute_of, form_term, type_of};
+ghost use Rattle.widl_overload.specs.TypeRules.{is_constant_role, takes_undefined};
+ghost use Rattle.widl_type_rules.specs.SettledUses.{are_none, is_settled, is_settled_form, is_settled_type};
+ghost use Rattle.widl_type_rules.specs.UsesListed.{resolved_use, use_of, with_meaning};
+
+use crate::type_uses::TypeUse;
+use std::alloc::{AllocError, Global};
+use widl_idl::IdlType;
+use widl_idl::tree::{ExtendedAttribute, TypeForm, WrittenType};
+use widl_names::{Annotations, MOST_TYPES, Resolver};
+use widl_overload::TypeRole;
+
+/// A type as it is written, with what it means there.
+#[derive(Drop)]
+pub struct ResolvedUse<'a> {
+    /// The type as it is written.
+    pub written: TypeUse<'a>,
+    /// What it means.
+    pub meaning: IdlType,
+}
+
+/// Whether a type breaks no rule on types, whatever else is written: it is one word that no rule speaks of,
+/// with no annotation and no `?`.
+pub fn is_settled(written: &TypeUse<'_>) -> bool
+    ensures { result ≡ is_settled (use_of written.now) }
+{
+    !is_constant(written.role)
+        && are_none(written.outer, written.own)
+        && is_settled_type(written.role, written.ty)
+}
+
+/// Whether there are no extended attributes.
+fn are_none(outer: &[ExtendedAttribute], own: &[ExtendedAttribute]) -> bool
+    ensures { result ≡ are_none (map attribute_of outer.now ++ map attribute_of own.now) }
+{
+    if outer.is_empty() {
+        own.is_empty()
+    } else {
+        false
+    }
+}
+
+fn is_constant(role: TypeRole) -> bool
+    ensures { result ≡ is_constant_role role }
+{
+    matches!(role, TypeRole::Constant)
+}
+
+fn is_settled_type(role: TypeRole, ty: &WrittenType) -> bool
+    ensures { result ≡ is_settled_type role (type_of ty.now) }
+{
+    match ty.question {
+        None => is_settled_form(role, &ty.form),
+        Some(_) => false,
+    }
+}
+
+fn is_settled_form(role: TypeRole, form: &TypeForm) -> bool
+    ensures { result ≡ is_settled_form role (form_term form.now) }
+{
+    match form {
+        TypeForm::Any
+        | TypeForm::Boolean
+        | TypeForm::Object
+        | TypeForm::Integer(_)
+        | TypeForm::Text(_) => true,
+        TypeForm::Undefined => takes_undefined(role),
+        TypeForm::Symbol
+        | TypeForm::BigInt
+        | TypeForm::Float(_)
+        | TypeForm::Buffer(_)
+        | TypeForm::Named(_)
+        | TypeForm::Container(_, _)
+        | TypeForm::Record(_, _)
+        | TypeForm::Promise(_)
+        | TypeForm::Union(_) => false,
+    }
+}
+
+fn takes_undefined(role: TypeRole) -> bool
+    ensures { result ≡ takes_undefined role }
+{
+    matches!(role, TypeRole::Returned | TypeRole::Promised)
+}
+
+/// A type with what it means.
+///
+/// # Errors
+///
+/// Those of [`Resolver::resolve`] for at most [`MOST_TYPES`].
+pub fn resolve_use<'a>(
+    alloc: Global,
+    resolver: &Resolver<'_, '_, 'a>,
+    written: &TypeUse<'a>,
+) -> Result<ResolvedUse<'a>, AllocError>
+    ensures { IfOk result (λ resolved. resolved_use resolved ≡ with_meaning (plain_definitions resolver.now) (use_of written.now)) }
+{
+    let outer = Annotations::of(written.outer);
+    let own = Annotations::of(written.own);
+    let mut room = MOST_TYPES;
+    let meaning = resolver.resolve(alloc, &mut room, outer.followed_by(own), written.ty)?;
+    Ok(ResolvedUse {
+        written: *written,
+        meaning,
+    })
+}

@@ -1,6 +1,0 @@
-use Rattle.std.proofs.Common.{◌≡◌, take, map}
-use Rattle.widl_valid.specs.Lineages.{lineage_of}
-use Rattle.widl_valid.proofs.lineages.Lineages.spans_of.Given as goal
-
-abbrev pub invariant-loop-number : goal.invariant-loop-number
-invariant-loop-number l = l.spans.items ≡ map (lineage_of l.self.spans.items) (take l.number-index l.numbers)
