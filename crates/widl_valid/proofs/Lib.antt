@@ -1,11 +1,2 @@
-pub mod ApartMembers
-pub mod NamedViolations
-pub mod Repetitions
-pub mod Counted
-pub mod Returned
-pub mod SecondStringifiers
-pub mod OwnerRefusals
 pub mod SameSets
 pub mod Valid
-pub mod MemberNodes
-pub mod MemberRefusals

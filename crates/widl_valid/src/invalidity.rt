@@ -1,20 +1,15 @@
 //! The first refusal by all rules of validity, from the first ones by some of them.
 
 ghost use Rattle.std.specs.Prelude.{◌≡◌, IfOk};
-ghost use Rattle.widl_idl.specs.declared.defs.Defs.{Defs};
-ghost use Rattle.widl_idl.specs.PlainTrees.{plain_definitions};
 ghost use Rattle.widl_valid.specs.Invalidity.{IsInvalidity};
-ghost use Rattle.widl_valid.specs.MemberRefusals.{member_rules};
-ghost use Rattle.widl_refusals.specs.Refusals.{IsFirstOver};
 
 use crate::inherited_refusals::{
     find_in_defaults, find_in_dictionaries, find_in_iterables, find_in_overloads,
 };
-use crate::member_types::find_in_member_types;
-use crate::owners::find_in_owners;
 use std::alloc::{AllocError, Global};
 use widl_definition_rules::find_in_definitions;
 use widl_idl::{Merged, Refusal};
+use widl_member_rules::find_in_members;
 use widl_names::{Meanings, Parts, Resolver, list_definitions};
 use widl_refusals::earlier_refusal;
 use widl_type_rules::find_in_types;
@@ -48,20 +43,4 @@ pub fn find_invalid(alloc: Global, merged: &Merged) -> Result<Option<Refusal>, A
     let best = earlier_refusal(best, found);
     let found = find_in_definitions(alloc, all)?;
     Ok(earlier_refusal(best, found))
-}
-
-/// The first refusal by the rules on members, among those of their owner and with what their types mean.
-fn find_in_members<'a>(
-    alloc: Global,
-    meanings: &Meanings<'_, 'a>,
-    parts: &Parts<'_, 'a>,
-    resolver: &Resolver<'_, '_, 'a>,
-) -> Result<Option<Refusal>, AllocError>
-    requires same { parts.now ≡ meanings.now }
-    requires resolved { resolver.now ≡ meanings.now }
-    ensures { IfOk result (λ found. (defs : Defs) → IsFirstOver defs (plain_definitions meanings.now) member_rules found) }
-{
-    let owners = find_in_owners(alloc, meanings, parts, resolver)?;
-    let types = find_in_member_types(alloc, resolver, meanings.all())?;
-    Ok(earlier_refusal(owners, types))
 }

@@ -19,7 +19,7 @@ use Rattle.widl_overload.specs.declared.validity_rule.ValidityRule.{ValidityRule
 use Rattle.widl_overload.specs.Validity.{BreaksValidity}
 use Rattle.widl_definition_rules.specs.DefinitionRefusals.{definition_rules}
 use Rattle.widl_valid.specs.InheritedRefusals.{default_rules, dictionary_rules, iterable_rules, overload_rules}
-use Rattle.widl_valid.specs.MemberRefusals.{member_rules}
+use Rattle.widl_member_rules.specs.MemberRefusals.{member_rules}
 use Rattle.widl_refusals.specs.Refusals.{IsFirst, IsFirstOver}
 use Rattle.widl_type_rules.specs.TypeRefusals.{type_rules}
 use Rattle.widl_refusals.proofs.FirstRefusals.{both_lists}

@@ -1,0 +1,9 @@
+pub mod ApartMembers
+pub mod NamedViolations
+pub mod Repetitions
+pub mod Counted
+pub mod Returned
+pub mod SecondStringifiers
+pub mod OwnerRefusals
+pub mod MemberNodes
+pub mod MemberRefusals

@@ -1,0 +1,5 @@
+pub mod ApartMembers
+pub mod MemberTables
+pub mod Owners
+pub mod MemberTypes
+pub mod MemberRefusals

@@ -1,0 +1,34 @@
+//! The first refusal by the rules on members.
+
+ghost use Rattle.std.specs.Prelude.{◌≡◌, IfOk};
+ghost use Rattle.widl_idl.specs.declared.defs.Defs.{Defs};
+ghost use Rattle.widl_idl.specs.PlainTrees.{plain_definitions};
+ghost use Rattle.widl_member_rules.specs.MemberRefusals.{member_rules};
+ghost use Rattle.widl_refusals.specs.Refusals.{IsFirstOver};
+
+use crate::member_types::find_in_member_types;
+use crate::owners::find_in_owners;
+use std::alloc::{AllocError, Global};
+use widl_idl::Refusal;
+use widl_names::{Meanings, Parts, Resolver};
+use widl_refusals::earlier_refusal;
+
+/// The first refusal by the rules on members, among those of their owner and with what their types mean.
+///
+/// # Errors
+///
+/// `AllocError` where there is no memory, and the errors of [`Resolver::resolve`].
+pub fn find_in_members<'a>(
+    alloc: Global,
+    meanings: &Meanings<'_, 'a>,
+    parts: &Parts<'_, 'a>,
+    resolver: &Resolver<'_, '_, 'a>,
+) -> Result<Option<Refusal>, AllocError>
+    requires same { parts.now ≡ meanings.now }
+    requires resolved { resolver.now ≡ meanings.now }
+    ensures { IfOk result (λ found. (defs : Defs) → IsFirstOver defs (plain_definitions meanings.now) member_rules found) }
+{
+    let owners = find_in_owners(alloc, meanings, parts, resolver)?;
+    let types = find_in_member_types(alloc, resolver, meanings.all())?;
+    Ok(earlier_refusal(owners, types))
+}
