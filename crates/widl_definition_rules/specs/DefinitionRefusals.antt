@@ -1,4 +1,4 @@
--- For proofs alone. The rules on definitions and on lists of arguments, asked of one definition.
+-- The rules on definitions and on lists of arguments, asked of one definition.
 use Rattle.std.specs.Prelude.{List, [], ◌∷◌}
 use Rattle.widl_idl.specs.declared.violation.Violation.{Violation}
 use Rattle.widl_idl.specs.First.{AtOne, Somewhere}

@@ -1,4 +1,4 @@
--- For proofs alone. The rules on members, by themselves with what their types mean and among those of their owner.
+-- The rules on members, by themselves with what their types mean and among those of their owner.
 use Rattle.std.specs.Prelude.{◌⊎◌, List, [], ◌∷◌}
 use Rattle.widl_idl.specs.declared.violation.Violation.{Violation}
 use Rattle.widl_idl.specs.Nodes.{nodes_of}

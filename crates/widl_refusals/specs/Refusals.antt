@@ -1,4 +1,4 @@
--- For proofs alone. The first refusal by some rules of validity.
+-- The first refusal by some rules of validity.
 use Rattle.std.specs.Prelude.{List, Option, None, Some, if◌then◌else◌}
 use Rattle.widl_idl.specs.declared.defs.Defs.{Defs}
 use Rattle.widl_idl.specs.declared.refusal.Refusal.{Refusal}

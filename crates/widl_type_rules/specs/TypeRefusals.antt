@@ -1,4 +1,4 @@
--- For proofs alone. The rules on types, asked of one type.
+-- The rules on types, asked of one type.
 use Rattle.std.specs.Prelude.{List, [], ◌∷◌}
 use Rattle.widl_idl.specs.declared.interface.Iface.{Iface}
 use Rattle.widl_idl.specs.declared.violation.Violation.{Violation}
