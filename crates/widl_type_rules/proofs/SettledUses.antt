@@ -1,28 +1,31 @@
 -- The types of which the rules on types aren't asked break none of them.
-use Rattle.std.proofs.Common.{◌≡◌, Bool, true, false, ℕ, ◌++◌, List, [], ◌∷◌, length, map, eqb-true, None, Some, arith, refl, sym, ap, subst, ◌∙◌}
+use Rattle.std.proofs.Common.{◌≡◌, Bool, true, false, ℕ, ◌++◌, List, [], ◌∷◌, length, map, eqb-true, Option, None, Some, arith, refl, sym, ap, subst, ◌∙◌}
 use Rattle.std.specs.Prelude.{◌&&◌, ◌||◌, ◌==◌, not, Contains}
 use Rattle.std.specs.List.{list_any}
 use Rattle.widl_text.specs.declared.place.Place.{Place}
 use Rattle.widl_idl.specs.declared.interface.Iface.{Iface}
+use Rattle.widl_idl.specs.declared.kind.Kind.{Kind}
+use Rattle.widl_idl.specs.declared.kind.Kind.TheVariants as kinds
 use Rattle.widl_idl.specs.declared.text_kind.TextKind.TheVariants as texts
 use Rattle.widl_idl.specs.declared.violation.Violation.{Violation}
 use Rattle.widl_idl.specs.Flattened.{flattened_member}
+use Rattle.widl_idl.specs.Meanings.{meaning, meant_kind}
 use Rattle.widl_idl.specs.PlainTrees.{PlainDefinition}
-use Rattle.widl_idl.specs.PlainTypes.{PlainForm, PlainAny, PlainUndefined, PlainBoolean, PlainObject, PlainInteger, PlainText, PlainUnion, PlainAttribute, PlainType, plain_type}
+use Rattle.widl_idl.specs.PlainTypes.{PlainForm, PlainAny, PlainUndefined, PlainBoolean, PlainObject, PlainInteger, PlainText, PlainNamed, PlainUnion, PlainAttribute, PlainType, plain_type}
 use Rattle.widl_idl.specs.Resolution.{Note, resolve}
 use Rattle.widl_idl.specs.Terms.{TypeTerm, TypeTerms}
-use Rattle.widl_idl.specs.WrittenTypes.{meaning_of_type, notes_of, typedefs, written_form, written_type}
+use Rattle.widl_idl.specs.WrittenTypes.{meaning_of_type, notes_of, number_among, type_of_kind, type_of_meaning, typedefs, written_form, written_type}
 use Rattle.widl_overload.specs.declared.type_role.TypeRole.{TypeRole}
 use Rattle.widl_overload.specs.declared.validity_rule.ValidityRule.{ValidityRule}
 use Rattle.widl_overload.specs.declared.validity_rule.ValidityRule.TheVariants as rule
-use Rattle.widl_overload.specs.TypeRules.{HasClampAndEnforceRange, HasMisplacedAnnotation, HaveIndistinguishableMembers, HaveNullableAndDictionary, HaveSeveralNullable, IsAnnotatedMember, IsCopiedAttribute, IsNullableDictionary, IsOtherConstantType, IsUndefinedInside, IsWronglyNullable, OfUnion, all_notes, has_question, is_annotated, is_constant_role, is_copied, is_nullable_dictionary, is_undefined_form, is_undefined_word, is_union_form, is_written_union, is_wrongly_nullable, notes_after, notes_in, takes_undefined}
+use Rattle.widl_overload.specs.TypeRules.{HasClampAndEnforceRange, HasMisplacedAnnotation, HaveIndistinguishableMembers, HaveNullableAndDictionary, HaveSeveralNullable, IsAnnotatedMember, IsCopiedAttribute, IsNullableDictionary, IsOtherConstantType, IsUndefinedInside, IsWronglyNullable, OfUnion, all_notes, has_question, is_annotated, is_attribute_role, is_constant_role, is_copied, is_nullable_dictionary, is_undefined_form, is_undefined_word, is_union_form, is_written_union, is_wrongly_nullable, notes_after, notes_in, takes_undefined}
 use Rattle.widl_overload.specs.TypeUses.{TypeUse, meaning_of_use}
-use Rattle.widl_type_rules.specs.SettledUses.{are_none, is_settled, is_settled_form, is_settled_type}
+use Rattle.widl_type_rules.specs.SettledUses.{are_none, is_settled, is_settled_form, is_settled_kind, is_settled_type}
 use Rattle.widl_type_rules.specs.TypeRefusals.{BreaksUse}
 
 -- what the rules ask of what such a type means
-record Settled (t : TypeTerm) : Type 0 where
-  copied : list_any is_copied (flattened_member t) ≡ false
+record Settled (role : TypeRole) (t : TypeTerm) : Type 0 where
+  copied : is_attribute_role role ≡ true → list_any is_copied (flattened_member t) ≡ true → ⊥
   wrongly_nullable : is_wrongly_nullable t ≡ false
   annotated : is_annotated t ≡ false
   nullable_dictionary : is_nullable_dictionary t ≡ false
@@ -30,15 +33,43 @@ record Settled (t : TypeTerm) : Type 0 where
 abbrev meaning_of_word : List PlainDefinition → PlainForm → TypeTerm
 meaning_of_word definitions form = resolve (typedefs definitions) [] (written_form definitions form)
 
-settled_word : (definitions : List PlainDefinition) (role : TypeRole) (form : PlainForm) → is_settled_form role form ≡ true → Settled (meaning_of_word definitions form)
-settled_word definitions role PlainAny e = record { copied = refl; wrongly_nullable = refl; annotated = refl; nullable_dictionary = refl }
-settled_word definitions role PlainBoolean e = record { copied = refl; wrongly_nullable = refl; annotated = refl; nullable_dictionary = refl }
-settled_word definitions role PlainObject e = record { copied = refl; wrongly_nullable = refl; annotated = refl; nullable_dictionary = refl }
-settled_word definitions role (PlainInteger kind) e = record { copied = refl; wrongly_nullable = refl; annotated = refl; nullable_dictionary = refl }
-settled_word definitions role (PlainText texts.Dom) e = record { copied = refl; wrongly_nullable = refl; annotated = refl; nullable_dictionary = refl }
-settled_word definitions role (PlainText texts.Usv) e = record { copied = refl; wrongly_nullable = refl; annotated = refl; nullable_dictionary = refl }
-settled_word definitions role (PlainText texts.Byte) e = record { copied = refl; wrongly_nullable = refl; annotated = refl; nullable_dictionary = refl }
-settled_word definitions role PlainUndefined e = record { copied = refl; wrongly_nullable = refl; annotated = refl; nullable_dictionary = refl }
+not_both : (b : Bool) → b ≡ true → not b ≡ true → ⊥
+not_both true a e = cc
+not_both false a e = cc
+
+differs : (b : Bool) → b ≡ true → b ≡ false → ⊥
+differs b h n = cc
+
+-- none of them holds
+unasked : (role : TypeRole) (t : TypeTerm) → list_any is_copied (flattened_member t) ≡ false → is_wrongly_nullable t ≡ false → is_annotated t ≡ false → is_nullable_dictionary t ≡ false → Settled role t
+unasked role t copied wrongly_nullable annotated nullable_dictionary = record { copied = λ a c. differs (list_any is_copied (flattened_member t)) c copied; wrongly_nullable = wrongly_nullable; annotated = annotated; nullable_dictionary = nullable_dictionary }
+
+of_kind : (definitions : List PlainDefinition) (role : TypeRole) (kind : Kind) (n : ℕ) → is_settled_kind role (Some kind) ≡ true → Settled role (resolve (typedefs definitions) [] (type_of_kind kind n))
+of_kind definitions role kinds.Typedef n e = cc
+of_kind definitions role kinds.Dictionary n e = record { copied = λ a c. not_both (is_attribute_role role) a e; wrongly_nullable = refl; annotated = refl; nullable_dictionary = refl }
+of_kind definitions role kinds.Interface n e = unasked role _ refl refl refl refl
+of_kind definitions role kinds.Enumeration n e = unasked role _ refl refl refl refl
+of_kind definitions role kinds.CallbackFunction n e = unasked role _ refl refl refl refl
+of_kind definitions role kinds.CallbackInterface n e = unasked role _ refl refl refl refl
+of_kind definitions role kinds.Mixin n e = unasked role _ refl refl refl refl
+of_kind definitions role kinds.Namespace n e = unasked role _ refl refl refl refl
+of_kind definitions role kinds.Includes n e = unasked role _ refl refl refl refl
+
+of_meaning : (definitions : List PlainDefinition) (role : TypeRole) (number : Option ℕ) (kind : Option Kind) → is_settled_kind role kind ≡ true → Settled role (resolve (typedefs definitions) [] (type_of_meaning definitions number kind))
+of_meaning definitions role number None e = cc
+of_meaning definitions role None (Some kind) e = unasked role _ refl refl refl refl
+of_meaning definitions role (Some number) (Some kind) e = of_kind definitions role kind (number_among definitions kind number) e
+
+settled_word : (definitions : List PlainDefinition) (role : TypeRole) (form : PlainForm) → is_settled_form definitions role form ≡ true → Settled role (meaning_of_word definitions form)
+settled_word definitions role PlainAny e = unasked role _ refl refl refl refl
+settled_word definitions role PlainBoolean e = unasked role _ refl refl refl refl
+settled_word definitions role PlainObject e = unasked role _ refl refl refl refl
+settled_word definitions role (PlainInteger kind) e = unasked role _ refl refl refl refl
+settled_word definitions role (PlainText texts.Dom) e = unasked role _ refl refl refl refl
+settled_word definitions role (PlainText texts.Usv) e = unasked role _ refl refl refl refl
+settled_word definitions role (PlainText texts.Byte) e = unasked role _ refl refl refl refl
+settled_word definitions role PlainUndefined e = unasked role _ refl refl refl refl
+settled_word definitions role (PlainNamed name) e = of_meaning definitions role (meaning definitions name.text) (meant_kind definitions name.text) e
 settled_word definitions role form e = cc
 
 both_true : (a b : Bool) → (a && b) ≡ true → (a ≡ true) × (b ≡ true)
@@ -54,44 +85,61 @@ none_is [] e = refl
 none_is (a ∷ more) e = cc
 
 -- such a type is a form alone
-record IsWord (role : TypeRole) (ty : PlainType) : Type 0 where
+record IsWord (definitions : List PlainDefinition) (role : TypeRole) (ty : PlainType) : Type 0 where
   at : Place
   form : PlainForm
   is : ty ≡ plain_type at form None
-  settled : is_settled_form role form ≡ true
+  settled : is_settled_form definitions role form ≡ true
 
-word_of : (role : TypeRole) (ty : PlainType) → is_settled_type role ty ≡ true → IsWord role ty
-word_of role (plain_type at form None) e = record { at = at; form = form; is = refl; settled = e }
-word_of role (plain_type at form (Some question)) e = cc
+word_of : (definitions : List PlainDefinition) (role : TypeRole) (ty : PlainType) → is_settled_type definitions role ty ≡ true → IsWord definitions role ty
+word_of definitions role (plain_type at form None) e = record { at = at; form = form; is = refl; settled = e }
+word_of definitions role (plain_type at form (Some question)) e = cc
 
-no_union : (role : TypeRole) (form : PlainForm) → is_settled_form role form ≡ true → is_union_form form ≡ false
-no_union role (PlainUnion members) e = cc
-no_union role form e = refl
+no_union : (definitions : List PlainDefinition) (role : TypeRole) (form : PlainForm) → is_settled_form definitions role form ≡ true → is_union_form form ≡ false
+no_union definitions role (PlainUnion members) e = cc
+no_union definitions role form e = refl
 
 takes_it : (takes : Bool) → takes ≡ true → (not takes || false) ≡ true → ⊥
 takes_it true e h = cc
 takes_it false e h = cc
 
-undefined_taken : (role : TypeRole) (form : PlainForm) → is_settled_form role form ≡ true → is_undefined_form form ≡ true → (not (takes_undefined role) || false) ≡ true → ⊥
-undefined_taken role PlainUndefined e is h = takes_it (takes_undefined role) e h
-undefined_taken role form e is h = cc
+undefined_taken : (definitions : List PlainDefinition) (role : TypeRole) (form : PlainForm) → is_settled_form definitions role form ≡ true → is_undefined_form form ≡ true → (not (takes_undefined role) || false) ≡ true → ⊥
+undefined_taken definitions role PlainUndefined e is h = takes_it (takes_undefined role) e h
+undefined_taken definitions role form e is h = cc
 
-no_notes : (definitions : List PlainDefinition) (role : TypeRole) (form : PlainForm) (inner : ℕ → List Note) → is_settled_form role form ≡ true → notes_in inner (written_form definitions form) ≡ []
+notes_of_kind : (role : TypeRole) (kind : Kind) (n : ℕ) (inner : ℕ → List Note) → is_settled_kind role (Some kind) ≡ true → notes_in inner (type_of_kind kind n) ≡ []
+notes_of_kind role kinds.Typedef n inner e = cc
+notes_of_kind role kinds.Dictionary n inner e = refl
+notes_of_kind role kinds.Interface n inner e = refl
+notes_of_kind role kinds.Enumeration n inner e = refl
+notes_of_kind role kinds.CallbackFunction n inner e = refl
+notes_of_kind role kinds.CallbackInterface n inner e = refl
+notes_of_kind role kinds.Mixin n inner e = refl
+notes_of_kind role kinds.Namespace n inner e = refl
+notes_of_kind role kinds.Includes n inner e = refl
+
+notes_of_meaning : (definitions : List PlainDefinition) (role : TypeRole) (number : Option ℕ) (kind : Option Kind) (inner : ℕ → List Note) → is_settled_kind role kind ≡ true → notes_in inner (type_of_meaning definitions number kind) ≡ []
+notes_of_meaning definitions role number None inner e = cc
+notes_of_meaning definitions role None (Some kind) inner e = refl
+notes_of_meaning definitions role (Some number) (Some kind) inner e = notes_of_kind role kind (number_among definitions kind number) inner e
+
+no_notes : (definitions : List PlainDefinition) (role : TypeRole) (form : PlainForm) (inner : ℕ → List Note) → is_settled_form definitions role form ≡ true → notes_in inner (written_form definitions form) ≡ []
 no_notes definitions role PlainAny inner e = refl
 no_notes definitions role PlainBoolean inner e = refl
 no_notes definitions role PlainObject inner e = refl
 no_notes definitions role (PlainInteger kind) inner e = refl
 no_notes definitions role (PlainText kind) inner e = refl
 no_notes definitions role PlainUndefined inner e = refl
+no_notes definitions role (PlainNamed name) inner e = notes_of_meaning definitions role (meaning definitions name.text) (meant_kind definitions name.text) inner e
 no_notes definitions role form inner e = cc
 
 nothing_listed : {X : Type 0} (xs : List X) (x : X) → xs ≡ [] → Contains xs x → ⊥
 nothing_listed [] x e h = omega (arith, h.1)
 nothing_listed (y ∷ xs) x e h = cc
 
-module _ (definitions : List PlainDefinition) (u : TypeUse) (e : is_settled u ≡ true) where
-  parts : (not (is_constant_role u.role) && are_none u.attributes ≡ true) × (is_settled_type u.role u.ty ≡ true)
-  parts = both_true (not (is_constant_role u.role) && are_none u.attributes) (is_settled_type u.role u.ty) e
+module _ (definitions : List PlainDefinition) (u : TypeUse) (e : is_settled definitions u ≡ true) where
+  parts : (not (is_constant_role u.role) && are_none u.attributes ≡ true) × (is_settled_type definitions u.role u.ty ≡ true)
+  parts = both_true (not (is_constant_role u.role) && are_none u.attributes) (is_settled_type definitions u.role u.ty) e
 
   first_parts : (not (is_constant_role u.role) ≡ true) × (are_none u.attributes ≡ true)
   first_parts = both_true (not (is_constant_role u.role)) (are_none u.attributes) parts.0
@@ -102,32 +150,29 @@ module _ (definitions : List PlainDefinition) (u : TypeUse) (e : is_settled u �
   no_attributes : u.attributes ≡ []
   no_attributes = none_is u.attributes first_parts.1
 
-  word : IsWord u.role u.ty
-  word = word_of u.role u.ty parts.1
+  word : IsWord definitions u.role u.ty
+  word = word_of definitions u.role u.ty parts.1
 
   meaning_is : meaning_of_use definitions u ≡ meaning_of_word definitions word.form
   meaning_is = ap (λ attributes. meaning_of_type definitions (notes_of attributes) u.ty) no_attributes ∙ ap (meaning_of_type definitions []) word.is
 
-  settled : Settled (meaning_of_use definitions u)
-  settled = subst Settled (sym meaning_is) (settled_word definitions u.role word.form word.settled)
-
-  differs : (b : Bool) → b ≡ true → b ≡ false → ⊥
-  differs b h n = cc
+  settled : Settled u.role (meaning_of_use definitions u)
+  settled = subst (Settled u.role) (sym meaning_is) (settled_word definitions u.role word.form word.settled)
 
   no_other_constant_type : (s : Violation) → IsOtherConstantType (meaning_of_use definitions u) u s → ⊥
   no_other_constant_type s h = differs (is_constant_role u.role) h.0.0 no_constant
 
   no_copied_attribute : (s : Violation) → IsCopiedAttribute (meaning_of_use definitions u) u s → ⊥
-  no_copied_attribute s h = differs (list_any is_copied (flattened_member (meaning_of_use definitions u))) h.0.1 settled.copied
+  no_copied_attribute s h = settled.copied h.0.0 h.0.1
 
   no_undefined_inside : (s : Violation) → IsUndefinedInside u s → ⊥
-  no_undefined_inside s h = undefined_taken u.role word.form word.settled (subst (λ t. is_undefined_word t ≡ true) word.is h.0.0) (subst (λ t. (not (takes_undefined u.role) || has_question t) ≡ true) word.is h.0.1)
+  no_undefined_inside s h = undefined_taken definitions u.role word.form word.settled (subst (λ t. is_undefined_word t ≡ true) word.is h.0.0) (subst (λ t. (not (takes_undefined u.role) || has_question t) ≡ true) word.is h.0.1)
 
   no_wrongly_nullable : (s : Violation) → IsWronglyNullable (meaning_of_use definitions u) u s → ⊥
   no_wrongly_nullable s h = differs (is_wrongly_nullable (meaning_of_use definitions u)) h.0 settled.wrongly_nullable
 
   of_no_union : (P : TypeTerms → Type 0) (s : Violation) → OfUnion P (meaning_of_use definitions u) u s → ⊥
-  of_no_union P s h = differs (is_union_form word.form) (subst (λ t. is_written_union t ≡ true) word.is h.0.0) (no_union u.role word.form word.settled)
+  of_no_union P s h = differs (is_union_form word.form) (subst (λ t. is_written_union t ≡ true) word.is h.0.0) (no_union definitions u.role word.form word.settled)
 
   no_annotated_member : (s : Violation) → IsAnnotatedMember (meaning_of_use definitions u) u s → ⊥
   no_annotated_member s h = differs (is_annotated (meaning_of_use definitions u)) h.0.1 settled.annotated

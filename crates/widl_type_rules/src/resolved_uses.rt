@@ -1,17 +1,17 @@
-//! What a type that is written means, and which types break no rule whatever they mean.
+//! What a type that is written means, and which types break no rule on types, as is seen without that.
 
 ghost use Rattle.std.specs.Prelude.{◌≡◌, ◌++◌, map, IfOk};
 ghost use Rattle.widl_idl.specs.PlainTrees.{plain_definitions};
 ghost use Rattle.widl_idl.specs.PlainTypes.{attribute_of, form_term, type_of};
 ghost use Rattle.widl_overload.specs.TypeRules.{is_constant_role, takes_undefined};
-ghost use Rattle.widl_type_rules.specs.SettledUses.{are_none, is_settled, is_settled_form, is_settled_type};
+ghost use Rattle.widl_type_rules.specs.SettledUses.{are_none, is_settled, is_settled_form, is_settled_kind, is_settled_type};
 ghost use Rattle.widl_type_rules.specs.UsesListed.{resolved_use, use_of, with_meaning};
 
 use crate::type_uses::TypeUse;
 use std::alloc::{AllocError, Global};
-use widl_idl::IdlType;
 use widl_idl::tree::{ExtendedAttribute, TypeForm, WrittenType};
-use widl_names::{Annotations, MOST_TYPES, Resolver};
+use widl_idl::{IdlType, Kind};
+use widl_names::{Annotations, MOST_TYPES, Meanings, Resolver};
 use widl_overload::TypeRole;
 
 /// A type as it is written, with what it means there.
@@ -23,14 +23,14 @@ pub struct ResolvedUse<'a> {
     pub meaning: IdlType,
 }
 
-/// Whether a type breaks no rule on types, whatever else is written: it is one word that no rule speaks of,
-/// with no annotation and no `?`.
-pub fn is_settled(written: &TypeUse<'_>) -> bool
-    ensures { result ≡ is_settled (use_of written.now) }
+/// Whether a type breaks no rule on types, as is seen without what it means: it is one word that no rule speaks of, or the
+/// name of a definition that is no typedef, with no annotation and no `?`.
+pub fn is_settled(meanings: &Meanings<'_, '_>, written: &TypeUse<'_>) -> bool
+    ensures { result ≡ is_settled (plain_definitions meanings.now) (use_of written.now) }
 {
     !is_constant(written.role)
         && are_none(written.outer, written.own)
-        && is_settled_type(written.role, written.ty)
+        && is_settled_type(meanings, written.role, written.ty)
 }
 
 /// Whether there are no extended attributes.
@@ -50,17 +50,17 @@ fn is_constant(role: TypeRole) -> bool
     matches!(role, TypeRole::Constant)
 }
 
-fn is_settled_type(role: TypeRole, ty: &WrittenType) -> bool
-    ensures { result ≡ is_settled_type role (type_of ty.now) }
+fn is_settled_type(meanings: &Meanings<'_, '_>, role: TypeRole, ty: &WrittenType) -> bool
+    ensures { result ≡ is_settled_type (plain_definitions meanings.now) role (type_of ty.now) }
 {
     match ty.question {
-        None => is_settled_form(role, &ty.form),
+        None => is_settled_form(meanings, role, &ty.form),
         Some(_) => false,
     }
 }
 
-fn is_settled_form(role: TypeRole, form: &TypeForm) -> bool
-    ensures { result ≡ is_settled_form role (form_term form.now) }
+fn is_settled_form(meanings: &Meanings<'_, '_>, role: TypeRole, form: &TypeForm) -> bool
+    ensures { result ≡ is_settled_form (plain_definitions meanings.now) role (form_term form.now) }
 {
     match form {
         TypeForm::Any
@@ -69,15 +69,26 @@ fn is_settled_form(role: TypeRole, form: &TypeForm) -> bool
         | TypeForm::Integer(_)
         | TypeForm::Text(_) => true,
         TypeForm::Undefined => takes_undefined(role),
+        TypeForm::Named(name) => is_settled_kind(role, meanings.kind(name.text.as_str())),
         TypeForm::Symbol
         | TypeForm::BigInt
         | TypeForm::Float(_)
         | TypeForm::Buffer(_)
-        | TypeForm::Named(_)
         | TypeForm::Container(_, _)
         | TypeForm::Record(_, _)
         | TypeForm::Promise(_)
         | TypeForm::Union(_) => false,
+    }
+}
+
+/// Whether the name of a definition of this kind breaks none of these rules. The types of attributes may be no dictionaries.
+fn is_settled_kind(role: TypeRole, kind: Option<Kind>) -> bool
+    ensures { result ≡ is_settled_kind role kind }
+{
+    match kind {
+        None | Some(Kind::Typedef) => false,
+        Some(Kind::Dictionary) => !matches!(role, TypeRole::Attribute),
+        Some(_) => true,
     }
 }
 

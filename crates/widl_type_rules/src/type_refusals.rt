@@ -48,7 +48,14 @@ pub fn find_in_types<'a>(
     let mut best = None;
     let definitions = meanings.all();
     for definition in definitions {
-        let found = find_in_definition(alloc, defs, &lineages, resolver, &definition.kind)?;
+        let found = find_in_definition(
+            alloc,
+            defs,
+            &lineages,
+            meanings,
+            resolver,
+            &definition.kind,
+        )?;
         best = earlier_refusal(best, found);
     }
     Ok(best)
@@ -59,16 +66,18 @@ fn find_in_definition<'a>(
     alloc: Global,
     defs: &Defs,
     lineages: &Lineages,
+    meanings: &Meanings<'_, 'a>,
     resolver: &Resolver<'_, '_, 'a>,
     kind: &'a DefinitionKind,
 ) -> Result<Option<Refusal>, AllocError>
-    requires { TellRelated defs.now.ifaces lineages.now.spans.items }
+    requires same { resolver.now ≡ meanings.now }
+    requires related { TellRelated defs.now.ifaces lineages.now.spans.items }
     ensures { IfOk result (λ found. IsFirst (SomeBreaks defs.now.ifaces (plain_definitions resolver.now) (uses_in_definition (definition_kind_of kind.now))) type_rules found) }
 {
     let uses = list_type_uses(alloc, kind)?;
     let mut best = None;
     for written in uses.iter() {
-        let found = find_in_use(alloc, defs, lineages, resolver, written)?;
+        let found = find_in_use(alloc, defs, lineages, meanings, resolver, written)?;
         best = earlier_refusal(best, found);
     }
     Ok(best)
@@ -79,13 +88,15 @@ fn find_in_use<'a>(
     alloc: Global,
     defs: &Defs,
     lineages: &Lineages,
+    meanings: &Meanings<'_, 'a>,
     resolver: &Resolver<'_, '_, 'a>,
     written: &TypeUse<'a>,
 ) -> Result<Option<Refusal>, AllocError>
-    requires { TellRelated defs.now.ifaces lineages.now.spans.items }
+    requires same { resolver.now ≡ meanings.now }
+    requires related { TellRelated defs.now.ifaces lineages.now.spans.items }
     ensures { IfOk result (λ found. IsFirst (λ which. BreaksUse defs.now.ifaces (plain_definitions resolver.now) which (use_of written.now)) type_rules found) }
 {
-    if is_settled(written) {
+    if is_settled(meanings, written) {
         Ok(None)
     } else {
         let ty = resolve_use(alloc, resolver, written)?;
