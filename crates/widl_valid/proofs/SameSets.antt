@@ -39,34 +39,7 @@ module _ (a b : Defs) (same : defs_term a ≡ defs_term b) where
   rule_same definitions rule.LongDictionaryChain s h = in_dictionaries (λ dicts. BeginsLongChain dicts s) h
   rule_same definitions rule.IndistinguishableOverloads s h = indistinguishable_overloads_same a b same s h
   rule_same definitions rule.EarlyDifference s h = early_difference_same a b same s h
-  rule_same definitions rule.SecondIterable s h = h
-  rule_same definitions rule.HiddenIterationMethod s h = h
-  rule_same definitions rule.RepeatedEnumerationValue s h = h
-  rule_same definitions rule.RepeatedArgumentName s h = h
-  rule_same definitions rule.ArgumentAfterEllipsis s h = h
-  rule_same definitions rule.RequiredAfterOptional s h = h
-  rule_same definitions rule.OtherConstantType s h = h
-  rule_same definitions rule.OtherConstantValue s h = h
-  rule_same definitions rule.CopiedAttribute s h = h
-  rule_same definitions rule.WronglyNullable s h = h
-  rule_same definitions rule.SeveralNullableMembers s h = h
-  rule_same definitions rule.NullableBesideDictionary s h = h
-  rule_same definitions rule.AnnotatedUnionMember s h = h
-  rule_same definitions rule.NullableDictionary s h = h
-  rule_same definitions rule.MisplacedAnnotation s h = h
-  rule_same definitions rule.ClampAndEnforceRange s h = h
-  rule_same definitions rule.AnnotationOfNoType s h = h
-  rule_same definitions rule.CallbackInterfaceOperations s h = h
-  rule_same definitions rule.Stringifiers s h = h
-  rule_same definitions rule.WritablePromise s h = h
-  rule_same definitions rule.PromisesAndOthers s h = h
-  rule_same definitions rule.NamelessOperation s h = h
-  rule_same definitions rule.UndefinedInside s h = h
-  rule_same definitions rule.RepeatedMember s h = h
-  rule_same definitions rule.KeptName s h = h
-  rule_same definitions rule.TooManyOverloads s h = h
-  rule_same definitions rule.TooManyArguments s h = h
-  rule_same definitions rule.MisformedCallbackOperation s h = h
+  rule_same definitions other s h = h
 
 -- two sets of files with the same definitions and lists of the same terms break the same rules
 pub breaks_same : (a b : MergedSet) → definitions_of a.fragments ≡ definitions_of b.fragments → defs_term a.defs ≡ defs_term b.defs → (which : ValidityRule) (s : Violation) → BreaksValidity a which s → BreaksValidity b which s
