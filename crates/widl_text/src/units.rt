@@ -1,12 +1,13 @@
 //! Texts of 16-bit units.
 
-ghost use Rattle.std.specs.Prelude.{◌≡◌, ◌<◌, ℕ, List, [], ◌∷◌, ◌++◌, length, nat_eq, slice_index, IfOk, OnOk, OnErr};
+ghost use Rattle.std.specs.Prelude.{◌≡◌, ◌<◌, ◌≤◌, ℕ, List, [], ◌∷◌, ◌++◌, length, nat_eq, slice_index, IfOk, OnOk, OnErr};
 ghost use Rattle.std.proofs.Common.{rules};
 ghost use Rattle.std.specs.Hash as fed;
 ghost use Rattle.std.specs.Cmp.{on_equiv, on_per, partial_equiv_from_equiv};
 ghost use Rattle.std.specs.Cmp.Lexicographic.{pointwise, nat_list_eq_equiv};
 ghost use Rattle.std.specs.Cmp.Rules.{comparing, hashing};
 ghost use Rattle.std.specs.Str.{IsAscii, chars};
+ghost use Rattle.widl_text.specs.Storage.{HasRoom, units_in};
 ghost use Rattle.widl_text.specs.Utf16.{utf16_of};
 ghost use Rattle.std.specs.Char.Escape.{encode_utf16};
 
@@ -19,8 +20,12 @@ use std::rc::Rc;
 /// it stands in, and a text that isn't shared is read without a step more.
 const FEWEST_SHARED: usize = 64;
 
+/// The most units that lie in the text itself: so many take no more room than a list does.
+const MOST_INLINE: usize = 15;
+
 /// A text as a script sees it: a list of 16-bit units, in which surrogates need not come in pairs
-/// (ECMA-262, "The String Type"; a `DOMString` of Web IDL). The copies of a long text share its units.
+/// (ECMA-262, "The String Type"; a `DOMString` of Web IDL). The units of a short text lie in the text itself
+/// where it was made from bytes or is a copy, and the copies of a long one share its units.
 #[derive(Debug, Drop)]
 pub struct Units {
     storage: Storage,
@@ -29,6 +34,8 @@ pub struct Units {
 /// Where the units of a text are.
 #[derive(Debug, Drop)]
 enum Storage {
+    /// The first so many of these units. More units are put where the allocator says.
+    Inline(Global, u8, [u16; MOST_INLINE]),
     /// In a list of its own.
     Owned(Vec<u16>),
     /// In a list that copies of the text have too.
@@ -37,11 +44,13 @@ enum Storage {
 
 impl Model for Units {
     ghost use Rattle.std.specs.Prelude.{ℕ, List};
-    ghost use Rattle.widl_text.specs.Storage.{units_in};
+    ghost use Rattle.widl_text.specs.Storage.{HasRoom, units_in};
 
     ghost Value = { List ℕ };
 
     ghost view = { λ u. units_in u.storage };
+
+    ghost invariant = { λ u. HasRoom u.storage };
 }
 
 impl PartialEq for Units {
@@ -98,6 +107,7 @@ impl Units {
         ensures { result.now ≡ self.now }
     {
         match &self.storage {
+            Storage::Inline(_, count, units) => &units[..usize::from(*count)],
             Storage::Owned(items) => items.as_slice(),
             Storage::Shared(items) => items.as_ref().as_slice(),
         }
@@ -114,6 +124,12 @@ impl Units {
     {
         match &mut self.storage {
             Storage::Owned(items) => items.push(unit)?,
+            Storage::Inline(alloc, _, _) => {
+                let items = with_unit(*alloc, self.as_slice(), unit)?;
+                *self = Units {
+                    storage: Storage::Owned(items),
+                };
+            }
             Storage::Shared(items) => {
                 let alloc = *items.as_ref().allocator();
                 let items = with_unit(alloc, self.as_slice(), unit)?;
@@ -167,6 +183,11 @@ impl Units {
     pub fn of_bytes(alloc: Global, bytes: &[u8]) -> Result<Units, AllocError>
         ensures { IfOk result (λ units. units ≡ bytes.now) }
     {
+        if bytes.len() <= MOST_INLINE {
+            return Ok(Units {
+                storage: inline_bytes(alloc, bytes),
+            });
+        }
         let mut items = Vec::with_capacity(alloc, bytes.len())?;
         for byte in bytes {
             items.push_reserved(u16::from(*byte));
@@ -183,12 +204,28 @@ impl Units {
         ensures { IfOk result (λ copy. copy ≡ self.now) }
     {
         match &self.storage {
+            Storage::Inline(alloc, count, units) => Ok(Units {
+                storage: Storage::Inline(*alloc, *count, *units),
+            }),
             Storage::Owned(items) => of_items(items.clone()?),
             Storage::Shared(items) => Ok(Units {
                 storage: Storage::Shared(items.clone()?),
             }),
         }
     }
+}
+
+/// These bytes as units, of which there are few.
+fn inline_bytes(alloc: Global, bytes: &[u8]) -> Storage
+    requires { length bytes.now ≤ MOST_INLINE }
+    ensures units { units_in result ≡ bytes.now }
+    ensures room { HasRoom result }
+{
+    let mut units = [0; MOST_INLINE];
+    for place in 0..bytes.len() {
+        units[place] = u16::from(bytes[place]);
+    }
+    Storage::Inline(alloc, bytes.len() as u8, units)
 }
 
 /// The text of these units, which its copies share if it is long.
