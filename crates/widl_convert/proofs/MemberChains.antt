@@ -2,10 +2,11 @@
 use Rattle.std.proofs.Common.{◌≡◌, ℕ, zero, suc, ◌+◌, List, [], ◌∷◌, ◌++◌, length, Option, None, Some, refl, sym, subst, arith}
 use Rattle.std.specs.Prelude.{Contains, flat_map, slice_get}
 use Rattle.std.specs.List.{AllByRecursion}
-use Rattle.std.specs.Option.{option_map_or, option_to_list}
+use Rattle.std.specs.Option.{option_map_or}
 use Rattle.std.proofs.lemmas.List.Elements.{Contains-append_left, Contains-append_right}
 use mathlib.Core.Logic.{inl, inr}
-use Rattle.widl_graph.specs.Reaching.{Reaches, one, Step}
+use Rattle.widl_graph.specs.Reaching.{Reaches, one}
+use Rattle.widl_graph.proofs.ParentSteps.{up_step}
 use Rattle.widl_graph.proofs.Reach.{after_step}
 use Rattle.widl_idl.specs.DefinitionTerms.{DefsTerm, DictTerm, MemberTerm}
 use Rattle.widl_overload.specs.Dictionaries.{HoldsIn, IsOfLine, dictionaries_in, dictionary_parents}
@@ -48,14 +49,9 @@ module _ (dicts : List DictTerm) where
       by None e = subst (λ (d : Option DictTerm). AllByRecursion (HeldBy n) (option_map_or (λ (x : DictTerm). declared_from level 0 x.members) d [])) (sym e) tt
       by (Some d) e = subst (λ (d : Option DictTerm). AllByRecursion (HeldBy n) (option_map_or (λ (x : DictTerm). declared_from level 0 x.members) d [])) (sym e) (all_declared_from n level 0 d.members (λ k inside. record { declaring = level; dictionary = d; of_line = of_line; is = e; inside = inside }))
 
-  step_to_parent : (ds : List DictTerm) (n p : ℕ) → parent_in ds n ≡ Some p → Step (dictionary_parents ds) n p
-  step_to_parent [] n p e = absurd (cc)
-  step_to_parent (d ∷ ds) zero p e = subst (λ (o : Option ℕ). Contains (option_to_list o) p) (sym e) (0, (omega arith), refl)
-  step_to_parent (d ∷ ds) (suc n) p e = step_to_parent ds n p e
-
   then_parent : (n m p : ℕ) → IsOfLine dicts n m → parent_in dicts m ≡ Some p → IsOfLine dicts n p
-  then_parent n m p (inl same) e = inr (subst (λ (x : ℕ). Reaches (dictionary_parents dicts) x p) (sym same) (one (step_to_parent dicts m p e)))
-  then_parent n m p (inr inherits) e = inr (after_step inherits (step_to_parent dicts m p e))
+  then_parent n m p (inl same) e = inr (subst (λ (x : ℕ). Reaches (dictionary_parents dicts) x p) (sym same) (one (up_step (λ (d : DictTerm). d.parent) dicts m p e)))
+  then_parent n m p (inr inherits) e = inr (after_step inherits (up_step (λ (d : DictTerm). d.parent) dicts m p e))
 
   all_of_line : (links n : ℕ) (m : Option ℕ) → ((x : ℕ) → m ≡ Some x → IsOfLine dicts n x) → AllByRecursion (IsOfLine dicts n) (line_within dicts links m)
   all_of_line zero n m of_line = tt

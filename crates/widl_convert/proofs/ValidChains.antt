@@ -1,13 +1,14 @@
 -- Over the list of a valid set of files no chain of more dictionaries begins than may be.
-use Rattle.std.proofs.Common.{◌≡◌, ℕ, zero, suc, ◌+◌, ◌⊎◌, List, [], ◌∷◌, Some, refl, sym, subst, arith}
+use Rattle.std.proofs.Common.{◌≡◌, ℕ, ◌+◌, ◌⊎◌, List, Some, refl, sym, subst, arith}
 use Rattle.std.specs.Prelude.{slice_get}
 use mathlib.Core.Logic.{inl, inr}
 use Rattle.widl_text.specs.Limits.{most_chained_dictionaries}
-use Rattle.widl_graph.specs.Reaching.{Reaches, one, more, Step}
+use Rattle.widl_graph.proofs.ParentSteps.{step_parent}
+use Rattle.widl_graph.proofs.Reach.{first_step}
 use Rattle.widl_idl.specs.DefinitionTerms.{DictTerm}
 use Rattle.widl_idl.specs.First.{violation_at}
 use Rattle.widl_overload.specs.declared.validity_rule.ValidityRule.TheVariants as rule
-use Rattle.widl_overload.specs.Dictionaries.{BeginsChain, alone, after, HoldsIn, IsOfLine, dictionary_parents, dictionary_terms}
+use Rattle.widl_overload.specs.Dictionaries.{BeginsChain, alone, after, HoldsIn, IsOfLine, dictionary_terms}
 use Rattle.widl_convert.specs.Laws.{ValidChainsEnd}
 
 module _ (dicts : List DictTerm) where
@@ -18,21 +19,13 @@ module _ (dicts : List DictTerm) where
   abbrev IsThere : ℕ → Type 0
   IsThere n = (d : DictTerm) × (slice_get dicts n ≡ Some d)
 
-  first_step : {n m : ℕ} → Reaches (dictionary_parents dicts) n m → (y : ℕ) × Step (dictionary_parents dicts) n y
-  first_step (one {y = y} s) = (y, s)
-  first_step (more {y = y} s r) = (y, s)
-
-there : (dicts : List DictTerm) (n y : ℕ) → Step (dictionary_parents dicts) n y → (d : DictTerm) × (slice_get dicts n ≡ Some d)
-there [] n y s = absurd (omega (arith, s.1))
-there (d ∷ dicts) zero y s = (d, refl)
-there (d ∷ dicts) (suc n) y s = there dicts n y s
-
 is_there : (dicts : List DictTerm) (n m : ℕ) → HoldsIn dicts n m → IsThere dicts n
 is_there dicts n m holds = by holds.of_line
   where
     by : IsOfLine dicts n holds.declaring → IsThere dicts n
     by (inl same) = (holds.dictionary, subst (λ (k : ℕ). slice_get dicts k ≡ Some holds.dictionary) (sym same) holds.is)
-    by (inr inherits) = let s = first_step dicts inherits in there dicts n s.0 s.1
+    by (inr inherits) = let s = first_step inherits in
+        let p = step_parent (λ (d : DictTerm). d.parent) dicts n s.0 s.1 in (p.0, p.1)
 
 pub chains_end : ValidChainsEnd
 chains_end set valid built n is_built chain = by (first_holds (dictionary_terms set.defs) chain)

@@ -12,7 +12,7 @@ use Rattle.widl_definition_rules.specs.DefinitionRefusals.{BreaksDefinition, Def
 use Rattle.widl_refusals.proofs.FirstRefusals.{item_pushed, list_pushed}
 
 lists_pushed : (P : List PlainArgument → PlainArgument → Violation → Type 0) (before : List PlainDefinition) (d : PlainDefinition) → Either (InOneList P before) (InItsLists P d) (InOneList P (before ++ d ∷ []))
-lists_pushed P = list_pushed (AtOne P) (λ (d : PlainDefinition). lists_in_definition d.kind)
+lists_pushed P = list_pushed (AtOne P) (λ (d : PlainDefinition). lists_in_definition true d.kind)
 
 pub definition_pushed : (before : List PlainDefinition) (d : PlainDefinition) (which : ValidityRule) → Either (DefinitionsBreak before which) (BreaksDefinition which d) (DefinitionsBreak (before ++ d ∷ []) which)
 definition_pushed before d rule.RepeatedArgumentName = lists_pushed RepeatsArgument before d

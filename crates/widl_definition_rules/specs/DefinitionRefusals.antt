@@ -15,7 +15,7 @@ definition_rules =
 
 -- one of the lists of arguments of a definition breaks the rule
 abbrev pub InItsLists : (List PlainArgument → PlainArgument → Violation → Type 0) → PlainDefinition → Violation → Type 0
-InItsLists Breaks d s = Somewhere (AtOne Breaks) (lists_in_definition d.kind) s
+InItsLists Breaks d s = Somewhere (AtOne Breaks) (lists_in_definition true d.kind) s
 
 -- a definition breaks the rule; none breaks one that isn't on definitions
 abbrev pub BreaksDefinition : ValidityRule → PlainDefinition → Violation → Type 0

@@ -68,7 +68,7 @@ taken_by_none tables t none (Some l) = none l
 module _ (list : DefsTerm) (tables : Tables) (told : KnowsRequired list tables) where
   pub dictionary_told : (n : ℕ) (v : PlainValue) → (takes_if tables (literal_if v) (DictionaryType n) ≡ true) ↔ IsValueOf list (DictionaryType n) v
   unfolding takes
-  dictionary_told n EmptyDictionaryValue = unset (is_flagged tables.required.items n) (HasRequired list.dicts n) (told.required.tells n)
+  dictionary_told n EmptyDictionaryValue = unset (is_flagged tables.required n) (HasRequired list.dicts n) (told.required.tells n)
   dictionary_told n v = no false refl
 
 module _ (list : DefsTerm) (tables : Tables) (known : Knows list tables) where

@@ -2,7 +2,6 @@ pub mod KeptValues
 pub mod Inherited
 pub mod Fits
 pub mod DefaultValues
-pub mod ParentSteps
 pub mod MainDefinitions
 pub mod MergedParents
 pub mod MergedHierarchies

@@ -5,7 +5,7 @@ use Rattle.std.specs.Option.{option_to_list}
 use Rattle.std.proofs.lemmas.List.{length-map}
 use Rattle.std.proofs.lemmas.Option.{get_or_from_slice_get, same_Some, slice_get_within}
 use Rattle.std.proofs.lemmas.Simd.{map-map}
-use Rattle.widl_graph.specs.Reaching.{Reaches, Step, more, one}
+use Rattle.widl_graph.specs.Reaching.{Reaches, Step, more, one, IsForest}
 use Rattle.widl_idl.specs.declared.defs.Defs.{Defs}
 use Rattle.widl_idl.specs.declared.kind.Kind.{Kind}
 use Rattle.widl_idl.specs.declared.kind.Kind.TheVariants as kinds
@@ -22,10 +22,10 @@ use Rattle.widl_idl.specs.PlainTrees.{PlainDefinition, PlainKind, DictionaryDefi
 use Rattle.widl_idl.specs.PlainTypes.{PlainName}
 use Rattle.widl_idl.specs.WrittenTypes.{is_main_of, number_among}
 use Rattle.widl_overload.specs.Dictionaries.{dictionary_parents, dictionary_terms}
-use Rattle.widl_fits.specs.Hierarchies.{IsForest, IsHierarchy, interface_parents}
+use Rattle.widl_fits.specs.Hierarchies.{IsHierarchy, interface_parents}
 use Rattle.widl_fits.proofs.MainDefinitions.{at_place, count_below, meant_main, place_at, place_of}
 use Rattle.widl_fits.proofs.MergedParents.{none_back}
-use Rattle.widl_fits.proofs.ParentSteps.{step_parent, to_step}
+use Rattle.widl_graph.proofs.ParentSteps.{step_parent, to_step}
 
 first_true : (a b : Bool) → (a && b) ≡ true → a ≡ true
 first_true true b e = refl

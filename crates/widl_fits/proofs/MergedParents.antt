@@ -6,7 +6,8 @@ use Rattle.widl_idl.specs.First.{violation_at}
 use Rattle.widl_idl.specs.Meanings.{declared_name, kind_of}
 use Rattle.widl_idl.specs.MergingRules.{AtName, ComesBack, parent_links, parent_numbers, parent_of}
 use Rattle.widl_idl.specs.PlainTrees.{PlainDefinition, PlainKind, DictionaryDefinition, InterfaceDefinition}
-use Rattle.widl_fits.proofs.ParentSteps.{first_step, from_step}
+use Rattle.widl_graph.proofs.Reach.{first_step}
+use Rattle.widl_graph.proofs.ParentSteps.{from_step}
 
 module _ (definitions : List PlainDefinition) (known : (s : Violation) → ComesBack (parent_links definitions) definitions s → ⊥) where
   -- a definition with a parent has a name

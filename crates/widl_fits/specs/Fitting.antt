@@ -18,7 +18,7 @@ use Rattle.widl_fits.specs.Required.{TellsRequired, is_flagged}
 
 -- the tables tell which dictionaries have required members
 pub record KnowsRequired (list : DefsTerm) (tables : Tables) : Type 0 where
-  pub required : TellsRequired list.dicts tables.required.items
+  pub required : TellsRequired list.dicts tables.required
 
 -- the tables are those of the list
 pub record Knows (list : DefsTerm) (tables : Tables) : Type 0 where
@@ -63,7 +63,7 @@ is_value_of tables number (the.Text text) = is_kept (slice_get tables.values.ite
 is_value_of tables number literal = false
 
 abbrev pub is_empty_dictionary : Tables → ℕ → Literal → Bool
-is_empty_dictionary tables number the.EmptyDict = not (is_flagged tables.required.items number)
+is_empty_dictionary tables number the.EmptyDict = not (is_flagged tables.required number)
 is_empty_dictionary tables number literal = false
 
 -- whether a literal is a value of a type that is neither nullable nor a union

@@ -2,15 +2,10 @@
 -- Source: Web IDL, "inherited interfaces", "Dictionaries" and "inherited dictionaries".
 use Rattle.std.specs.Prelude.{ℕ, List, map}
 use Rattle.std.specs.Option.{option_to_list}
-use Rattle.widl_graph.specs.Reaching.{AreNodes, ReachesItself}
+use Rattle.widl_graph.specs.Reaching.{IsForest}
 use Rattle.widl_idl.specs.declared.interface.Iface.{Iface}
 use Rattle.widl_idl.specs.DefinitionTerms.{DictTerm}
 use Rattle.widl_overload.specs.Dictionaries.{dictionary_parents}
-
--- by these parents, at most one each, each comes from one of these or from none, and none comes from itself
-pub record IsForest (parents : List (List ℕ)) : Type 0 where
-  pub listed : AreNodes parents
-  pub acyclic : (n : ℕ) → ReachesItself parents n → ⊥
 
 -- for each interface that from which it inherits directly, if there is one
 abbrev pub interface_parents : List Iface → List (List ℕ)

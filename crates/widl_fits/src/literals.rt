@@ -14,7 +14,6 @@ ghost use Rattle.widl_overload.specs.DefaultRules.{has_text};
 use crate::choice_values::has_value;
 use crate::machine::literal_is_of_program;
 use crate::ranges::is_in_range;
-use crate::required_members::is_flagged;
 use crate::tables::Tables;
 use widl_idl::{IdlType, IdlTypes, Literal, TextKind, includes_nullable};
 
@@ -95,7 +94,7 @@ fn takes(tables: &Tables<'_>, literal: &Literal, t: &IdlType) -> bool
         },
         IdlType::Seq(_) => matches!(literal, Literal::EmptyList),
         IdlType::Dict(number) => match literal {
-            Literal::EmptyDict => !is_flagged(tables.required.as_slice(), *number as usize),
+            Literal::EmptyDict => !tables.required.has(*number as usize),
             _ => false,
         },
         _ => false,

@@ -7,15 +7,15 @@ ghost use Rattle.widl_fits.specs.Hierarchies.{IsHierarchy};
 ghost use Rattle.widl_overload.specs.Dictionaries.{dictionary_terms};
 
 use crate::choice_values::{ChoiceValues, list_values};
-use crate::required_members::required_members;
+use crate::required_members::RequiredMembers;
 use std::alloc::{AllocError, Global};
 use widl_idl::Defs;
 
 /// Dictionaries and enumerations by their numbers, for those who ask for much.
 #[derive(Drop)]
 pub struct Tables<'d> {
-    /// Whether a dictionary has a required member, inherited ones included.
-    pub required: Vec<bool>,
+    /// Which dictionaries have a required member, inherited ones included.
+    pub required: RequiredMembers,
     /// The values of each enumeration.
     pub values: Vec<ChoiceValues<'d>>,
 }
@@ -30,7 +30,7 @@ impl<'d> Tables<'d> {
         requires { IsHierarchy (dictionary_terms defs.now) }
         ensures { IfOk result (λ tables. Knows (defs_term defs.now) tables) }
     {
-        let required = required_members(alloc, defs.dicts.as_slice())?;
+        let required = RequiredMembers::of(alloc, defs.dicts.as_slice())?;
         let values = list_values(alloc, defs.choices.as_slice())?;
         Ok(Tables { required, values })
     }
@@ -44,7 +44,7 @@ impl<'d> Tables<'d> {
         requires { IsHierarchy (dictionary_terms defs.now) }
         ensures { IfOk result (λ tables. KnowsRequired (defs_term defs.now) tables) }
     {
-        let required = required_members(alloc, defs.dicts.as_slice())?;
+        let required = RequiredMembers::of(alloc, defs.dicts.as_slice())?;
         Ok(Tables {
             required,
             values: Vec::new(alloc),

@@ -3,7 +3,8 @@ use Rattle.std.proofs.Common.{◌≡◌, ◌⊎◌, inl, inr, ℕ, ◌+◌, ◌<
 use Rattle.std.specs.List.{Contains}
 use Rattle.std.proofs.lemmas.List.Elements.{Contains-append_left, Contains-append_right}
 use Rattle.std.proofs.lemmas.Option.{get_or_from_slice_get, slice_get_within}
-use Rattle.widl_graph.specs.Reaching.{Reaches, ReachesItself, Step, more, one}
+use Rattle.widl_graph.specs.Reaching.{IsAcyclic, Reaches, ReachesItself, Step}
+use Rattle.widl_graph.proofs.Reach.{first_step}
 use Rattle.widl_idl.specs.Meanings.{declared_name, kind_of, meant, meant_kind}
 use Rattle.widl_idl.specs.MergingRules.{is_type_kind}
 use Rattle.widl_idl.specs.Nesting.{annotated_depth, annotated_names, deeper, depth_of, form_depth, form_names, meant_depth, named_depth, one_deeper, type_depth, type_names, typedef_links, typedefs_in, union_depth, union_names}
@@ -12,7 +13,7 @@ use Rattle.widl_idl.specs.PlainTrees.{PlainDefinition, PlainKind, PlainTypedef, 
 use Rattle.widl_idl.specs.PlainTypes.{PlainName, PlainForm, PlainType, PlainAnnotated, PlainMembers, PlainNamed, PlainContainer, PlainRecord, PlainPromise, PlainUnion, plain_type, plain_annotated, no_plain, more_plain}
 use Rattle.widl_merge.proofs.TypedefLinks.{flat_has, kind_of_number, link_named, links_at, links_of, meant_at}
 use Rattle.widl_front.proofs.NodeParts.{IsNamedIn, annotated_named, type_named, written_parts}
-use Rattle.widl_front.proofs.Ways.{IsWay, few}
+use Rattle.widl_graph.proofs.Ways.{IsWay, few}
 
 none_inside : (d : Option ℕ) → one_deeper d ≡ None → d ≡ None
 none_inside None e = refl
@@ -74,11 +75,7 @@ module _ (definitions : List PlainDefinition) where
   pub cyclic_typedef : (x : ℕ) → ReachesItself (typedef_links definitions) x → (d : PlainDefinition) × (t : PlainTypedef) × (slice_get definitions x ≡ Some d) × (d.kind ≡ TypedefDefinition t)
   cyclic_typedef x back = by_kind (kind_of_number definitions x) refl (subst (λ ys. Contains ys next.0) (links_at (typedefs_in definitions) definitions x) next.1)
     where
-      first_step : {z : ℕ} → Reaches (typedef_links definitions) x z → (y : ℕ) × Step (typedef_links definitions) x y
-      first_step (one {y = y} s) = (y, s)
-      first_step (more {y = y} s r) = (y, s)
-
-      next : (y : ℕ) × Step (typedef_links definitions) x y
+      next : (y : ℕ) × Step (typedef_links definitions) x y × ((y ≡ x) ⊎ Reaches (typedef_links definitions) y x)
       next = first_step back
 
       by_kind : (kind : Option PlainKind) → kind_of_number definitions x ≡ kind → Contains (links_of (typedefs_in definitions) kind) next.0 → (d : PlainDefinition) × (t : PlainTypedef) × (slice_get definitions x ≡ Some d) × (d.kind ≡ TypedefDefinition t)
@@ -96,7 +93,7 @@ module _ (definitions : List PlainDefinition) where
       by_kind (Some (NamespaceDefinition n)) is typed h = absurd (cc)
       by_kind (Some kind) is typed h = absurd (cc)
 
-  module _ (typed : (name : PlainName) → IsNamedIn (nodes_of definitions) name → is_type_kind (meant_kind definitions name.text) ≡ true) (acyclic : (x : ℕ) → ReachesItself (typedef_links definitions) x → ⊥) where
+  module _ (typed : (name : PlainName) → IsNamedIn (nodes_of definitions) name → is_type_kind (meant_kind definitions name.text) ≡ true) (acyclic : IsAcyclic (typedef_links definitions)) where
     abbrev IsLinked : ℕ → List ℕ → Type 0
     IsLinked = IsWay (typedef_links definitions) (length definitions)
 

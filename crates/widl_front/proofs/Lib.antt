@@ -6,7 +6,6 @@ mod TokenCounts
 mod WrittenTokens
 mod DefinitionCounts
 mod Trees
-mod Ways
 mod NodeParts
 mod KnownDepths
 mod MeantLevels

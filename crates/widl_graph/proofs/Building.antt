@@ -1,6 +1,7 @@
 -- What one more node and one more successor leave of a graph, for those who build one.
-use Rattle.std.proofs.Common.{◌≡◌, ◌⊎◌, inl, inr, ℕ, ◌<◌, zero, suc, List, [], ◌∷◌, ◌++◌, length, refl, ap, subst, arith}
+use Rattle.std.proofs.Common.{◌≡◌, ◌⊎◌, inl, inr, ℕ, ◌+◌, ◌<◌, ◌≤◌, zero, suc, List, [], ◌∷◌, ◌++◌, length, length-append, take, get_or, refl, sym, ap, subst, arith, ◌∙◌}
 use Rattle.std.specs.List.{Contains}
+use Rattle.std.proofs.lemmas.List.{take_more, take_all}
 use Rattle.std.proofs.lemmas.List.Elements.{Contains-push_cases}
 use Rattle.widl_graph.specs.Lists.{with_successor}
 use Rattle.widl_graph.specs.Reaching.{Step, AreBelow, successors_of}
@@ -43,3 +44,17 @@ more_below (xs ∷ (ys ∷ rest)) count z h l (suc x) y s = more_below (ys ∷ r
 
 pub below_successor : (graph : List (List ℕ)) (count z : ℕ) → AreBelow graph count → z < count → AreBelow (with_successor graph z) count
 below_successor graph count z h l = record { below = more_below graph count z h.below l }
+
+-- one more successor of the last node, as a loop over them has it
+pub successor_more : (start : List (List ℕ)) (xs : List ℕ) (i x : ℕ) (old new : List (List ℕ)) → i < length xs → x ≡ get_or xs i x → new ≡ with_successor old x → old ≡ start ++ take i xs ∷ [] → new ≡ start ++ take (i + 1) xs ∷ []
+successor_more start xs i x old new below is added so =
+    added ∙ ap (λ g. with_successor g x) so ∙ with_successor-append start (take i xs) x
+    ∙ ap (λ l. start ++ l ∷ []) (sym (take_more xs i x below ∙ ap (λ y. take i xs ++ y ∷ []) (sym is)))
+
+-- after the last successor
+pub successors_all : (start : List (List ℕ)) (xs : List ℕ) (i : ℕ) (new : List (List ℕ)) → length xs ≤ i → new ≡ start ++ take i xs ∷ [] → new ≡ start ++ xs ∷ []
+successors_all start xs i new past so = so ∙ ap (λ l. start ++ l ∷ []) (take_all i xs past)
+
+-- a graph with one more node has nodes
+pub has_last : (start : List (List ℕ)) (last : List ℕ) (graph : List (List ℕ)) → graph ≡ start ++ last ∷ [] → 0 < length graph
+has_last start last graph so = let size : length graph ≡ length start + length (last ∷ []) = ap length so ∙ length-append start (last ∷ []) in omega (arith, size)

@@ -2,3 +2,8 @@ pub mod Lists
 pub mod Order
 pub mod Reaching
 pub mod Search
+pub mod Walks
+pub mod Flags
+pub mod Spans
+pub mod Children
+pub mod SpanWalks

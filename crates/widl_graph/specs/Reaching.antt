@@ -30,3 +30,12 @@ AreNodes graph = AreBelow graph (length graph)
 pub record TellsCyclic (graph : List (List ℕ)) (flags : List Bool) : Type 0 where
   pub size : length flags ≡ length graph
   pub tells : (x : ℕ) → (slice_get flags x ≡ Some true) ↔ ReachesItself graph x
+
+-- no node reaches itself
+abbrev pub IsAcyclic : List (List ℕ) → Type 0
+IsAcyclic graph = (x : ℕ) → ReachesItself graph x → ⊥
+
+-- where each node is followed by its parent, at most one each: each parent is a node, and no node comes from itself
+pub record IsForest (parents : List (List ℕ)) : Type 0 where
+  pub listed : AreNodes parents
+  pub acyclic : IsAcyclic parents

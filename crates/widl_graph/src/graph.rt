@@ -57,6 +57,21 @@ impl Graph {
         Ok(())
     }
 
+    /// Adds a node with its successors.
+    ///
+    /// # Errors
+    ///
+    /// `AllocError` where there is no memory.
+    pub fn add_linked(&mut self, successors: &[usize]) -> Result<(), AllocError>
+        ensures { OnOk result (self.new ≡ self.old ++ successors.now ∷ []) }
+    {
+        self.add_node()?;
+        for successor in successors {
+            self.add_successor(*successor)?;
+        }
+        Ok(())
+    }
+
     /// How many nodes there are.
     pub fn len(&self) -> usize
         ensures { result ≡ length self.now }

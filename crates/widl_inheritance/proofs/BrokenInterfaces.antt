@@ -8,7 +8,7 @@ use Rattle.widl_idl.specs.PlainTrees.{PlainDefinition, PlainMember}
 use Rattle.widl_idl.proofs.Order.{Either, first_either, first_same}
 use Rattle.widl_inheritance.specs.InterfaceMembers.{members_at}
 use Rattle.widl_inheritance.specs.Iterations.{BelowCount, FollowsIterable, HasSecondAt, HidesAt, IsHiding, TellsMembers}
-use Rattle.widl_inheritance.specs.ReachedFlags.{TellsReached}
+use Rattle.widl_graph.specs.Flags.{TellsReached}
 use Rattle.widl_inheritance.proofs.NumberedMembers.{NamedAt, members_named_at, named_at}
 use Rattle.widl_names.proofs.NamedParts.{meaning_below}
 use Rattle.widl_names.proofs.Pushed.{some_is}

@@ -2,7 +2,7 @@
 use Rattle.std.proofs.Common.{◌≡◌, ◌⊎◌, inl, inr, ℕ, ◌+◌, ◌-◌, ◌<◌, Bool, true, false, List, length, slice_get, Some, arith, refl, ap, subst, ◌∙◌, nat_lt}
 use Rattle.std.specs.List.{Contains}
 use Rattle.std.proofs.lemmas.Option.{slice_get-get_or}
-use Rattle.widl_fits.proofs.ParentSteps.{parent_step}
+use Rattle.widl_graph.proofs.ParentSteps.{parent_step}
 use Rattle.widl_fits.specs.Hierarchies.{IsHierarchy}
 use Rattle.widl_graph.specs.Reaching.{Reaches, ReachesItself, Step, one, more}
 use Rattle.widl_graph.proofs.Reach.{joined}

@@ -4,10 +4,10 @@ use Rattle.std.specs.List.{Contains}
 use Rattle.std.specs.Option.{option_to_list}
 use Rattle.std.proofs.lemmas.List.Elements.{Contains-append_left, Contains-append_right, Contains-append_cases}
 use Rattle.std.proofs.lemmas.Option.{same_Some, slice_get_within}
-use Rattle.widl_fits.proofs.ParentSteps.{first_step, listed_parent, parent_step, step_parent}
+use Rattle.widl_graph.proofs.ParentSteps.{listed_parent, parent_step, step_parent}
 use Rattle.widl_graph.specs.Reaching.{AreNodes, Reaches, Step, one, more}
 use Rattle.widl_graph.proofs.Complete.{step_within}
-use Rattle.widl_graph.proofs.Reach.{joined}
+use Rattle.widl_graph.proofs.Reach.{joined, first_step}
 use Rattle.widl_idl.specs.DefinitionTerms.{DictTerm}
 use Rattle.widl_inheritance.specs.HoldingGraph.{IsHoldingGraph}
 use Rattle.widl_overload.specs.Dictionaries.{HoldsIn, Inherits, LeadsTo, at_once, dictionaries_of_members, dictionary_parents, further}

@@ -8,8 +8,8 @@ use Rattle.std.proofs.lemmas.List.Folds.{list_any_more}
 use Rattle.std.proofs.lemmas.Option.{same_Some, slice_get-map, slice_get_read, slice_get_within}
 use Rattle.std.proofs.lemmas.Simd.{map-map}
 use Rattle.widl_graph.proofs.Gets.{take_still, take_was}
-use Rattle.widl_fits.specs.Hierarchies.{IsForest, IsHierarchy}
-use Rattle.widl_graph.specs.Reaching.{Reaches}
+use Rattle.widl_graph.specs.Reaching.{IsForest, Reaches}
+use Rattle.widl_fits.specs.Hierarchies.{IsHierarchy}
 use Rattle.widl_idl.specs.DefinitionTerms.{DictTerm, MemberTerm, dict_term}
 use Rattle.widl_idl.specs.declared.dictionary.Dict.{Dict}
 use Rattle.widl_idl.specs.declared.violation.Violation.{Violation}
@@ -19,8 +19,8 @@ use Rattle.widl_idl.proofs.Steps.{first_next, first_start}
 use Rattle.widl_overload.specs.Dictionaries.{dictionary_parents}
 use Rattle.widl_overload.specs.DictionaryRules.{HasNameTwice, InheritsMember, RepeatsName, has_member}
 use Rattle.widl_inheritance.specs.MemberEnds.{RepeatsKept, RepeatsKnown, has_after, members_at, past_at}
-use Rattle.widl_inheritance.specs.Spans.{AreSpans, AreWhole, parent_graph, span_of}
-use Rattle.widl_inheritance.specs.declared.spans.Span.{Span}
+use Rattle.widl_graph.specs.Spans.{AreSpans, AreWhole, parent_graph, span_of}
+use Rattle.widl_graph.specs.declared.spans.Span.{Span}
 
 -- the dictionaries from which these inherit directly
 abbrev pub parents_in : List DictTerm → List (Option ℕ)

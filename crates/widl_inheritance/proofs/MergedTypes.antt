@@ -8,7 +8,7 @@ use Rattle.std.proofs.lemmas.Option.{same_Some}
 use Rattle.widl_text.specs.declared.place.Place.{Place}
 use Rattle.widl_fits.specs.Hierarchies.{IsHierarchy}
 use Rattle.widl_fits.proofs.MergedHierarchies.{dictionary_listed, merged_hierarchy}
-use Rattle.widl_fits.proofs.ParentSteps.{listed_parent, parent_step}
+use Rattle.widl_graph.proofs.ParentSteps.{listed_parent, parent_step}
 use Rattle.widl_idl.specs.declared.defs.Defs.{Defs}
 use Rattle.widl_idl.specs.declared.kind.Kind.{Kind}
 use Rattle.widl_idl.specs.declared.kind.Kind.TheVariants as kinds

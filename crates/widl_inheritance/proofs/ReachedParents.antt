@@ -1,13 +1,12 @@
 -- An interface inherits from those that it reaches through parents.
 use Rattle.std.proofs.Common.{◌≡◌, ◌↔◌, ℕ, ◌≤◌, zero, suc, Bool, true, false, nat_eq, List, length, Option, None, Some, arith, refl, ap, subst, ◌∙◌}
 use Rattle.std.specs.Prelude.{if◌then◌else◌}
-use Rattle.widl_fits.proofs.ParentSteps.{child_within, step_up, up_step}
+use Rattle.widl_graph.proofs.ParentSteps.{child_within, step_up, up_step}
 use Rattle.widl_fits.specs.Hierarchies.{interface_parents}
-use Rattle.widl_graph.specs.Reaching.{Reaches, Step, one, more}
+use Rattle.widl_graph.specs.Reaching.{Reaches, Step, one, more, IsAcyclic}
 use Rattle.widl_idl.specs.declared.interface.Iface.{Iface}
 use Rattle.widl_overload.specs.Inheritance.{inherits, is_among, parent_of}
-use Rattle.widl_inheritance.specs.ReachedFlags.{IsAcyclic}
-use Rattle.widl_inheritance.proofs.ParentChains.{Climbs, above, climbs_more, climbs_on, few, next, next_is}
+use Rattle.widl_graph.proofs.ParentChains.{Climbs, above, climbs_more, climbs_on, few_above, next, next_is}
 
 module _ (ifaces : List Iface) where
   -- one of so many parents is reached
@@ -60,7 +59,7 @@ module _ (ifaces : List Iface) where
 
   module _ (acyclic : IsAcyclic (interface_parents ifaces)) where
     few_parents : (m count : ℕ) → Climbs (parent_of ifaces) m count → count ≤ length ifaces
-    few_parents m count c = few (parent_of ifaces) (interface_parents ifaces) acyclic (up_step (λ (i : Iface). i.parent) ifaces) (length ifaces) (child_within (λ (i : Iface). i.parent) ifaces) m count c
+    few_parents m count c = few_above (parent_of ifaces) (interface_parents ifaces) acyclic (up_step (λ (i : Iface). i.parent) ifaces) (length ifaces) (child_within (λ (i : Iface). i.parent) ifaces) m count c
 
     pub inherits_reaching : (m n : ℕ) → (inherits ifaces m n ≡ true) ↔ Reaches (interface_parents ifaces) m n
     inherits_reaching m n = (reached (length ifaces) m n, λ r. let w = way_of r in more_links (suc w.count) (length ifaces) n (parent_of ifaces m) (few_parents m (suc w.count) w.climbs) (among w.count m n w.climbs w.last))

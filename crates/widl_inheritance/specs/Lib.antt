@@ -4,10 +4,6 @@ pub mod WrittenFitting
 pub mod EmptyDefaults
 pub mod HoldingGraph
 pub mod ChainLengths
-pub mod Spans
-pub mod Children
-pub mod SpanWalks
 pub mod MemberEnds
 pub mod InterfaceMembers
-pub mod ReachedFlags
 pub mod Iterations

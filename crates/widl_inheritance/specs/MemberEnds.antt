@@ -8,8 +8,8 @@ use Rattle.widl_idl.specs.declared.violation.Violation.{Violation}
 use Rattle.widl_idl.specs.First.{AtOne}
 use Rattle.widl_idl.specs.MergingRules.{IsAt}
 use Rattle.widl_overload.specs.DictionaryRules.{has_member}
-use Rattle.widl_inheritance.specs.Spans.{span_of}
-use Rattle.widl_inheritance.specs.declared.spans.Span.{Span}
+use Rattle.widl_graph.specs.Spans.{span_of}
+use Rattle.widl_graph.specs.declared.spans.Span.{Span}
 
 -- the place that is kept for a name, or 0
 abbrev pub end_of : {S : Type 0} → IndexMap (Bor (List ℕ)) ℕ S → List ℕ → ℕ

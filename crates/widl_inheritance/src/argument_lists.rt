@@ -8,9 +8,10 @@ ghost use Rattle.widl_inheritance.specs.WrittenLists.{listed_arguments};
 
 use std::alloc::{AllocError, Global};
 use widl_idl::tree::{Argument, Arguments, Definition, DefinitionKind, Member, MemberKind};
+use widl_names::members_in;
 
-/// The lists of arguments of callback functions, operations, constructors and asynchronous iterables, in
-/// the order of the source.
+/// The lists of arguments of operations and constructors, in the order of the source; where `all` are
+/// asked for, those of callbacks and of asynchronous iterables, too.
 ///
 /// # Errors
 ///
@@ -18,17 +19,18 @@ use widl_idl::tree::{Argument, Arguments, Definition, DefinitionKind, Member, Me
 pub fn list_arguments<'a>(
     alloc: Global,
     definitions: &[&'a Definition],
+    all: bool,
 ) -> Result<Vec<&'a [Argument]>, AllocError>
-    ensures { IfOk result (λ lists. listed_arguments lists.items ≡ argument_lists_of (listed_definitions definitions.now)) }
+    ensures { IfOk result (λ lists. listed_arguments lists.items ≡ argument_lists_of all (listed_definitions definitions.now)) }
 {
     let mut lists = Vec::new(alloc);
     for definition in definitions {
-        add_definition(&mut lists, &definition.kind)?;
+        add_definition(&mut lists, &definition.kind, all)?;
     }
     Ok(lists)
 }
 
-/// The lists of arguments of one definition, in the order of the source.
+/// All lists of arguments of one definition, in the order of the source.
 ///
 /// # Errors
 ///
@@ -37,10 +39,10 @@ pub fn arguments_in<'a>(
     alloc: Global,
     kind: &'a DefinitionKind,
 ) -> Result<Vec<&'a [Argument]>, AllocError>
-    ensures { IfOk result (λ lists. listed_arguments lists.items ≡ lists_in_definition (definition_kind_of kind.now)) }
+    ensures { IfOk result (λ lists. listed_arguments lists.items ≡ lists_in_definition true (definition_kind_of kind.now)) }
 {
     let mut lists = Vec::new(alloc);
-    add_definition(&mut lists, kind)?;
+    add_definition(&mut lists, kind, true)?;
     Ok(lists)
 }
 
@@ -48,48 +50,48 @@ pub fn arguments_in<'a>(
 fn add_definition<'a>(
     lists: &mut Vec<&'a [Argument]>,
     kind: &'a DefinitionKind,
+    all: bool,
 ) -> Result<(), AllocError>
-    ensures { OnOk result (listed_arguments lists.new.items ≡ listed_arguments lists.old.items ++ lists_in_definition (definition_kind_of kind.now)) }
+    ensures { OnOk result (listed_arguments lists.new.items ≡ listed_arguments lists.old.items ++ lists_in_definition all (definition_kind_of kind.now)) }
 {
     match kind {
-        DefinitionKind::Callback(callback) => add_list(lists, &callback.arguments),
-        DefinitionKind::CallbackInterface(callback) => {
-            add_members(lists, callback.members.as_slice())
+        DefinitionKind::Callback(callback) if all => add_list(lists, &callback.arguments),
+        DefinitionKind::CallbackInterface(callback) if all => {
+            add_members(lists, callback.members.as_slice(), true)
         }
-        DefinitionKind::Interface(interface) => add_members(lists, interface.members.as_slice()),
-        DefinitionKind::Mixin(mixin) => add_members(lists, mixin.members.as_slice()),
-        DefinitionKind::Namespace(namespace) => add_members(lists, namespace.members.as_slice()),
-        DefinitionKind::Dictionary(_)
-        | DefinitionKind::Enumeration(_)
-        | DefinitionKind::Typedef(_)
-        | DefinitionKind::Includes(_) => Ok(()),
+        _ => add_members(lists, members_in(kind), all),
     }
 }
 
 /// Adds the lists of members.
-fn add_members<'a>(lists: &mut Vec<&'a [Argument]>, members: &'a [Member]) -> Result<(), AllocError>
-    ensures { OnOk result (listed_arguments lists.new.items ≡ listed_arguments lists.old.items ++ lists_in_members (members_of members.now)) }
+fn add_members<'a>(
+    lists: &mut Vec<&'a [Argument]>,
+    members: &'a [Member],
+    all: bool,
+) -> Result<(), AllocError>
+    ensures { OnOk result (listed_arguments lists.new.items ≡ listed_arguments lists.old.items ++ lists_in_members all (members_of members.now)) }
 {
     for member in members {
-        add_member(lists, &member.kind)?;
+        add_member(lists, &member.kind, all)?;
     }
     Ok(())
 }
 
 /// Adds the list of a member, if it has one.
-fn add_member<'a>(lists: &mut Vec<&'a [Argument]>, kind: &'a MemberKind) -> Result<(), AllocError>
-    ensures { OnOk result (listed_arguments lists.new.items ≡ listed_arguments lists.old.items ++ lists_in_member (member_kind_of kind.now)) }
+fn add_member<'a>(
+    lists: &mut Vec<&'a [Argument]>,
+    kind: &'a MemberKind,
+    all: bool,
+) -> Result<(), AllocError>
+    ensures { OnOk result (listed_arguments lists.new.items ≡ listed_arguments lists.old.items ++ lists_in_member all (member_kind_of kind.now)) }
 {
     match kind {
         MemberKind::Operation(operation) => add_list(lists, &operation.arguments),
         MemberKind::Constructor(constructor) => add_list(lists, &constructor.arguments),
-        MemberKind::AsyncIterable(iterable) => add_optional_list(lists, &iterable.arguments),
-        MemberKind::Constant(_)
-        | MemberKind::Attribute(_)
-        | MemberKind::Stringifier(_)
-        | MemberKind::Iterable(_)
-        | MemberKind::Maplike(_)
-        | MemberKind::Setlike(_) => Ok(()),
+        MemberKind::AsyncIterable(iterable) if all => {
+            add_optional_list(lists, &iterable.arguments)
+        }
+        _ => Ok(()),
     }
 }
 
@@ -107,7 +109,7 @@ fn add_optional_list<'a>(
 }
 
 /// Adds a list.
-pub fn add_list<'a>(
+fn add_list<'a>(
     lists: &mut Vec<&'a [Argument]>,
     arguments: &'a Arguments,
 ) -> Result<(), AllocError>

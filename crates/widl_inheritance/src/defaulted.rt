@@ -38,7 +38,7 @@ pub fn list_defaults<'a>(
     ensures { IfOk result (λ list. listed_defaults list.items ≡ defaults_of (listed_definitions definitions.now)) }
 {
     let mut defaults = Vec::new(alloc);
-    let lists = list_arguments(alloc, definitions)?;
+    let lists = list_arguments(alloc, definitions, true)?;
     add_lists(&mut defaults, lists.as_slice())?;
     add_definitions(&mut defaults, definitions)?;
     Ok(defaults)

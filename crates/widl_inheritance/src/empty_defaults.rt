@@ -16,7 +16,7 @@ ghost use Rattle.widl_overload.specs.ArgumentRules.{is_required};
 ghost use Rattle.widl_overload.specs.DefaultRules.{HasNoEmptyDefault, LacksEmptyDefault};
 ghost use Rattle.widl_overload.specs.Dictionaries.{dictionary_terms};
 
-use crate::call_lists::list_calls;
+use crate::argument_lists::list_arguments;
 use std::alloc::{AllocError, Global};
 use widl_fits::{Tables, any_takes};
 use widl_idl::tree::{Argument, ArgumentKind, Definition, TypeForm, WrittenType};
@@ -41,7 +41,7 @@ pub fn first_without_empty_default<'a>(
     requires hierarchy { IsHierarchy (dictionary_terms defs.now) }
     ensures { IfOk result (λ found. FirstWhere (HasNoEmptyDefault (defs_term defs.now) (plain_definitions resolver.now)) found) }
 {
-    let lists = list_calls(alloc, definitions)?;
+    let lists = list_arguments(alloc, definitions, false)?;
     let tables = Tables::of_dictionaries(alloc, defs)?;
     first_lacking(alloc, &tables, resolver, lists.as_slice())
 }
@@ -150,22 +150,7 @@ fn may_take_dictionary(ty: &WrittenType) -> bool
 fn is_name_or_union(form: &TypeForm) -> bool
     ensures { result ≡ is_name_or_union (form_term form.now) }
 {
-    match form {
-        TypeForm::Named(_) | TypeForm::Union(_) => true,
-        TypeForm::Any
-        | TypeForm::Undefined
-        | TypeForm::Boolean
-        | TypeForm::Object
-        | TypeForm::Symbol
-        | TypeForm::BigInt
-        | TypeForm::Integer(_)
-        | TypeForm::Float(_)
-        | TypeForm::Text(_)
-        | TypeForm::Buffer(_)
-        | TypeForm::Container(_, _)
-        | TypeForm::Record(_, _)
-        | TypeForm::Promise(_) => false,
-    }
+    matches!(form, TypeForm::Named(_) | TypeForm::Union(_))
 }
 
 /// Whether a type is a dictionary without required members, or a union with one among its flattened

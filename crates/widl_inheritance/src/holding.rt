@@ -18,9 +18,8 @@ ghost use Rattle.widl_overload.specs.Dictionaries.{dictionaries_in, dictionaries
 ghost use Rattle.widl_overload.specs.DictionaryRules.{HoldsItself};
 
 use std::alloc::{AllocError, Global};
-use widl_graph::{Graph, Walk};
+use widl_graph::{Graph, Walk, flag_at};
 use widl_idl::{Dict, IdlType, Violation, earlier_violation};
-use widl_names::add_linked;
 
 /// Which dictionaries stand in the types of the members of which.
 #[derive(Drop)]
@@ -72,20 +71,10 @@ pub(crate) fn first_flagged(flags: &[bool], dicts: &[Dict]) -> Option<Violation>
 fn flagged(flags: &[bool], number: usize, dict: &Dict) -> Option<Violation>
     ensures { FirstWhere (λ s. (slice_get flags.now number ≡ Some true) × IsAt dict.now.at s) result }
 {
-    if is_set(flags, number) {
+    if flag_at(flags, number) {
         Some(Violation::at(dict.at))
     } else {
         None
-    }
-}
-
-/// Whether the flag with this number is set.
-fn is_set(flags: &[bool], number: usize) -> bool
-    ensures { IsTrue result ↔ (slice_get flags.now number ≡ Some true) }
-{
-    match flags.get(number) {
-        None => false,
-        Some(flag) => *flag,
     }
 }
 
@@ -96,7 +85,7 @@ fn type_graph(alloc: Global, count: usize) -> Result<Graph, AllocError>
 {
     let mut graph = Graph::new(alloc);
     for number in 0..count {
-        add_linked(&mut graph, &[count + number])?;
+        graph.add_linked(&[count + number])?;
     }
     Ok(graph)
 }
@@ -109,7 +98,7 @@ fn add_members(alloc: Global, graph: &mut Graph, dicts: &[Dict]) -> Result<(), A
 {
     for dict in dicts {
         let links = links_of(alloc, dicts.len(), dict)?;
-        add_linked(graph, links.as_slice())?;
+        graph.add_linked(links.as_slice())?;
     }
     Ok(())
 }

@@ -4,14 +4,14 @@ ghost use Rattle.std.specs.Prelude.{◌≡◌, length, IfOk};
 ghost use Rattle.widl_idl.specs.MergingRules.{parent_links};
 ghost use Rattle.widl_idl.specs.PlainTrees.{plain_definitions};
 ghost use Rattle.widl_inheritance.specs.Iterations.{TellsMembers};
-ghost use Rattle.widl_inheritance.specs.ReachedFlags.{IsAcyclic, TellsReached};
+ghost use Rattle.widl_graph.specs.Reaching.{IsAcyclic};
+ghost use Rattle.widl_graph.specs.Flags.{TellsReached};
 ghost use Rattle.widl_overload.specs.IterableRules.{has_iterable, has_iteration_name};
 
 use crate::interface_members::interface_members;
 use crate::iterations::{has_iterable, has_iteration_name};
-use crate::reached_flags::flags_reached;
 use std::alloc::{AllocError, Global};
-use widl_graph::Walk;
+use widl_graph::{Walk, flags_reached};
 use widl_names::{Meanings, Parts, parent_graph};
 
 /// Flags of interfaces, by the numbers of their definitions.

@@ -7,14 +7,14 @@ ghost use Rattle.widl_idl.specs.First.{FirstWhere, earlier};
 ghost use Rattle.widl_idl.specs.MergingRules.{parent_links};
 ghost use Rattle.widl_idl.specs.PlainTrees.{plain_definitions};
 ghost use Rattle.widl_inheritance.specs.Iterations.{BelowCount, HasSecondAt, HidesAt, TellsMembers};
-ghost use Rattle.widl_inheritance.specs.ReachedFlags.{IsAcyclic};
+ghost use Rattle.widl_graph.specs.Reaching.{IsAcyclic};
 ghost use Rattle.widl_overload.specs.IterableRules.{HasSecondIterable, HidesIterationMethod, has_iterable};
 
 use crate::interface_lines::{InterfaceFlags, inherited_flags, own_flags};
 use crate::interface_members::interface_members;
 use crate::iterations::{first_hiding_iterable, first_second_iterable};
-use crate::reached_flags::{either_flag, flag_at};
 use std::alloc::{AllocError, Global};
+use widl_graph::{either_flag, flag_at};
 use widl_idl::{Violation, earlier_violation};
 use widl_names::{Meanings, Parts};
 

@@ -2,9 +2,8 @@
 
 ghost use Rattle.std.specs.Prelude.{◌≡◌, ◌↔◌, ℕ, List, true};
 ghost use Rattle.widl_fits.specs.Hierarchies.{interface_parents};
-ghost use Rattle.widl_graph.specs.Reaching.{Reaches};
+ghost use Rattle.widl_graph.specs.Reaching.{Reaches, IsAcyclic};
 ghost use Rattle.widl_idl.specs.declared.interface.Iface.{Iface as IfaceType};
-ghost use Rattle.widl_inheritance.specs.ReachedFlags.{IsAcyclic};
 ghost use Rattle.widl_overload.specs.Inheritance.{inherits};
 
 /// An interface inherits from another one exactly where it reaches it through parents, in each list in which

@@ -2,12 +2,9 @@
 //! their members, on arguments that a call may leave out, and on iterables. It stands on the merged list of
 //! `widl_idl`, on the names of `widl_names`, on `widl_fits`, which tells whether a literal fits a type, and on
 //! `widl_overload`, where each rule is stated. The contract that is used above: each function answers exactly the first place at which its rule is broken, or none.
-//! [`Spans`] tells of the nodes of any forest which come from which.
 #![tactic(auto)]
 
 mod argument_lists;
-mod call_lists;
-mod children;
 mod defaulted;
 mod defaults;
 mod empty_defaults;
@@ -20,9 +17,6 @@ mod iterations;
 pub mod laws;
 mod long_chains;
 mod member_names;
-mod reached_flags;
-mod span_walk;
-mod spans;
 mod written_fitting;
 
 pub use argument_lists::arguments_in;
@@ -32,4 +26,3 @@ pub use holding::{Holdings, first_holding_itself};
 pub use iterables::{IterableViolations, find_iterables};
 pub use long_chains::first_long_chain;
 pub use member_names::first_repeated_member;
-pub use spans::{Span, Spans};

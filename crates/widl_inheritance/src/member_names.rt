@@ -12,12 +12,12 @@ ghost use Rattle.widl_idl.specs.DefinitionTerms.{DictTerm, dict_term, member_ter
 ghost use Rattle.widl_idl.specs.First.{AtOne, FirstWhere, violation_at};
 ghost use Rattle.widl_overload.specs.DictionaryRules.{HasNameTwice, has_member};
 ghost use Rattle.widl_inheritance.specs.MemberEnds.{RepeatsKept, RepeatsKnown, end_of, has_after};
-ghost use Rattle.widl_inheritance.specs.Spans.{AreSpans, AreWhole, span_of};
-ghost use Rattle.widl_inheritance.specs.declared.spans.Span as declared;
+ghost use Rattle.widl_graph.specs.Spans.{AreSpans, AreWhole, span_of};
+ghost use Rattle.widl_graph.specs.declared.spans.Span as declared;
 
-use crate::spans::{Span, Spans};
 use indexmap::IndexMap;
 use std::alloc::{AllocError, Global};
+use widl_graph::{Span, Spans};
 use widl_idl::{Dict, Member, Violation, earlier_violation};
 
 /// The first place of the name of a dictionary member that an earlier member of the dictionary has, or one

@@ -153,6 +153,3 @@ owners_first all found l = same_breaks (OwnersBreak all all) (ByOwner all) membe
 -- what a rule finds in the members of an owner that it asks
 pub asked_first : (kind : Kind) (members : List PlainMember) (asked : Kind → Bool) (Breaks : List PlainMember → PlainMember → Violation → Type 0) (found : Option Violation) → asked kind ≡ true → FirstWhere (AtOne Breaks members) found → FirstWhere (InMembers kind members asked Breaks) found
 asked_first kind members asked Breaks found is l = first_same (AtOne Breaks members) (InMembers kind members asked Breaks) found (λ s u. (is, u)) (λ s h. h.1) l
-
-pub not_asked : (kind : Kind) (members : List PlainMember) (asked : Kind → Bool) (Breaks : List PlainMember → PlainMember → Violation → Type 0) → asked kind ≡ false → FirstWhere (InMembers kind members asked Breaks) None
-not_asked kind members asked Breaks is = λ s h. absurd (let yes = h.0 in (cc))

@@ -10,6 +10,7 @@ use Rattle.widl_idl.specs.MergedMembers.{operation_text}
 use Rattle.widl_idl.specs.MergingRules.{both_or_none, is_static}
 use Rattle.widl_idl.specs.PlainTypes.{PlainName}
 use Rattle.widl_idl.specs.PlainTrees.{PlainDefinition, PlainOperation, PlainMemberKind, ConstructorMember, OperationMember}
+use Rattle.widl_names.specs.declared.operation_names.OperationNames.{OperationNames}
 use Rattle.widl_names.specs.KnownTexts.{has_name, has_text}
 use Rattle.widl_overload.specs.MemberRules.{returns_promise}
 
@@ -55,8 +56,8 @@ gives_promise definitions (OperationMember o) = returns_promise definitions o
 gives_promise definitions kind = false
 
 -- whether an operation of this name, static or not, is known that returns a promise, or one that returns none
-abbrev pub has_returned : {S : Type 0} → IndexSet (Bor (List ℕ)) S → IndexSet (Bor (List ℕ)) S → IndexSet (Bor (List ℕ)) S → IndexSet (Bor (List ℕ)) S → List ℕ → Bool → Bool → Bool
-has_returned regular_promises fixed_promises regular_others fixed_others text static promise = if promise then has_name regular_promises fixed_promises text static else has_name regular_others fixed_others text static
+abbrev pub has_returned : (promises others : OperationNames) → List ℕ → Bool → Bool → Bool
+has_returned promises others text static promise = if promise then has_name promises text static else has_name others text static
 
 -- the place of the name of an operation that returns a promise, or none, where all that are known of its name don't
 abbrev pub violation_of_other : (List ℕ → Bool → Bool → Bool) → Bool → PlainMemberKind → Option Violation

@@ -85,7 +85,7 @@ fn is_promise(ty: &IdlType) -> bool
 
 impl<'a> ReturnedKinds<'a> {
     fn new(alloc: Global) -> ReturnedKinds<'a>
-        ensures { (text : List ℕ) (static : Bool) (promise : Bool) → has_returned result.promises.regular result.promises.fixed result.others.regular result.others.fixed text static promise ≡ false }
+        ensures { (text : List ℕ) (static : Bool) (promise : Bool) → has_returned result.promises result.others text static promise ≡ false }
     {
         ReturnedKinds {
             promises: OperationNames::new(alloc),
@@ -96,7 +96,7 @@ impl<'a> ReturnedKinds<'a> {
     /// The place of the name of a member, an operation that returns a promise or not, where all that are
     /// known of its name return the other.
     fn differing(&self, promise: bool, kind: &MemberKind) -> Option<Violation>
-        ensures { result ≡ violation_of_other (has_returned self.now.promises.regular self.now.promises.fixed self.now.others.regular self.now.others.fixed) promise (member_kind_of kind.now) }
+        ensures { result ≡ violation_of_other (has_returned self.now.promises self.now.others) promise (member_kind_of kind.now) }
     {
         match kind {
             MemberKind::Operation(operation) => self.differing_operation(promise, operation),
@@ -105,7 +105,7 @@ impl<'a> ReturnedKinds<'a> {
     }
 
     fn differing_operation(&self, promise: bool, operation: &Operation) -> Option<Violation>
-        ensures { result ≡ violation_of_name (operation_of operation.now).name (λ text. has_returned self.now.promises.regular self.now.promises.fixed self.now.others.regular self.now.others.fixed text (is_static operation.now.kind) (not promise) && not (has_returned self.now.promises.regular self.now.promises.fixed self.now.others.regular self.now.others.fixed text (is_static operation.now.kind) promise)) }
+        ensures { result ≡ violation_of_name (operation_of operation.now).name (λ text. has_returned self.now.promises self.now.others text (is_static operation.now.kind) (not promise) && not (has_returned self.now.promises self.now.others text (is_static operation.now.kind) promise)) }
     {
         let name = operation.name.as_ref()?;
         if self.are_others(name.text.as_str(), is_static(operation.kind), promise) {
@@ -116,13 +116,13 @@ impl<'a> ReturnedKinds<'a> {
     }
 
     fn are_others(&self, text: &str, fixed: bool, promise: bool) -> bool
-        ensures { result ≡ (has_returned self.now.promises.regular self.now.promises.fixed self.now.others.regular self.now.others.fixed text.now fixed (not promise) && not (has_returned self.now.promises.regular self.now.promises.fixed self.now.others.regular self.now.others.fixed text.now fixed promise)) }
+        ensures { result ≡ (has_returned self.now.promises self.now.others text.now fixed (not promise) && not (has_returned self.now.promises self.now.others text.now fixed promise)) }
     {
         self.contains(text, fixed, !promise) && !self.contains(text, fixed, promise)
     }
 
     fn contains(&self, text: &str, fixed: bool, promise: bool) -> bool
-        ensures { result ≡ has_returned self.now.promises.regular self.now.promises.fixed self.now.others.regular self.now.others.fixed text.now fixed promise }
+        ensures { result ≡ has_returned self.now.promises self.now.others text.now fixed promise }
     {
         if promise {
             self.promises.contains(text, fixed)
@@ -133,7 +133,7 @@ impl<'a> ReturnedKinds<'a> {
 
     /// Adds the name of a member, if it is an operation; it is empty where the operation has none.
     fn add(&mut self, promise: bool, kind: &'a MemberKind) -> Result<(), AllocError>
-        ensures { OnOk result ((text : List ℕ) (static asked : Bool) → has_returned self.new.promises.regular self.new.promises.fixed self.new.others.regular self.new.others.fixed text static asked ≡ (has_returned self.old.promises.regular self.old.promises.fixed self.old.others.regular self.old.others.fixed text static asked || (is_overload text static (member_kind_of kind.now) && both_or_none asked promise))) }
+        ensures { OnOk result ((text : List ℕ) (static asked : Bool) → has_returned self.new.promises self.new.others text static asked ≡ (has_returned self.old.promises self.old.others text static asked || (is_overload text static (member_kind_of kind.now) && both_or_none asked promise))) }
     {
         match kind {
             MemberKind::Operation(operation) => self.insert(promise, operation),
@@ -142,7 +142,7 @@ impl<'a> ReturnedKinds<'a> {
     }
 
     fn insert(&mut self, promise: bool, operation: &'a Operation) -> Result<(), AllocError>
-        ensures { OnOk result ((text : List ℕ) (static asked : Bool) → has_returned self.new.promises.regular self.new.promises.fixed self.new.others.regular self.new.others.fixed text static asked ≡ (has_returned self.old.promises.regular self.old.promises.fixed self.old.others.regular self.old.others.fixed text static asked || (has_overload text static (operation_of operation.now) && both_or_none asked promise))) }
+        ensures { OnOk result ((text : List ℕ) (static asked : Bool) → has_returned self.new.promises self.new.others text static asked ≡ (has_returned self.old.promises self.old.others text static asked || (has_overload text static (operation_of operation.now) && both_or_none asked promise))) }
     {
         let text = operation_text(operation);
         let fixed = is_static(operation.kind);

@@ -8,13 +8,13 @@ use Rattle.widl_graph.specs.Order.{IsOrder, StandsBefore}
 use Rattle.widl_graph.specs.declared.walk.Walk.{Walk}
 use Rattle.widl_graph.specs.Reaching.{Step, Reaches, ReachesItself, one, more}
 use Rattle.widl_graph.proofs.Orders.{earlier_place}
-use Rattle.widl_graph.proofs.Reach.{after_step}
+use Rattle.widl_graph.proofs.Reach.{cyclic_step}
 use Rattle.widl_idl.specs.Meanings.{meaning, meant}
 use Rattle.widl_idl.specs.Nesting.{annotated_depth, annotated_names, meant_depth, named_depth, number_if_typedef, typedef_links, typedef_named, typedefs_in}
 use Rattle.widl_idl.specs.PlainTypes.{PlainName}
 use Rattle.widl_idl.specs.PlainTrees.{PlainDefinition, PlainKind, PlainTypedef, TypedefDefinition}
 use Rattle.widl_merge.specs.Depths.{capped, is_flagged, AreCapped, AreSteady, TellsDepths, kept_depth, number_depth, table_depth}
-use Rattle.widl_merge.specs.Links.{IsWalk}
+use Rattle.widl_graph.specs.Walks.{IsWalkOver}
 use Rattle.widl_merge.proofs.CappedDepths.{capped_twice, annotated_same, annotated_unknown, meant_same, only_item}
 use Rattle.widl_merge.proofs.TypedefLinks.{kind_of_number, link_named, links_at, links_of, meant_at}
 use Rattle.widl_names.proofs.NameMeanings.{meaning_below}
@@ -27,17 +27,6 @@ flat_from f (first ∷ xs) y c = elim (Contains-append_cases (f first) (flat_map
   where
     later : (x : _) × Contains xs x × Contains (f x) y → (x : _) × Contains (first ∷ xs) x × Contains (f x) y
     later h = (h.0, (suc h.1.0, omega (arith, h.1.1), h.1.2), h.2)
-
-first_step : {graph : List (List ℕ)} {x z : ℕ} → Reaches graph x z → (y : ℕ) × Step graph x y × ((y ≡ z) ⊎ Reaches graph y z)
-first_step (one {y = y} s) = (y, s, inl refl)
-first_step (more {y = y} s r) = (y, s, inr r)
-
--- what reaches itself leads to something that does
-cyclic_step : (graph : List (List ℕ)) (x : ℕ) → ReachesItself graph x → (y : ℕ) × Step graph x y × ReachesItself graph y
-cyclic_step graph x r = by_first (first_step r)
-  where
-    by_first : (y : ℕ) × Step graph x y × ((y ≡ x) ⊎ Reaches graph y x) → (y : ℕ) × Step graph x y × ReachesItself graph y
-    by_first h = (h.0, h.1, elim h.2 [ inl e ↦ subst (λ n. Reaches graph n n) (sym e) r | inr back ↦ after_step back h.1 ])
 
 module _ (definitions : List PlainDefinition) where
   abbrev links : List (List ℕ)
@@ -133,7 +122,7 @@ module _ (definitions : List PlainDefinition) (order : List ℕ) (count : ℕ) (
           ap capped there ∙ all.same z ∙ sym there
 
 -- what the next definition's depth is, by whether it reaches itself
-module _ (definitions : List PlainDefinition) (walk : Walk) (count : ℕ) (depths : List (Option ℕ)) (walked : IsWalk (typedef_links definitions) walk) where
+module _ (definitions : List PlainDefinition) (walk : Walk) (count : ℕ) (depths : List (Option ℕ)) (walked : IsWalkOver (typedef_links definitions) walk) where
   pub depth_found : (x : ℕ) (depth : Option ℕ) → AreCapped depths → AreSteady definitions walk.order.items count depths → slice_get walk.order.items count ≡ Some x
       → depth ≡ cond (is_flagged (slice_get walk.cyclic.items x)) None (capped (number_depth definitions (table_depth definitions depths) x))
       → (levels : ℕ) → count + 1 ≤ levels → capped (number_depth definitions (named_depth definitions levels) x) ≡ depth

@@ -15,9 +15,3 @@ Returns links number d s = ReachesItself links number × AtName (declared_name d
 -- the same of the definition that stands after these
 abbrev pub ReturnsAfter : List (List ℕ) → List PlainDefinition → PlainDefinition → Violation → Type 0
 ReturnsAfter links before d s = Returns links (length before) d s
-
--- what a walk over the links finds: which definitions come back to themselves, and an order in which all that the others lead to stands before them
-pub record IsWalk (links : List (List ℕ)) (walk : Walk) : Type 0 where
-  pub cyclic : TellsCyclic links walk.cyclic.items
-  pub order : IsOrder (length links) walk.order.items
-  pub before : (x y : ℕ) → (ReachesItself links x → ⊥) → Step links x y → StandsBefore walk.order.items y x

@@ -1,6 +1,6 @@
 //! Definitions that links between them lead back to.
 
-ghost use Rattle.std.specs.Prelude.{◌≡◌, ◌↔◌, ℕ, List, IsTrue, Some, slice_get, true};
+ghost use Rattle.std.specs.Prelude.{ℕ, List};
 ghost use Rattle.widl_graph.specs.Reaching.{TellsCyclic};
 ghost use Rattle.widl_idl.specs.First.{FirstWhere};
 ghost use Rattle.widl_idl.specs.MergingRules.{ComesBack};
@@ -8,6 +8,7 @@ ghost use Rattle.widl_idl.specs.PlainTrees.{definition_of};
 ghost use Rattle.widl_merge.specs.Links.{Returns};
 ghost use Rattle.widl_names.specs.Listings.{listed_definitions};
 
+use widl_graph::flag_at;
 use widl_idl::tree::Definition;
 use widl_idl::{Violation, earlier_violation};
 use widl_names::name_declared;
@@ -31,20 +32,10 @@ fn coming_back(cyclic: &[bool], number: usize, definition: &Definition) -> Optio
 {
     match name_declared(&definition.kind) {
         None => None,
-        Some(name) => if is_set(cyclic, number) {
+        Some(name) => if flag_at(cyclic, number) {
             Some(Violation::at(name.at))
         } else {
             None
         },
-    }
-}
-
-/// Whether the flag with this number is set.
-pub fn is_set(flags: &[bool], number: usize) -> bool
-    ensures { IsTrue result ↔ (slice_get flags.now number ≡ Some true) }
-{
-    match flags.get(number) {
-        None => false,
-        Some(flag) => *flag,
     }
 }

@@ -9,7 +9,7 @@ ghost use Rattle.widl_idl.specs.Nodes.{nodes_of};
 ghost use Rattle.widl_idl.specs.declared.merging_rule.MergingRule as rules;
 ghost use Rattle.widl_idl.specs.declared.merging_rule.MergingRule.TheVariants as rule;
 ghost use Rattle.widl_names.specs.Listings.{listed_definitions, nodes_listed};
-ghost use Rattle.widl_merge.specs.Links.{IsWalk};
+ghost use Rattle.widl_graph.specs.Walks.{IsWalkOver};
 ghost use Rattle.widl_merge.specs.Refusals.{IsMergingRefusal};
 ghost use Rattle.widl_merge.specs.NodeRules.{AreFirst};
 
@@ -68,7 +68,7 @@ fn join_links(
     violations: NodeViolations,
     best: Option<Refusal>,
 ) -> Result<Option<Refusal>, AllocError>
-    requires walk { IsWalk (typedef_links (plain_definitions meanings.now)) walk.now }
+    requires walk { IsWalkOver (typedef_links (plain_definitions meanings.now)) walk.now }
     requires violations { AreFirst (plain_definitions meanings.now) (nodes_of (plain_definitions meanings.now)) violations }
     ensures { IfOk result (λ earliest. (others : List rules.MergingRule) → FirstBroken merging_number (BreaksMerging (plain_definitions meanings.now)) others best → FirstBroken merging_number (BreaksMerging (plain_definitions meanings.now)) (rule.InheritsFromItself ∷ rule.TypedefReachesItself ∷ rule.NestsTooDeep ∷ others) earliest) }
 {

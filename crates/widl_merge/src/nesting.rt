@@ -8,12 +8,11 @@ ghost use Rattle.widl_idl.specs.PlainTrees.{definition_kind_of, plain_definition
 ghost use Rattle.widl_idl.specs.PlainTypes.{name_of, form_term, type_of, annotated_of, union_of};
 ghost use Rattle.widl_idl.specs.Nodes.{TypeNode};
 ghost use Rattle.widl_merge.specs.Depths.{capped, is_deep, is_flagged, AreCapped, TellsDepths, number_depth, table_depth};
-ghost use Rattle.widl_merge.specs.Links.{IsWalk};
+ghost use Rattle.widl_graph.specs.Walks.{IsWalkOver};
 ghost use Rattle.widl_names.specs.Listings.{node_of};
 
-use crate::cycles::is_set;
 use std::alloc::{AllocError, Global};
-use widl_graph::Walk;
+use widl_graph::{Walk, flag_at};
 use widl_idl::Violation;
 use widl_idl::tree::{AnnotatedType, DefinitionKind, Name, TypeForm, WrittenType};
 use widl_names::{Meanings, Node, kind_at};
@@ -30,7 +29,7 @@ pub fn definition_depths(
     meanings: &Meanings<'_, '_>,
     walk: &Walk,
 ) -> Result<Vec<Option<usize>>, AllocError>
-    requires { IsWalk (typedef_links (plain_definitions meanings.now)) walk.now }
+    requires { IsWalkOver (typedef_links (plain_definitions meanings.now)) walk.now }
     ensures capped { IfOk result (λ depths. AreCapped depths.items) }
     ensures tells { IfOk result (λ depths. TellsDepths (plain_definitions meanings.now) depths.items) }
 {
@@ -64,7 +63,7 @@ fn walked_depth(
     requires { AreCapped depths.now }
     ensures { result ≡ (if is_flagged (slice_get cyclic.now number) then None else capped (number_depth (plain_definitions meanings.now) (table_depth (plain_definitions meanings.now) depths.now) number)) }
 {
-    if is_set(cyclic, number) {
+    if flag_at(cyclic, number) {
         None
     } else {
         number_depth(meanings, depths, number)

@@ -94,7 +94,7 @@ fn first_repeated(alloc: Global, parts: &[&DefinitionKind]) -> Result<Option<Vio
 
 /// The first place of the name of an operation among these members that is known.
 fn first_known(known: &OperationNames<'_>, members: &[Member]) -> Option<Violation>
-    ensures { FirstWhere (Somewhere (IsKnown (has_name known.now.regular known.now.fixed)) (members_of members.now)) result }
+    ensures { FirstWhere (Somewhere (IsKnown (has_name known.now)) (members_of members.now)) result }
 {
     let mut best = None;
     for member in members {
@@ -105,7 +105,7 @@ fn first_known(known: &OperationNames<'_>, members: &[Member]) -> Option<Violati
 }
 
 fn known_member(known: &OperationNames<'_>, kind: &MemberKind) -> Option<Violation>
-    ensures { result ≡ known_at (has_name known.now.regular known.now.fixed) (member_kind_of kind.now) }
+    ensures { result ≡ known_at (has_name known.now) (member_kind_of kind.now) }
 {
     match kind {
         MemberKind::Operation(operation) => known_operation(known, operation),
@@ -114,7 +114,7 @@ fn known_member(known: &OperationNames<'_>, kind: &MemberKind) -> Option<Violati
 }
 
 fn known_operation(known: &OperationNames<'_>, operation: &Operation) -> Option<Violation>
-    ensures { result ≡ known_name (has_name known.now.regular known.now.fixed) (is_static operation.now.kind) (operation_of operation.now).name }
+    ensures { result ≡ known_name (has_name known.now) (is_static operation.now.kind) (operation_of operation.now).name }
 {
     let name = operation.name.as_ref()?;
     if known.contains(name.text.as_str(), is_static(operation.kind)) {
@@ -126,7 +126,7 @@ fn known_operation(known: &OperationNames<'_>, operation: &Operation) -> Option<
 
 /// Adds the names of the operations among these members.
 fn add_all<'a>(known: &mut OperationNames<'a>, members: &'a [Member]) -> Result<(), AllocError>
-    ensures { OnOk result ((text : List ℕ) (static : Bool) → has_name known.new.regular known.new.fixed text static ≡ (has_name known.old.regular known.old.fixed text static || list_any (λ m. is_operation_of text static m.kind) (members_of members.now))) }
+    ensures { OnOk result ((text : List ℕ) (static : Bool) → has_name known.new text static ≡ (has_name known.old text static || list_any (λ m. is_operation_of text static m.kind) (members_of members.now))) }
 {
     for member in members {
         add_member(known, &member.kind)?;
@@ -135,7 +135,7 @@ fn add_all<'a>(known: &mut OperationNames<'a>, members: &'a [Member]) -> Result<
 }
 
 fn add_member<'a>(known: &mut OperationNames<'a>, kind: &'a MemberKind) -> Result<(), AllocError>
-    ensures { OnOk result ((text : List ℕ) (static : Bool) → has_name known.new.regular known.new.fixed text static ≡ (has_name known.old.regular known.old.fixed text static || is_operation_of text static (member_kind_of kind.now))) }
+    ensures { OnOk result ((text : List ℕ) (static : Bool) → has_name known.new text static ≡ (has_name known.old text static || is_operation_of text static (member_kind_of kind.now))) }
 {
     match kind {
         MemberKind::Operation(operation) => add_operation(known, operation),
@@ -147,7 +147,7 @@ fn add_operation<'a>(
     known: &mut OperationNames<'a>,
     operation: &'a Operation,
 ) -> Result<(), AllocError>
-    ensures { OnOk result ((text : List ℕ) (static : Bool) → has_name known.new.regular known.new.fixed text static ≡ (has_name known.old.regular known.old.fixed text static || (is_text_of text (operation_of operation.now).name && both_or_none static (is_static operation.now.kind)))) }
+    ensures { OnOk result ((text : List ℕ) (static : Bool) → has_name known.new text static ≡ (has_name known.old text static || (is_text_of text (operation_of operation.now).name && both_or_none static (is_static operation.now.kind)))) }
 {
     match &operation.name {
         None => Ok(()),

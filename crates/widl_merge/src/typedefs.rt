@@ -8,18 +8,18 @@ ghost use Rattle.widl_idl.specs.MergingRules.{BreaksMerging};
 ghost use Rattle.widl_idl.specs.Nesting.{number_if_typedef, typedef_links, typedef_named, typedefs_in, form_names, type_names, annotated_names, union_names};
 ghost use Rattle.widl_idl.specs.PlainTrees.{definition_kind_of, plain_definitions};
 ghost use Rattle.widl_idl.specs.PlainTypes.{name_of, form_term, type_of, annotated_of, union_of};
-ghost use Rattle.widl_merge.specs.Links.{IsWalk};
+ghost use Rattle.widl_graph.specs.Walks.{IsWalkOver};
 
 use crate::cycles::first_coming_back;
 use std::alloc::{AllocError, Global};
 use widl_graph::{Graph, Walk};
 use widl_idl::tree::{AnnotatedType, DefinitionKind, Name, TypeForm, WrittenType};
 use widl_idl::{Kind, Violation};
-use widl_names::{Meanings, add_linked, number_meant};
+use widl_names::{Meanings, number_meant};
 
 /// The first place of the name of a typedef that reaches itself.
 pub fn first_typedef_reaching_itself(meanings: &Meanings<'_, '_>, walk: &Walk) -> Option<Violation>
-    requires { IsWalk (typedef_links (plain_definitions meanings.now)) walk.now }
+    requires { IsWalkOver (typedef_links (plain_definitions meanings.now)) walk.now }
     ensures { FirstWhere (BreaksMerging (plain_definitions meanings.now) rule.TypedefReachesItself) result }
 {
     first_coming_back(walk.cyclic.as_slice(), meanings.all())
@@ -31,7 +31,7 @@ pub fn first_typedef_reaching_itself(meanings: &Meanings<'_, '_>, walk: &Walk) -
 ///
 /// `AllocError` where there is no memory.
 pub fn walk_typedefs(alloc: Global, meanings: &Meanings<'_, '_>) -> Result<Walk, AllocError>
-    ensures { IfOk result (λ walk. IsWalk (typedef_links (plain_definitions meanings.now)) walk) }
+    ensures { IfOk result (λ walk. IsWalkOver (typedef_links (plain_definitions meanings.now)) walk) }
 {
     let graph = typedefs(alloc, meanings)?;
     Walk::over(alloc, &graph)
@@ -45,7 +45,7 @@ fn typedefs(alloc: Global, meanings: &Meanings<'_, '_>) -> Result<Graph, AllocEr
     let definitions = meanings.all();
     for definition in definitions {
         let named = typedefs_in(alloc, meanings, &definition.kind)?;
-        add_linked(&mut graph, named.as_slice())?;
+        graph.add_linked(named.as_slice())?;
     }
     Ok(graph)
 }

@@ -1,11 +1,9 @@
 -- The graph of parents: what each definition leads to is a definition.
-use Rattle.std.proofs.Common.{◌≡◌, ℕ, ◌+◌, ◌<◌, ◌≤◌, ◌++◌, Bool, true, false, cond, zero, suc, List, [], ◌∷◌, length, take, map, get_or, Option, None, Some, arith, refl, sym, ap, subst, ◌∙◌, length-append}
+use Rattle.std.proofs.Common.{◌≡◌, ℕ, ◌+◌, ◌<◌, ◌≤◌, ◌++◌, Bool, true, false, cond, zero, suc, List, [], ◌∷◌, length, take, map, get_or, Option, None, Some, arith, refl, sym, ap, subst, ◌∙◌}
 use Rattle.std.specs.Prelude.{option_to_list}
 use Rattle.std.specs.List.{Contains}
 use Rattle.std.proofs.lemmas.List.{length-map, take_more, take_all, take-map, map-append}
-use Rattle.widl_graph.specs.Lists.{with_successor}
 use Rattle.widl_graph.specs.Reaching.{AreNodes, Step}
-use Rattle.widl_graph.proofs.Building.{with_successor-append}
 use Rattle.widl_idl.specs.declared.kind.Kind.{Kind}
 use Rattle.widl_idl.specs.Meanings.{kind_of, meaning, meant_kind, same_kind}
 use Rattle.widl_idl.specs.MergingRules.{is_kind, number_of_kind, parent_links, parent_numbers, parent_of}
@@ -80,17 +78,3 @@ module _ {X Y : Type 0} (f : X → Y) (xs : List X) (ys : List Y) (same : map f 
 
   pub links_all : (i : ℕ) (new : List (List ℕ)) → length xs ≤ i → new ≡ map g (take i ys) → new ≡ map g ys
   links_all i new past so = so ∙ ap (map g) (take_all i ys (let size : length xs ≡ length ys = sym (length-map xs f) ∙ ap length same in omega (arith, size)))
-
--- one more successor of the last node, as a loop over them has it
-pub successor_more : (start : List (List ℕ)) (xs : List ℕ) (i x : ℕ) (old new : List (List ℕ)) → i < length xs → x ≡ get_or xs i x → new ≡ with_successor old x → old ≡ start ++ take i xs ∷ [] → new ≡ start ++ take (i + 1) xs ∷ []
-successor_more start xs i x old new below is added so =
-    added ∙ ap (λ g. with_successor g x) so ∙ with_successor-append start (take i xs) x
-    ∙ ap (λ l. start ++ l ∷ []) (sym (take_more xs i x below ∙ ap (λ y. take i xs ++ y ∷ []) (sym is)))
-
--- after the last successor
-pub successors_all : (start : List (List ℕ)) (xs : List ℕ) (i : ℕ) (new : List (List ℕ)) → length xs ≤ i → new ≡ start ++ take i xs ∷ [] → new ≡ start ++ xs ∷ []
-successors_all start xs i new past so = so ∙ ap (λ l. start ++ l ∷ []) (take_all i xs past)
-
--- a graph with one more node has nodes
-pub has_last : (start : List (List ℕ)) (last : List ℕ) (graph : List (List ℕ)) → graph ≡ start ++ last ∷ [] → 0 < length graph
-has_last start last graph so = let size : length graph ≡ length start + length (last ∷ []) = ap length so ∙ length-append start (last ∷ []) in omega (arith, size)

@@ -33,7 +33,7 @@ pub use most_types::MOST_TYPES;
 pub use names::{is_partial, kind_of, main_name, name_declared, partial_name};
 pub use nodes::Node;
 pub use operation_names::{OperationNames, add_text, is_static};
-pub use parents::{add_linked, parent_graph, parent_of};
+pub use parents::{parent_graph, parent_of};
 pub use part_members::list_members;
 pub use parts::{Parts, group_at, members_in, no_groups, put_in_group};
 pub use resolver::Resolver;

@@ -12,28 +12,28 @@ use widl_idl::tree::OperationKind;
 #[derive(Drop)]
 pub struct OperationNames<'a> {
     /// Those of operations that aren't static.
-    pub regular: IndexSet<&'a str>,
-    /// Those of static operations.
-    pub fixed: IndexSet<&'a str>,
+    regular: IndexSet<&'a str>,
+    /// Those of static operations, which are of the interface object.
+    of_interface_object: IndexSet<&'a str>,
 }
 
 impl<'a> OperationNames<'a> {
     /// No names.
     pub fn new(alloc: Global) -> OperationNames<'a>
-        ensures { (text : List ℕ) (static : Bool) → has_name result.regular result.fixed text static ≡ false }
+        ensures { (text : List ℕ) (static : Bool) → has_name result text static ≡ false }
     {
         OperationNames {
             regular: IndexSet::new(alloc),
-            fixed: IndexSet::new(alloc),
+            of_interface_object: IndexSet::new(alloc),
         }
     }
 
     /// Whether the name is among those of static operations, or of others.
     pub fn contains(&self, text: &str, fixed: bool) -> bool
-        ensures { result ≡ has_name self.now.regular self.now.fixed text.now fixed }
+        ensures { result ≡ has_name self.now text.now fixed }
     {
         if fixed {
-            self.fixed.contains(text)
+            self.of_interface_object.contains(text)
         } else {
             self.regular.contains(text)
         }
@@ -45,10 +45,10 @@ impl<'a> OperationNames<'a> {
     ///
     /// `AllocError` where there is no memory.
     pub fn insert(&mut self, text: &'a str, fixed: bool) -> Result<(), AllocError>
-        ensures { OnOk result ((other : List ℕ) (static : Bool) → has_name self.new.regular self.new.fixed other static ≡ (has_name self.old.regular self.old.fixed other static || (bytes_eq text.now other && both_or_none static fixed))) }
+        ensures { OnOk result ((other : List ℕ) (static : Bool) → has_name self.new other static ≡ (has_name self.old other static || (bytes_eq text.now other && both_or_none static fixed))) }
     {
         if fixed {
-            add_text(&mut self.fixed, text)
+            add_text(&mut self.of_interface_object, text)
         } else {
             add_text(&mut self.regular, text)
         }

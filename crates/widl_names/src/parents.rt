@@ -39,24 +39,9 @@ fn add_parent(
     ensures { OnOk result (graph.new ≡ graph.old ++ parent_numbers (plain_definitions meanings.now) (kind_of (definition_kind_of definition.now)) (parent_of (definition_kind_of definition.now)) ∷ []) }
 {
     match parent_number(meanings, definition) {
-        None => add_linked(graph, &[]),
-        Some(number) => add_linked(graph, &[number]),
+        None => graph.add_linked(&[]),
+        Some(number) => graph.add_linked(&[number]),
     }
-}
-
-/// Adds a node with those that it leads to.
-///
-/// # Errors
-///
-/// `AllocError` where there is no memory.
-pub fn add_linked(graph: &mut Graph, successors: &[usize]) -> Result<(), AllocError>
-    ensures { OnOk result (graph.new ≡ graph.old ++ successors.now ∷ []) }
-{
-    graph.add_node()?;
-    for successor in successors {
-        graph.add_successor(*successor)?;
-    }
-    Ok(())
 }
 
 /// The number of the parent of a definition, if it has one of the same kind.

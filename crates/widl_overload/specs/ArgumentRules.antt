@@ -1,35 +1,34 @@
 -- The rules of validity on lists of arguments, each as one predicate.
 -- Source: Web IDL, "Operations" and "arguments".
-use Rattle.std.specs.Prelude.{◌≡◌, ℕ, Bool, true, false, List, [], ◌∷◌, length, flat_map, Option, bytes_eq}
+use Rattle.std.specs.Prelude.{if◌then◌else◌, ◌≡◌, ℕ, Bool, true, false, List, [], ◌∷◌, length, flat_map, Option, bytes_eq}
 use Rattle.std.specs.Option.{option_to_list}
 use Rattle.std.specs.List.{list_any}
 use Rattle.widl_text.specs.Limits.{most_arguments}
 use Rattle.widl_idl.specs.declared.violation.Violation.{Violation}
 use Rattle.widl_idl.specs.First.{AtOne, Somewhere}
 use Rattle.widl_idl.specs.MergingRules.{IsAt}
-use Rattle.widl_idl.specs.PlainTrees.{PlainArgument, PlainArgumentKind, RequiredArgument, OptionalArgument, VariadicArgument, PlainMember, PlainMemberKind, OperationMember, ConstructorMember, AsyncIterableMember, PlainDefinition, PlainKind, CallbackFunctionDefinition, CallbackInterfaceDefinition, InterfaceDefinition, MixinDefinition, NamespaceDefinition}
+use Rattle.widl_idl.specs.Parts.{members_in}
+use Rattle.widl_idl.specs.PlainTrees.{PlainArgument, PlainArgumentKind, RequiredArgument, OptionalArgument, VariadicArgument, PlainMember, PlainMemberKind, OperationMember, ConstructorMember, AsyncIterableMember, PlainDefinition, PlainKind, CallbackFunctionDefinition, CallbackInterfaceDefinition}
 
--- the list of arguments of a member, if it has one
-abbrev pub lists_in_member : PlainMemberKind → List (List PlainArgument)
-lists_in_member (OperationMember o) = o.arguments ∷ []
-lists_in_member (ConstructorMember c) = c.arguments ∷ []
-lists_in_member (AsyncIterableMember i) = option_to_list i.arguments
-lists_in_member kind = []
+-- the list of arguments of a member, if it has one; that of an asynchronous iterable only where all lists are meant
+abbrev pub lists_in_member : Bool → PlainMemberKind → List (List PlainArgument)
+lists_in_member all (OperationMember o) = o.arguments ∷ []
+lists_in_member all (ConstructorMember c) = c.arguments ∷ []
+lists_in_member all (AsyncIterableMember i) = if all then option_to_list i.arguments else []
+lists_in_member all kind = []
 
-abbrev pub lists_in_members : List PlainMember → List (List PlainArgument)
-lists_in_members members = flat_map (λ (m : PlainMember). lists_in_member m.kind) members
+abbrev pub lists_in_members : Bool → List PlainMember → List (List PlainArgument)
+lists_in_members all members = flat_map (λ (m : PlainMember). lists_in_member all m.kind) members
 
-abbrev pub lists_in_definition : PlainKind → List (List PlainArgument)
-lists_in_definition (CallbackFunctionDefinition c) = c.arguments ∷ []
-lists_in_definition (CallbackInterfaceDefinition c) = lists_in_members c.members
-lists_in_definition (InterfaceDefinition i) = lists_in_members i.members
-lists_in_definition (MixinDefinition m) = lists_in_members m.members
-lists_in_definition (NamespaceDefinition n) = lists_in_members n.members
-lists_in_definition kind = []
+-- the lists of a definition; those of a callback only where all are meant
+abbrev pub lists_in_definition : Bool → PlainKind → List (List PlainArgument)
+lists_in_definition all (CallbackFunctionDefinition c) = if all then c.arguments ∷ [] else []
+lists_in_definition all (CallbackInterfaceDefinition c) = if all then lists_in_members all c.members else []
+lists_in_definition all kind = lists_in_members all (members_in kind)
 
--- all lists of arguments that are written in these definitions
-abbrev pub argument_lists_of : List PlainDefinition → List (List PlainArgument)
-argument_lists_of definitions = flat_map (λ (d : PlainDefinition). lists_in_definition d.kind) definitions
+-- the lists of arguments that are written in these definitions: all of them, or those of operations and constructors that aren't of callbacks
+abbrev pub argument_lists_of : Bool → List PlainDefinition → List (List PlainArgument)
+argument_lists_of all definitions = flat_map (λ (d : PlainDefinition). lists_in_definition all d.kind) definitions
 
 -- rule 13: an earlier argument has the name: at the name
 abbrev pub RepeatsArgument : List PlainArgument → PlainArgument → Violation → Type 0
@@ -62,4 +61,4 @@ IsArgumentPastLimit before a s = (length before ≡ most_arguments) × IsAt a.na
 
 -- in one of the lists an argument breaks the rule
 abbrev pub InOneList : (List PlainArgument → PlainArgument → Violation → Type 0) → List PlainDefinition → Violation → Type 0
-InOneList Breaks definitions s = Somewhere (AtOne Breaks) (argument_lists_of definitions) s
+InOneList Breaks definitions s = Somewhere (AtOne Breaks) (argument_lists_of true definitions) s

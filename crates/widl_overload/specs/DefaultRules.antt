@@ -11,7 +11,7 @@ use Rattle.widl_idl.specs.Flattened.{flattened_member, includes_nullable_type}
 use Rattle.widl_idl.specs.First.{Somewhere}
 use Rattle.widl_idl.specs.MergingRules.{IsAt}
 use Rattle.widl_idl.specs.PlainTypes.{PlainAnnotated, PlainAttribute, PlainLiteral, PlainValue, NullValue, UndefinedValue, BooleanValue, IntegerValue, TextValue, EmptySequenceValue, EmptyDictionaryValue}
-use Rattle.widl_idl.specs.PlainTrees.{PlainArgument, PlainArgumentKind, RequiredArgument, OptionalArgument, VariadicArgument, PlainMember, PlainMemberKind, OperationMember, ConstructorMember, PlainDictionaryMember, PlainDefinition, PlainKind, InterfaceDefinition, MixinDefinition, NamespaceDefinition, DictionaryDefinition}
+use Rattle.widl_idl.specs.PlainTrees.{PlainArgument, PlainArgumentKind, RequiredArgument, OptionalArgument, VariadicArgument, PlainDictionaryMember, PlainDefinition, PlainKind, DictionaryDefinition}
 use Rattle.widl_idl.specs.Terms.{TypeTerm, AnyType, BooleanType, IntegerType, StringType, EnumerationType, DictionaryType, SequenceType, NullableType}
 use Rattle.widl_text.specs.IntegerTokens.{integer_of}
 use Rattle.widl_idl.specs.WrittenLiterals.{units_of}
@@ -83,7 +83,7 @@ defaults_of_members kind = flat_map (λ (m : PlainDictionaryMember). defaulted m
 
 -- all default values that are written in these definitions: of arguments and of dictionary members
 abbrev pub defaults_of : List PlainDefinition → List Defaulted
-defaults_of definitions = flat_map defaults_of_arguments (argument_lists_of definitions) ++ flat_map (λ (d : PlainDefinition). defaults_of_members d.kind) definitions
+defaults_of definitions = flat_map defaults_of_arguments (argument_lists_of true definitions) ++ flat_map (λ (d : PlainDefinition). defaults_of_members d.kind) definitions
 
 module _ (list : DefsTerm) (definitions : List PlainDefinition) where
   -- a default value doesn't fit its type: at the value
@@ -125,24 +125,6 @@ module _ (list : DefsTerm) (definitions : List PlainDefinition) where
     pub lacks : ((is_required argument.kind ≡ true) × (list_all (λ (a : PlainArgument). may_be_absent a.kind) following ≡ true)) ⊎ HasNoDefault argument.kind
     pub at_name : IsAt argument.name.at s
 
--- the lists of arguments of operations and constructors; those of callbacks are left out
-abbrev pub call_lists_in_member : PlainMemberKind → List (List PlainArgument)
-call_lists_in_member (OperationMember o) = o.arguments ∷ []
-call_lists_in_member (ConstructorMember c) = c.arguments ∷ []
-call_lists_in_member kind = []
-
-abbrev pub call_lists_in_members : List PlainMember → List (List PlainArgument)
-call_lists_in_members members = flat_map (λ (m : PlainMember). call_lists_in_member m.kind) members
-
-abbrev pub call_lists_in_definition : PlainKind → List (List PlainArgument)
-call_lists_in_definition (InterfaceDefinition i) = call_lists_in_members i.members
-call_lists_in_definition (MixinDefinition m) = call_lists_in_members m.members
-call_lists_in_definition (NamespaceDefinition n) = call_lists_in_members n.members
-call_lists_in_definition kind = []
-
-abbrev pub call_lists_of : List PlainDefinition → List (List PlainArgument)
-call_lists_of definitions = flat_map (λ (d : PlainDefinition). call_lists_in_definition d.kind) definitions
-
--- rule 26: an argument that takes a dictionary without required members has no default value: at its name
+-- rule 26: an argument of an operation or a constructor takes a dictionary without required members, and has no default value: at its name
 abbrev pub HasNoEmptyDefault : DefsTerm → List PlainDefinition → Violation → Type 0
-HasNoEmptyDefault list definitions s = Somewhere (LacksEmptyDefault list definitions) (call_lists_of definitions) s
+HasNoEmptyDefault list definitions s = Somewhere (LacksEmptyDefault list definitions) (argument_lists_of false definitions) s

@@ -20,10 +20,6 @@ use Rattle.widl_type_rules.proofs.AnyPair.{any_pair_none, any_pair_push, any_pai
 abbrev pub Tells : KindsSeen → List Category → Type 0
 Tells seen kinds = (c : Category) → is_met seen c ≡ list_any (λ d. clash d c) kinds
 
-pub nothing_tells : Tells nothing_seen []
-nothing_tells Never = refl
-nothing_tells c = refl
-
 -- a kind that was seen beside the others is met by those that it clashes with
 one_more : (s : KindsSeen) (d c : Category) → is_met (with_kind s d) c ≡ (is_met s c || clash d c)
 one_more s (Interface m) (Interface n) = sym (or-false (is_met s (Interface n)))

@@ -6,14 +6,14 @@ use Rattle.std.proofs.lemmas.Bool.{cases_lt, ltb-true, lt-ltb, eqb-true, eq-eqb}
 use Rattle.std.proofs.lemmas.List.{length-map}
 use Rattle.std.proofs.lemmas.Option.{same_Some, slice_get_past}
 use Rattle.std.proofs.lemmas.Simd.{map-map}
-use Rattle.widl_fits.proofs.ParentSteps.{first_step}
-use Rattle.widl_fits.specs.Hierarchies.{IsForest, interface_parents}
-use Rattle.widl_graph.specs.Reaching.{Reaches, more, one}
+use Rattle.widl_graph.proofs.Reach.{first_step}
+use Rattle.widl_graph.specs.Reaching.{IsForest, Reaches, more, one}
+use Rattle.widl_fits.specs.Hierarchies.{interface_parents}
 use Rattle.widl_graph.proofs.Complete.{step_within}
 use Rattle.widl_idl.specs.declared.interface.Iface.{Iface}
 use Rattle.widl_overload.specs.Inheritance.{inherits}
-use Rattle.widl_inheritance.specs.Spans.{AreSpans, AreWhole, parent_graph, span_of}
-use Rattle.widl_inheritance.specs.declared.spans.Span.{Span}
+use Rattle.widl_graph.specs.Spans.{AreSpans, AreWhole, parent_graph, span_of}
+use Rattle.widl_graph.specs.declared.spans.Span.{Span}
 use Rattle.widl_inheritance.proofs.ReachedParents.{inherits_reaching}
 use Rattle.widl_type_rules.specs.IndistinguishablePairs.{are_related}
 use Rattle.widl_type_rules.specs.Lineages.{TellRelated, after_all, lineage_of, touches}

@@ -9,7 +9,7 @@ use Rattle.std.specs.List.{All, list_any}
 use Rattle.std.specs.List.Sorted.{IsNonDecreasingBy, IsPermutation}
 use Rattle.widl_idl.specs.declared.interface.Iface.{Iface}
 use Rattle.widl_type_rules.specs.IndistinguishablePairs.{any_pair, are_related}
-use Rattle.widl_inheritance.specs.declared.spans.Span.{Span}
+use Rattle.widl_graph.specs.declared.spans.Span.{Span}
 use Rattle.widl_type_rules.specs.Lineages.{TellRelated, begins_within, lineage_of, touches}
 use Rattle.widl_type_rules.proofs.AnyPair.{pair_found, pair_none}
 use Rattle.widl_type_rules.proofs.PairCounts.{any_pair_permuted}

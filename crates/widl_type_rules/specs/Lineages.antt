@@ -2,8 +2,8 @@
 use Rattle.std.specs.Prelude.{◌≡◌, ℕ, ◌+◌, ◌<◌, Bool, ◌&&◌, nat_lt, List, length, Option, unwrap_or}
 use Rattle.widl_idl.specs.declared.interface.Iface.{Iface}
 use Rattle.widl_type_rules.specs.IndistinguishablePairs.{are_related}
-use Rattle.widl_inheritance.specs.declared.spans.Span.{Span}
-use Rattle.widl_inheritance.specs.Spans.{span_of}
+use Rattle.widl_graph.specs.declared.spans.Span.{Span}
+use Rattle.widl_graph.specs.Spans.{span_of}
 
 -- whether two spans have a place in common
 abbrev pub touches : Span → Span → Bool

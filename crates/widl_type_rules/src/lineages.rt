@@ -1,13 +1,14 @@
 //! Which of many interfaces are related, told by two comparisons.
 
 ghost use Rattle.std.specs.Prelude.{◌≡◌, map, IfOk};
-ghost use Rattle.widl_fits.specs.Hierarchies.{IsForest, interface_parents};
+ghost use Rattle.widl_graph.specs.Reaching.{IsForest};
+ghost use Rattle.widl_fits.specs.Hierarchies.{interface_parents};
 ghost use Rattle.widl_idl.specs.declared.interface.Iface.{Iface as IfaceType};
 ghost use Rattle.widl_type_rules.specs.Lineages.{TellRelated, lineage_of};
 
 use std::alloc::{AllocError, Global};
+use widl_graph::{Span, Spans};
 use widl_idl::{Defs, Iface};
-use widl_inheritance::{Span, Spans};
 
 /// The spans of interfaces, by their numbers.
 #[derive(Drop)]

@@ -8,8 +8,8 @@ ghost use Rattle.widl_type_rules.specs.Lineages.{TellRelated, begins_within, tou
 
 use crate::lineages::Lineages;
 use std::alloc::{AllocError, Global};
+use widl_graph::Span;
 use widl_idl::Iface;
-use widl_inheritance::Span;
 
 /// Whether one of the interfaces with these numbers is another one, or inherits from it, in the time of a
 /// sort.

@@ -4,7 +4,8 @@
 //! hand in the processor's cache.
 
 ghost use Rattle.std.specs.Prelude.{◌≡◌, IfOk};
-ghost use Rattle.widl_fits.specs.Hierarchies.{IsForest, interface_parents};
+ghost use Rattle.widl_graph.specs.Reaching.{IsForest};
+ghost use Rattle.widl_fits.specs.Hierarchies.{interface_parents};
 ghost use Rattle.widl_idl.specs.PlainTrees.{definition_kind_of, plain_definitions};
 ghost use Rattle.widl_overload.specs.TypeUses.{uses_in_definition};
 ghost use Rattle.widl_type_rules.specs.Lineages.{TellRelated};

@@ -15,7 +15,7 @@ pub returns : goal.returns
 returns c =
     let d = definition_of c.args.definition.now in
     let b : Breaking = λ which. BreaksDefinition which d in
-    let lists : listed_arguments c.as_slice-lists.result.now ≡ lists_in_definition d.kind = ap listed_arguments c.as_slice-lists.ensures.value ∙ c.in_ok-listed.ensures in
+    let lists : listed_arguments c.as_slice-lists.result.now ≡ lists_in_definition true d.kind = ap listed_arguments c.as_slice-lists.ensures.value ∙ c.in_ok-listed.ensures in
     let in_lists : (P : List PlainArgument → PlainArgument → Violation → Type 0) (found : Option Violation) → FirstWhere (Somewhere (AtOne P) (listed_arguments c.as_slice-lists.result.now)) found → FirstWhere (InItsLists P d) found
     = λ P found l. subst (λ ls. FirstWhere (Somewhere (AtOne P) ls) found) lists l in
     first_rule validity_number b rule.RepeatedEnumerationValue _ _ _ _ c.in_ok-found-2.ensures c.first.ensures

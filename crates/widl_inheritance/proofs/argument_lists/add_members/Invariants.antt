@@ -5,4 +5,4 @@ use Rattle.widl_inheritance.specs.WrittenLists.{listed_arguments}
 use Rattle.widl_inheritance.proofs.argument_lists.add_members.Given as goal
 
 abbrev pub invariant-loop-member : goal.invariant-loop-member
-invariant-loop-member l = listed_arguments l.lists.items ≡ listed_arguments l.initial.lists.items ++ lists_in_members (members_of (take l.member-index l.members))
+invariant-loop-member l = listed_arguments l.lists.items ≡ listed_arguments l.initial.lists.items ++ lists_in_members l.all (members_of (take l.member-index l.members))

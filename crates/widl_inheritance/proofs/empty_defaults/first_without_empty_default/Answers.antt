@@ -3,7 +3,8 @@ use Rattle.std.proofs.lemmas.Result.{IfOk-weaker}
 use Rattle.widl_idl.specs.DefinitionTerms.{defs_term}
 use Rattle.widl_idl.specs.First.{FirstWhere, Somewhere}
 use Rattle.widl_idl.specs.PlainTrees.{plain_definitions}
-use Rattle.widl_overload.specs.DefaultRules.{LacksEmptyDefault, call_lists_of}
+use Rattle.widl_overload.specs.ArgumentRules.{argument_lists_of}
+use Rattle.widl_overload.specs.DefaultRules.{LacksEmptyDefault}
 use Rattle.widl_inheritance.specs.WrittenLists.{listed_arguments}
 use Rattle.widl_inheritance.proofs.empty_defaults.first_without_empty_default.Goals as goal
 
@@ -11,6 +12,6 @@ pub returns : goal.returns
 returns c =
     IfOk-weaker c.first_lacking.result _ _
     (λ found f. subst (λ xs. FirstWhere (Somewhere (LacksEmptyDefault (defs_term c.args.defs.now) (plain_definitions c.args.resolver.now)) xs) found)
-    (ap listed_arguments c.as_slice.ensures.value ∙ c.in_ok-lists.ensures ∙ ap call_lists_of c.requires.listed)
+    (ap listed_arguments c.as_slice.ensures.value ∙ c.in_ok-lists.ensures ∙ ap (argument_lists_of false) c.requires.listed)
     (f (defs_term c.args.defs.now) c.in_ok-tables.ensures))
     c.first_lacking.ensures

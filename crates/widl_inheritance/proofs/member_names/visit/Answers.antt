@@ -3,7 +3,7 @@ use Rattle.std.proofs.lemmas.Result.{IfOk-weaker}
 use Rattle.widl_idl.specs.DefinitionTerms.{dict_term, member_term}
 use Rattle.widl_idl.specs.First.{AtOne, FirstWhere}
 use Rattle.widl_inheritance.specs.MemberEnds.{RepeatsKept, RepeatsKnown, end_of}
-use Rattle.widl_inheritance.specs.Spans.{span_of}
+use Rattle.widl_graph.specs.Spans.{span_of}
 use Rattle.widl_inheritance.proofs.Inheriting.{first_kept, term_at}
 use Rattle.widl_inheritance.proofs.member_names.visit.Goals as goal
 

@@ -6,4 +6,4 @@ use Rattle.widl_member_rules.proofs.promise_overloads.first_mixing_promises.Give
 use Rattle.widl_names.specs.Listings.{listed_members}
 
 abbrev pub invariant-loop-member : goal.invariant-loop-member
-invariant-loop-member l = Returned (has_returned l.names.promises.regular l.names.promises.fixed l.names.others.regular l.names.others.fixed) (plain_definitions l.fn.resolver) (listed_members (take l.member-index l.members)) l.best
+invariant-loop-member l = Returned (has_returned l.names.promises l.names.others) (plain_definitions l.fn.resolver) (listed_members (take l.member-index l.members)) l.best

@@ -6,4 +6,4 @@ use Rattle.widl_names.specs.KnownTexts.{has_name}
 use Rattle.widl_merge.proofs.operations.add_all.Given as goal
 
 abbrev pub invariant-loop-member : goal.invariant-loop-member
-invariant-loop-member l = (text : List ℕ) (static : Bool) → has_name l.known.regular l.known.fixed text static ≡ (has_name l.fn.known.regular l.fn.known.fixed text static || list_any (λ m. is_operation_of text static m.kind) (members_of (take l.member-index l.members)))
+invariant-loop-member l = (text : List ℕ) (static : Bool) → has_name l.known text static ≡ (has_name l.fn.known text static || list_any (λ m. is_operation_of text static m.kind) (members_of (take l.member-index l.members)))

@@ -6,4 +6,4 @@ use Rattle.widl_names.specs.KnownTexts.{has_name}
 use Rattle.widl_merge.proofs.operations.first_known.Given as goal
 
 abbrev pub invariant-loop-member : goal.invariant-loop-member
-invariant-loop-member l = FirstWhere (Somewhere (IsKnown (has_name l.known.regular l.known.fixed)) (members_of (take l.member-index l.members))) l.best
+invariant-loop-member l = FirstWhere (Somewhere (IsKnown (has_name l.known)) (members_of (take l.member-index l.members))) l.best

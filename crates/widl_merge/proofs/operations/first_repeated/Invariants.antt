@@ -5,4 +5,4 @@ use Rattle.widl_merge.proofs.Known.{Repeated}
 use Rattle.widl_merge.proofs.operations.first_repeated.Given as goal
 
 abbrev pub invariant-loop-part : goal.invariant-loop-part
-invariant-loop-part l = Repeated (has_name l.known.regular l.known.fixed) (listed_parts (take l.part-index l.parts)) l.best
+invariant-loop-part l = Repeated (has_name l.known) (listed_parts (take l.part-index l.parts)) l.best

@@ -1,6 +1,6 @@
 use Rattle.std.proofs.Common.{◌≡◌, IfOk, ap, sym, subst, ◌∙◌, ◌<◌}
 use Rattle.std.specs.List.{All}
-use Rattle.widl_inheritance.specs.declared.spans.Span.{Span}
+use Rattle.widl_graph.specs.declared.spans.Span.{Span}
 use Rattle.widl_type_rules.specs.IndistinguishablePairs.{any_pair}
 use Rattle.widl_type_rules.specs.Lineages.{touches}
 use Rattle.widl_type_rules.proofs.TouchingSpans.{spans_filled, spans_related}

@@ -6,11 +6,11 @@ use Rattle.widl_idl.specs.Meanings.{definitions_of}
 use Rattle.widl_idl.specs.MergingRules.{parent_links}
 use Rattle.widl_idl.specs.PlainTrees.{definition_of, plain_definitions}
 use Rattle.widl_idl.specs.declared.merging_rule.MergingRule.TheVariants as merging
-use Rattle.widl_fits.specs.Hierarchies.{IsForest, IsHierarchy, interface_parents}
+use Rattle.widl_graph.specs.Reaching.{IsForest, IsAcyclic}
+use Rattle.widl_fits.specs.Hierarchies.{IsHierarchy, interface_parents}
 use Rattle.widl_fits.proofs.MergedHierarchies.{merged_hierarchy, merged_interfaces}
 use Rattle.widl_fits.proofs.MergedParents.{none_back}
 use Rattle.widl_inheritance.specs.HoldingGraph.{AreWithin}
-use Rattle.widl_inheritance.specs.ReachedFlags.{IsAcyclic}
 use Rattle.widl_inheritance.proofs.MergedTypes.{merged_within}
 use Rattle.widl_overload.specs.Dictionaries.{dictionary_terms}
 use Rattle.widl_names.specs.Listings.{listed_definitions}

@@ -1,7 +1,7 @@
 use Rattle.std.proofs.Common.{map, ap, subst, sym, ◌∙◌}
-use Rattle.widl_fits.specs.Hierarchies.{IsForest}
+use Rattle.widl_graph.specs.Reaching.{IsForest}
 use Rattle.widl_idl.specs.declared.interface.Iface.{Iface}
-use Rattle.widl_inheritance.specs.Spans.{AreSpans, parent_graph}
+use Rattle.widl_graph.specs.Spans.{AreSpans, parent_graph}
 use Rattle.widl_type_rules.proofs.RelatedSpans.{parents_graph, tell_related}
 use Rattle.widl_type_rules.proofs.lineages.Lineages.of.Goals as goal
 

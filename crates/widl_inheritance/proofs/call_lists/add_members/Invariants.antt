@@ -1,8 +1,0 @@
-use Rattle.std.proofs.Common.{◌≡◌, ◌++◌, take}
-use Rattle.widl_idl.specs.PlainTrees.{members_of}
-use Rattle.widl_overload.specs.DefaultRules.{call_lists_in_members}
-use Rattle.widl_inheritance.specs.WrittenLists.{listed_arguments}
-use Rattle.widl_inheritance.proofs.call_lists.add_members.Given as goal
-
-abbrev pub invariant-loop-member : goal.invariant-loop-member
-invariant-loop-member l = listed_arguments l.lists.items ≡ listed_arguments l.initial.lists.items ++ call_lists_in_members (members_of (take l.member-index l.members))

@@ -1,5 +1,0 @@
-use Rattle.widl_inheritance.specs.Children.{AreChildren}
-use Rattle.widl_inheritance.proofs.children.Children.of.Given as goal
-
-abbrev pub invariant-loop-number : goal.invariant-loop-number
-invariant-loop-number l = AreChildren l.parents l.number l.children

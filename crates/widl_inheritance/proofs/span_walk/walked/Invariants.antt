@@ -1,5 +1,0 @@
-use Rattle.widl_inheritance.proofs.Covering.{AreVisited}
-use Rattle.widl_inheritance.proofs.span_walk.walked.Given as goal
-
-abbrev pub invariant-loop-number : goal.invariant-loop-number
-invariant-loop-number l = AreVisited l.parents l.walk l.number
