@@ -12,7 +12,7 @@ use Rattle.widl_idl.specs.declared.kind.Kind.TheVariants as kinds
 use Rattle.widl_idl.specs.declared.merging_rule.MergingRule.TheVariants as rule
 use Rattle.widl_idl.specs.declared.tree.fragments.Fragment.{Fragment}
 use Rattle.widl_idl.specs.declared.violation.Violation.{Violation}
-use Rattle.widl_idl.specs.DefinitionTerms.{DefsTerm, DictTerm, IfaceTerm, iface_term}
+use Rattle.widl_idl.specs.DefinitionTerms.{DefsTerm, DictTerm, IfaceTerm, defs_term}
 use Rattle.widl_idl.specs.First.{Somewhere, violation_at}
 use Rattle.widl_idl.specs.Meanings.{definitions_of, is_partial, kind_of, meaning, meant_kind, same_kind}
 use Rattle.widl_idl.specs.MergedList.{dictionary_if, dictionary_of, each_main, interface_if, interface_of, number_of_meaning, parent_number}
@@ -165,9 +165,8 @@ merged_hierarchy defs fragments merged =
     (mains_forest definitions kinds.Dictionary refl same_dictionary (merged.unbroken.merging rule.ParentOfOtherKind) (merged.unbroken.merging rule.InheritsFromItself))
 
 -- and one of interfaces
-pub merged_interfaces : (defs : Defs) (fragments : List Fragment) → IsMerged defs fragments → IsForest (interface_parents defs.ifaces)
+pub merged_interfaces : (defs : Defs) (fragments : List Fragment) → IsMerged defs fragments → IsForest (interface_parents (defs_term defs).ifaces)
 merged_interfaces defs fragments merged =
     let definitions = definitions_of fragments in
-    subst IsForest (sym (sym (map-map (λ (i : IfaceTerm). option_to_list i.parent) iface_term defs.ifaces) ∙ ap (λ (t : DefsTerm). map (λ (i : IfaceTerm). option_to_list i.parent) t.ifaces) merged.merged
-    ∙ chosen_parents definitions kinds.Interface (interface_if definitions) (λ (i : IfaceTerm). i.parent) (λ d. interface_agrees definitions d.kind)))
+    subst IsForest (sym (ap (λ (t : DefsTerm). interface_parents t.ifaces) merged.merged ∙ chosen_parents definitions kinds.Interface (interface_if definitions) (λ (i : IfaceTerm). i.parent) (λ d. interface_agrees definitions d.kind)))
     (mains_forest definitions kinds.Interface refl same_interface (merged.unbroken.merging rule.ParentOfOtherKind) (merged.unbroken.merging rule.InheritsFromItself))

@@ -3,13 +3,12 @@
 use Rattle.std.specs.Prelude.{ℕ, List, map}
 use Rattle.std.specs.Option.{option_to_list}
 use Rattle.widl_graph.specs.Reaching.{IsForest}
-use Rattle.widl_idl.specs.declared.interface.Iface.{Iface}
-use Rattle.widl_idl.specs.DefinitionTerms.{DictTerm}
+use Rattle.widl_idl.specs.DefinitionTerms.{DictTerm, IfaceTerm}
 use Rattle.widl_overload.specs.Dictionaries.{dictionary_parents}
 
 -- for each interface that from which it inherits directly, if there is one
-abbrev pub interface_parents : List Iface → List (List ℕ)
-interface_parents ifaces = map (λ (i : Iface). option_to_list i.parent) ifaces
+abbrev pub interface_parents : List IfaceTerm → List (List ℕ)
+interface_parents ifaces = map (λ (i : IfaceTerm). option_to_list i.parent) ifaces
 
 -- each dictionary inherits from one of these or from none, and none inherits from itself
 abbrev pub IsHierarchy : List DictTerm → Type 0

@@ -3,11 +3,11 @@
 ghost use Rattle.std.specs.Prelude.{◌≡◌, ◌↔◌, ℕ, List, true};
 ghost use Rattle.widl_fits.specs.Hierarchies.{interface_parents};
 ghost use Rattle.widl_graph.specs.Reaching.{Reaches, IsAcyclic};
-ghost use Rattle.widl_idl.specs.declared.interface.Iface.{Iface as IfaceType};
+ghost use Rattle.widl_idl.specs.DefinitionTerms.{IfaceTerm};
 ghost use Rattle.widl_overload.specs.Inheritance.{inherits};
 
 /// An interface inherits from another one exactly where it reaches it through parents, in each list in which
 /// none inherits from itself.
 pub fn inherits_through_parents()
-    ensures { (ifaces : List IfaceType) → IsAcyclic (interface_parents ifaces) → (m n : ℕ) → (inherits ifaces m n ≡ true) ↔ Reaches (interface_parents ifaces) m n }
+    ensures { (ifaces : List IfaceTerm) → IsAcyclic (interface_parents ifaces) → (m n : ℕ) → (inherits ifaces m n ≡ true) ↔ Reaches (interface_parents ifaces) m n }
 {}

@@ -3,7 +3,7 @@ use Rattle.std.proofs.Common.{◌≡◌, ℕ, ◌+◌, Bool, true, false, ◌||�
 use Rattle.std.specs.Prelude.{Option, None, Some, ◌⊎◌, is_some, unwrap_or}
 use Rattle.std.specs.List.{list_all, list_any}
 use Rattle.std.proofs.lemmas.List.Folds.{list_any-append, list_all-append}
-use Rattle.widl_idl.specs.declared.interface.Iface.{Iface}
+use Rattle.widl_idl.specs.DefinitionTerms.{IfaceTerm}
 use Rattle.widl_idl.specs.Terms.{TypeTerm, TypeTerms, NullableType, UnionType, no_types, more_types}
 use Rattle.widl_idl.specs.Flattened.{flattened_member, flattened_members, includes_nullable_type, inner_nullable_members, nullable_members, nullable_one, unannotated}
 use Rattle.widl_overload.specs.declared.category.Category.{Category}
@@ -95,7 +95,7 @@ all_true : {X : Type 0} (xs : List X) → true ≡ list_all (λ x. true) xs
 all_true [] = refl
 all_true (x ∷ xs) = all_true xs
 
-module _ (ifaces : List Iface) where
+module _ (ifaces : List IfaceTerm) where
   pub all_apart : List TypeTerm → List TypeTerm → Bool
   all_apart ts us = list_all (λ m. list_all (λ n. are_apart ifaces m n) us) ts
 

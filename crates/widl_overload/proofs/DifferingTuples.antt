@@ -4,7 +4,7 @@ use Rattle.std.specs.Prelude.{None, Option, Some, MatchBool, MatchOption, Contai
 use Rattle.std.specs.List.{All}
 use Rattle.std.proofs.lemmas.List.Elements.{All-contains}
 use Rattle.std.proofs.lemmas.Option.{slice_get_within, get_or_from_slice_get}
-use Rattle.widl_idl.specs.declared.interface.Iface.{Iface}
+use Rattle.widl_idl.specs.DefinitionTerms.{IfaceTerm}
 use Rattle.widl_overload.specs.Index.{IsIndex, of_one_length, distinguishes}
 use Rattle.widl_overload.specs.OverloadRules.{DifferEarly}
 use Rattle.widl_overload.specs.OverloadViolations.{AgreeBefore, DifferBefore, DiffersFromOne, IsSmallest, IsSmallestBelow, TwoDiffer}
@@ -49,7 +49,7 @@ pub differ_by_first : (index : ℕ) (tuples : List TupleTerm) (first : TupleTerm
 differ_by_first index tuples first true e d = record { one = first; other = d.other; one_listed = first_listed tuples first e; other_listed = d.listed; differ = d.differ }
 differ_by_first index tuples first false e all = λ d. agreeing index first d.one d.other (All-contains (AgreeBefore index first) tuples d.one all d.one_listed) (All-contains (AgreeBefore index first) tuples d.other all d.other_listed) d.differ
 
-module _ (ifaces : List Iface) (tuples : List TupleTerm) (m : ℕ) where
+module _ (ifaces : List IfaceTerm) (tuples : List TupleTerm) (m : ℕ) where
   one_index : (i j : ℕ) → IsIndex ifaces tuples m i → IsIndex ifaces tuples m j → i ≡ j
   one_index i j a b =
       let not_below : i < j → ⊥ = λ l. not_both (distinguishes ifaces tuples m i) a.tells (b.lowest i l) in

@@ -13,7 +13,6 @@ pub mod DifferingTuples
 pub mod Rows
 pub mod OnlyViolations
 pub mod ViolationSteps
-pub mod SameInterfaces
 pub mod SameTuples
 pub mod SameOverloads
 pub mod OverTerms

@@ -5,7 +5,7 @@ use Rattle.std.specs.List.{All, list_all}
 use Rattle.std.proofs.lemmas.List.{length-map}
 use Rattle.std.proofs.lemmas.List.Elements.{All-cons, All-contains, All-nil}
 use Rattle.std.proofs.lemmas.Option.{slice_get-map}
-use Rattle.widl_idl.specs.declared.interface.Iface.{Iface}
+use Rattle.widl_idl.specs.DefinitionTerms.{IfaceTerm}
 use Rattle.widl_idl.specs.declared.signature.Sig.{Sig}
 use Rattle.widl_overload.specs.declared.span.Span.{Span}
 use Rattle.widl_overload.specs.Index.{IsIndex, apart_at, distinguishes, each_two, of_one_length, types_apart}
@@ -42,7 +42,7 @@ numbered_at (t ∷ tuples) (suc k) n below e =
 numbered : (tuples : List TupleTerm) (n : ℕ) → Contains (map number_of tuples) n → (t : TupleTerm) × Contains tuples t × (t.overload ≡ n)
 numbered tuples n c = let size = length-map tuples number_of in numbered_at tuples c.0 n (omega (arith, c.1)) c.2
 
-module _ (ifaces : List Iface) (sigs : List Sig) (m p : ℕ) (below : p < m) where
+module _ (ifaces : List IfaceTerm) (sigs : List Sig) (m p : ℕ) (below : p < m) where
   apart_same : (t u : TupleTerm) → StandsFor sigs m t → StandsFor sigs m u → apart_at ifaces p t u ≡ numbers_apart ifaces sigs p t.overload u.overload
   unfolding apart_at numbers_apart
   apart_same t u a b = λ i. types_apart ifaces (a.types p below i) (b.types p below i)
@@ -103,7 +103,7 @@ module _ (sigs : List Sig) (m : ℕ) where
       by_first (Some t) e = differ_by_first index tuples t false (sym e)
           (all_agree t tuples index within (All-contains (StandsFor sigs m) tuples t all (first_listed tuples t (sym e))) all (agree t.overload (slice_get-map number_of tuples 0 ∙ ap (option_map number_of) e)))
 
-module _ (ifaces : List Iface) (sigs : List Sig) (tuples : List TupleTerm) (m : ℕ) (numbers : List ℕ) (fit : AreOf sigs m numbers (of_one_length m tuples)) where
+module _ (ifaces : List IfaceTerm) (sigs : List Sig) (tuples : List TupleTerm) (m : ℕ) (numbers : List ℕ) (fit : AreOf sigs m numbers (of_one_length m tuples)) where
   same_count : length numbers ≡ length (of_one_length m tuples)
   same_count = ap length fit.are ∙ length-map (of_one_length m tuples) number_of
 

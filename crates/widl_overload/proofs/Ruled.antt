@@ -2,7 +2,7 @@
 use Rattle.std.proofs.Common.{◌≡◌, Bool, true, false, ◌&&◌, cond, not, List, [], ◌∷◌, refl, sym, ap, ◌∙◌}
 use Rattle.std.specs.Prelude.{Option, None, Some, is_some, unwrap_or}
 use Rattle.std.specs.List.{list_all}
-use Rattle.widl_idl.specs.declared.interface.Iface.{Iface}
+use Rattle.widl_idl.specs.DefinitionTerms.{IfaceTerm}
 use Rattle.widl_idl.specs.Terms.{TypeTerm, TypeTerms, packed, NullableType, UnionType, no_types, more_types}
 use Rattle.widl_idl.specs.Flattened.{unannotated}
 use Rattle.widl_overload.specs.declared.category.Category.{Category}
@@ -26,7 +26,7 @@ members_are t = refl
 abbrev second_by : Option (List TypeTerm) → Option (List TypeTerm) → Option (List TypeTerm)
 second_by o p = cond (is_some o) p None
 
-module _ (ifaces : List Iface) where
+module _ (ifaces : List IfaceTerm) where
   -- a type that is no union
   pub no_members : (p t u : TypeTerm) → union_members p ≡ None → members_apart ifaces p t u ≡ single_apart ifaces t u
   no_members (NullableType p) t u none = no_members p t u none
@@ -114,7 +114,7 @@ listed_packed [] = refl
 listed_packed (t ∷ ts) = ap (λ us. t ∷ us) (listed_packed ts)
 
 -- two lists of interfaces of which the same categories are apart
-module _ (xs ys : List Iface) (same : (c d : Category) → categories_apart xs c d ≡ categories_apart ys c d) where
+module _ (xs ys : List IfaceTerm) (same : (c d : Category) → categories_apart xs c d ≡ categories_apart ys c d) where
   mutual
     single_same : (t u : TypeTerm) → single_apart xs t u ≡ single_apart ys t u
     single_same t (NullableType u) = single_same t u

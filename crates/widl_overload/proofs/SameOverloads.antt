@@ -11,10 +11,9 @@ use Rattle.widl_idl.specs.declared.violation.Violation.{Violation}
 use Rattle.widl_idl.specs.DefinitionTerms.{DefsTerm, IfaceTerm, OpNameTerm, SigTerm, SpaceTerm, defs_term, iface_term, op_name_term, sig_term, space_term}
 use Rattle.widl_idl.specs.First.{Somewhere}
 use Rattle.widl_idl.proofs.Somewhere.{nowhere, one_item, somewhere_cases, somewhere_right}
-use Rattle.widl_overload.specs.Index.{IsIndex, of_one_length}
+use Rattle.widl_overload.specs.Index.{of_one_length}
 use Rattle.widl_overload.specs.OverloadRules.{AtOverloads, AtSmallestLength, DifferEarly, HasIndistinguishableOverloads, HasEarlyDifference, IsLeastNumber, LacksIndex, has_name, operation_lists, overload_lists}
 use Rattle.widl_overload.specs.Sets.{TupleTerm, effective_tuples}
-use Rattle.widl_overload.proofs.SameInterfaces.{tells_same}
 use Rattle.widl_overload.proofs.SameTuples.{same_places, same_tuples}
 
 -- the lists of overloads, of terms
@@ -84,41 +83,30 @@ somewhere_same P Q s step (xs ∷ lists) (ys ∷ others) e h =
       | inr r ↦ somewhere_right Q (ys ∷ []) others s (somewhere_same P Q s step lists others later r)
     ]
 
-module _ (P Q : List TupleTerm → ℕ → Type 0) (to : (tuples : List TupleTerm) (m : ℕ) → P tuples m → Q tuples m) (from : (tuples : List TupleTerm) (m : ℕ) → Q tuples m → P tuples m) where
-  number_same : (tuples : List TupleTerm) (m : ℕ) → IsLeastNumber (P tuples) m → IsLeastNumber (Q tuples) m
-  number_same tuples m h = record { holds = to tuples m h.holds; first = λ n below q. h.first n below (from tuples n q) }
-
+module _ (P : List TupleTerm → ℕ → Type 0) where
   names_same : (xs ys : List Sig) → sig_terms xs ≡ sig_terms ys → (tuples : List TupleTerm) (s : Violation) → AtOverloads xs tuples s → AtOverloads ys tuples s
   names_same xs ys e tuples s h = record { first = h.first; last = h.last; is_first = h.is_first; is_last = h.is_last; at_last = sym (same_places xs ys e h.last) ∙ h.at_last; other_first = sym (same_places xs ys e h.first) ∙ h.other_first }
 
-  smallest_same : (s : Violation) (xs ys : List Sig) → sig_terms xs ≡ sig_terms ys → AtSmallestLength P xs s → AtSmallestLength Q ys s
+  smallest_same : (s : Violation) (xs ys : List Sig) → sig_terms xs ≡ sig_terms ys → AtSmallestLength P xs s → AtSmallestLength P ys s
   smallest_same s xs ys e h = record {
     size = h.size;
-    smallest = subst (λ tuples. IsLeastNumber (Q tuples) h.size) (same_tuples xs ys e 0) (number_same (effective_tuples xs 0) h.size h.smallest);
+    smallest = subst (λ tuples. IsLeastNumber (P tuples) h.size) (same_tuples xs ys e 0) h.smallest;
     at_names = subst (λ tuples. AtOverloads ys (of_one_length h.size tuples) s) (same_tuples xs ys e 0) (names_same xs ys e (of_one_length h.size (effective_tuples xs 0)) s h.at_names);
   }
 
-module _ (xs ys : List Iface) (same : map iface_term xs ≡ map iface_term ys) where
-  lacks_same : (tuples : List TupleTerm) (m : ℕ) → LacksIndex xs tuples m → LacksIndex ys tuples m
-  lacks_same tuples m h = record { several = h.several; indistinguishable = λ place within. sym (tells_same xs ys same tuples m place) ∙ h.indistinguishable place within }
-
-  index_same : (tuples : List TupleTerm) (m place : ℕ) → IsIndex xs tuples m place → IsIndex ys tuples m place
-  index_same tuples m place h = record { several = h.several; within = h.within; tells = sym (tells_same xs ys same tuples m place) ∙ h.tells; lowest = λ p below. sym (tells_same xs ys same tuples m p) ∙ h.lowest p below }
-
-  early_same : (tuples : List TupleTerm) (m : ℕ) → DifferEarly xs tuples m → DifferEarly ys tuples m
-  early_same tuples m h = record { index = h.index; is_index = index_same tuples m h.index h.is_index; place = h.place; early = h.early; one = h.one; other = h.other; one_listed = h.one_listed; other_listed = h.other_listed; differ = h.differ }
-
 module _ (defs other : Defs) (same : defs_term defs ≡ defs_term other) where
-  same_interfaces : map iface_term defs.ifaces ≡ map iface_term other.ifaces
-  same_interfaces = ap (λ (t : DefsTerm). t.ifaces) same
-
   same_lists : map sig_terms (overload_lists defs) ≡ map sig_terms (overload_lists other)
   same_lists = lists_are defs ∙ ap term_lists same ∙ sym (lists_are other)
 
+  lists_same : (P : List IfaceTerm → List TupleTerm → ℕ → Type 0) (s : Violation) → Somewhere (AtSmallestLength (P (defs_term defs).ifaces)) (overload_lists defs) s → Somewhere (AtSmallestLength (P (defs_term other).ifaces)) (overload_lists other) s
+  lists_same P s h =
+      subst (λ (d : DefsTerm). Somewhere (AtSmallestLength (P d.ifaces)) (overload_lists other) s) same
+      (somewhere_same (AtSmallestLength (P (defs_term defs).ifaces)) (AtSmallestLength (P (defs_term defs).ifaces)) s (smallest_same (P (defs_term defs).ifaces) s) (overload_lists defs) (overload_lists other) same_lists h)
+
   -- overloads that aren't distinguishable
   pub indistinguishable_overloads_same : (s : Violation) → HasIndistinguishableOverloads defs s → HasIndistinguishableOverloads other s
-  indistinguishable_overloads_same s h = somewhere_same (AtSmallestLength (LacksIndex defs.ifaces)) (AtSmallestLength (LacksIndex other.ifaces)) s (smallest_same (LacksIndex defs.ifaces) (LacksIndex other.ifaces) (lacks_same defs.ifaces other.ifaces same_interfaces) (lacks_same other.ifaces defs.ifaces (sym same_interfaces)) s) (overload_lists defs) (overload_lists other) same_lists h
+  indistinguishable_overloads_same s h = lists_same LacksIndex s h
 
   -- overloads that differ too early
   pub early_difference_same : (s : Violation) → HasEarlyDifference defs s → HasEarlyDifference other s
-  early_difference_same s h = somewhere_same (AtSmallestLength (DifferEarly defs.ifaces)) (AtSmallestLength (DifferEarly other.ifaces)) s (smallest_same (DifferEarly defs.ifaces) (DifferEarly other.ifaces) (early_same defs.ifaces other.ifaces same_interfaces) (early_same other.ifaces defs.ifaces (sym same_interfaces)) s) (overload_lists defs) (overload_lists other) same_lists h
+  early_difference_same s h = lists_same DifferEarly s h

@@ -5,6 +5,7 @@ use Rattle.std.proofs.lemmas.List.{append-nil, map-append, take_all, take_more}
 use Rattle.std.proofs.lemmas.List.Concat.{flat_map-append}
 use Rattle.std.proofs.lemmas.List.Elements.{filter-append}
 use Rattle.widl_idl.specs.declared.interface.Iface.{Iface}
+use Rattle.widl_idl.specs.DefinitionTerms.{IfaceTerm}
 use Rattle.widl_idl.specs.declared.namespace.Space.{Space}
 use Rattle.widl_idl.specs.declared.operation.OpName.{OpName}
 use Rattle.widl_idl.specs.declared.signature.Sig.{Sig}
@@ -18,7 +19,7 @@ use Rattle.widl_overload.specs.Sets.{effective_tuples, longest}
 use Rattle.widl_overload.proofs.OneLength.{no_more, none_beyond}
 use Rattle.widl_overload.proofs.OnlyViolations.{never_broken}
 
-module _ (ifaces : List Iface) where
+module _ (ifaces : List IfaceTerm) where
   -- in no list there is no violation
   pub violations_none : (now : OverloadViolations) → now ≡ no_violations → AreViolationsIn ifaces [] now
   violations_none now e = subst (AreViolationsIn ifaces []) (sym e) (record { indistinguishable = somewhere_none (AtSmallestLength (LacksIndex ifaces)); early = somewhere_none (AtSmallestLength (DifferEarly ifaces)) })
@@ -99,7 +100,7 @@ listed_if : (op : OpName) (b : Bool) → has_name op ≡ b → operation_lists (
 listed_if op true e = ap (λ b. map (λ (o : OpName). o.sigs) (cond b (op ∷ []) [])) e
 listed_if op false e = ap (λ b. map (λ (o : OpName). o.sigs) (cond b (op ∷ []) [])) e
 
-module _ (ifaces : List Iface) (op : OpName) where
+module _ (ifaces : List IfaceTerm) (op : OpName) where
   -- operations with a name are one list
   pub violations_of_named : (found : OverloadViolations) → (length op.name ≡ 0 → ⊥) → AreViolationsAt ifaces op.sigs found → AreViolationsIn ifaces (operation_lists (op ∷ [])) found
   violations_of_named found some h = subst (λ ls. AreViolationsIn ifaces ls found) (sym (listed_if op true (is_named op op.name refl some))) (violations_one ifaces op.sigs found h)

@@ -1,13 +1,13 @@
 -- The rules of validity on enumerations, annotations, operations and callback interfaces, each as one predicate.
 -- Source: Web IDL, "Enumerations", "Annotated types", "Operations" and "Callback interfaces".
-use Rattle.std.specs.Prelude.{◌≡◌, ◌≢◌, ◌⊎◌, ℕ, Bool, true, false, ◌||◌, List, [], ◌∷◌, length, flat_map, Option, None, Some, bytes_eq, is_some}
+use Rattle.std.specs.Prelude.{◌≡◌, ◌≢◌, ◌⊎◌, Bool, true, false, ◌||◌, List, [], ◌∷◌, length, flat_map, bytes_eq, is_some}
 use Rattle.std.specs.List.{list_any}
 use Rattle.widl_idl.specs.declared.violation.Violation.{Violation}
 use Rattle.widl_idl.specs.First.{AtOne, Somewhere}
 use Rattle.widl_idl.specs.MergedMembers.{operations_in}
 use Rattle.widl_idl.specs.MergingRules.{IsAt}
-use Rattle.widl_idl.specs.PlainTypes.{PlainName, PlainAttribute}
-use Rattle.widl_idl.specs.PlainTrees.{PlainArgument, PlainArgumentKind, VariadicArgument, PlainOperation, PlainMember, PlainMemberKind, AttributeMember, OperationMember, PlainEnumerationValue, PlainDefinition, PlainKind, CallbackInterfaceDefinition, InterfaceDefinition, MixinDefinition, NamespaceDefinition, EnumerationDefinition}
+use Rattle.widl_idl.specs.PlainTypes.{PlainAttribute}
+use Rattle.widl_idl.specs.PlainTrees.{PlainArgument, PlainArgumentKind, VariadicArgument, PlainMember, PlainMemberKind, AttributeMember, OperationMember, PlainEnumerationValue, PlainDefinition, PlainKind, CallbackInterfaceDefinition, InterfaceDefinition, MixinDefinition, NamespaceDefinition, EnumerationDefinition}
 use Rattle.widl_idl.specs.WrittenTypes.{annotation_of}
 
 -- an earlier value of the enumeration is the same text: at the text

@@ -1,6 +1,6 @@
 -- Which dictionaries inherit from which, which members they require, and which dictionaries stand in the types of their members.
 -- Source: Web IDL, "Dictionaries" and "inherited dictionaries".
-use Rattle.std.specs.Prelude.{◌≡◌, ◌⊎◌, ℕ, ◌+◌, Bool, true, List, [], ◌∷◌, ◌++◌, Contains, map, flat_map, slice_get, Option, Some}
+use Rattle.std.specs.Prelude.{◌≡◌, ◌⊎◌, ℕ, ◌+◌, true, List, [], ◌∷◌, ◌++◌, Contains, map, flat_map, slice_get, Some}
 use Rattle.std.specs.List.{list_any}
 use Rattle.std.specs.Option.{option_to_list}
 use Rattle.widl_graph.specs.Reaching.{Reaches}

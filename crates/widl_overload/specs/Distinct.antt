@@ -1,7 +1,7 @@
 -- When two types are distinguishable (Web IDL, "distinguishable").
 use Rattle.std.specs.Prelude.{Bool, true, false, ◌||◌, ◌&&◌, not, List, [], ◌∷◌, nat_eq, nat_lt, Option, None, Some, unwrap_or}
 use Rattle.std.specs.List.{list_any, list_all}
-use Rattle.widl_idl.specs.declared.interface.Iface.{Iface}
+use Rattle.widl_idl.specs.DefinitionTerms.{IfaceTerm}
 use Rattle.widl_idl.specs.Terms.{TypeTerm, TypeTerms, AnyType, UndefinedType, BooleanType, IntegerType, StringType, EnumerationType, InterfaceType, CallbackFunctionType, CallbackInterfaceType, DictionaryType, ObjectType, SequenceType, RecordType, PromiseType, NullableType, UnionType, no_types, more_types}
 use Rattle.widl_idl.specs.Flattened.{flattened_members, includes_nullable_type, nullable_members, unannotated}
 use Rattle.widl_overload.specs.declared.category.Category.{Category}
@@ -52,7 +52,7 @@ abbrev pub is_never : Category → Bool
 is_never Never = true
 is_never c = false
 
-module _ (ifaces : List Iface) where
+module _ (ifaces : List IfaceTerm) where
   -- two different interfaces, neither of which inherits from the other
   abbrev pub are_unrelated : Category → Category → Bool
   are_unrelated (Interface m) (Interface n) = not (nat_eq m n) && (not (inherits ifaces m n) && not (inherits ifaces n m))
@@ -97,7 +97,7 @@ abbrev pub innermost : TypeTerm → TypeTerm
 innermost (NullableType t) = innermost t
 innermost t = unannotated t
 
-module _ (ifaces : List Iface) where
+module _ (ifaces : List IfaceTerm) where
   -- what rule 1 leaves to the others for a type that is no union: by rule 3 each member of the other one, if that is a union; by rule 4 else the two innermost types
   abbrev mutual
     pub single_apart : TypeTerm → TypeTerm → Bool

@@ -1,6 +1,6 @@
 -- The overloads of a callee and the entries of each in the effective overload set, over plain terms.
 -- Source: Web IDL, "compute the effective overload set".
-use Rattle.std.specs.Prelude.{ℕ, ◌-◌, ◌++◌, Bool, List, [], ◌∷◌, length, take, drop, replicate, map, slice_get, nat_lt, if◌then◌else◌, Option, None, Some}
+use Rattle.std.specs.Prelude.{ℕ, ◌-◌, ◌++◌, Bool, List, [], length, take, drop, replicate, map, slice_get, nat_lt, if◌then◌else◌, Option, None, Some}
 use Rattle.std.specs.List.{list_any}
 use Rattle.std.specs.Option.{option_map_or}
 use Rattle.widl_idl.specs.declared.argument.Optionality.{Optionality}

@@ -1,6 +1,6 @@
 -- The rules of validity on the members of interfaces and namespaces with their partials and mixins, each as one predicate over the members in merged order.
 -- Source: Web IDL, "Members", "Constants", "Overloading" and "Stringifiers".
-use Rattle.std.specs.Prelude.{◌≡◌, ℕ, Bool, true, false, ◌||◌, ◌&&◌, not, List, [], ◌∷◌, length, filter, filter_map, Option, None, Some, bytes_eq, codes}
+use Rattle.std.specs.Prelude.{◌≡◌, ℕ, Bool, true, false, ◌||◌, ◌&&◌, not, List, length, filter, filter_map, Option, None, Some, bytes_eq, codes}
 use Rattle.std.specs.List.{list_any}
 use Rattle.widl_text.specs.Limits.{most_overloads}
 use Rattle.widl_text.specs.declared.place.Place.{Place}

@@ -3,7 +3,7 @@ use Rattle.std.specs.Prelude.{◌≡◌, ◌≢◌, ◌⊎◌, ℕ, ◌-◌, ◌
 use Rattle.std.specs.List.{All}
 use Rattle.widl_idl.specs.declared.argument.Arg.{Arg}
 use Rattle.widl_idl.specs.declared.argument.Optionality.{Optionality}
-use Rattle.widl_idl.specs.declared.interface.Iface.{Iface}
+use Rattle.widl_idl.specs.DefinitionTerms.{IfaceTerm}
 use Rattle.widl_idl.specs.declared.signature.Sig.{Sig}
 use Rattle.widl_idl.specs.Terms.{TypeTerm, type_term}
 use Rattle.widl_overload.specs.declared.overload_sizes.Row.{Row}
@@ -27,22 +27,22 @@ abbrev pub opt_at : List Sig → ℕ → ℕ → Option Optionality
 opt_at sigs place number = option_map (λ (a : Arg). a.opt) (arg_at sigs place number)
 
 -- whether two overloads have distinguishable types at a place
-unfoldable pub numbers_apart : List Iface → List Sig → ℕ → ℕ → ℕ → Bool
+unfoldable pub numbers_apart : List IfaceTerm → List Sig → ℕ → ℕ → ℕ → Bool
 numbers_apart ifaces sigs place i j = types_apart ifaces (type_at sigs place i) (type_at sigs place j)
 
 -- whether each two of the overloads are distinguishable at a place
-abbrev pub numbers_tell : List Iface → List Sig → List ℕ → ℕ → Bool
+abbrev pub numbers_tell : List IfaceTerm → List Sig → List ℕ → ℕ → Bool
 numbers_tell ifaces sigs numbers place = each_two (numbers_apart ifaces sigs place) numbers
 
 -- the lowest place at which each two of several overloads are distinguishable
-pub record IsTelling (ifaces : List Iface) (sigs : List Sig) (numbers : List ℕ) (m place : ℕ) : Type 0 where
+pub record IsTelling (ifaces : List IfaceTerm) (sigs : List Sig) (numbers : List ℕ) (m place : ℕ) : Type 0 where
   pub several : 2 ≤ length numbers
   pub within : place < m
   pub tells : numbers_tell ifaces sigs numbers place ≡ true
   pub lowest : (p : ℕ) → p < place → numbers_tell ifaces sigs numbers p ≡ false
 
 -- there are fewer than two overloads, or none of so many places will do
-abbrev pub NoneTells : List Iface → List Sig → List ℕ → ℕ → Type 0
+abbrev pub NoneTells : List IfaceTerm → List Sig → List ℕ → ℕ → Type 0
 NoneTells ifaces sigs numbers m = 2 ≤ length numbers → (p : ℕ) → p < m → numbers_tell ifaces sigs numbers p ≡ false
 
 -- the types and the optionality values of two overloads at a place are the same
@@ -80,6 +80,6 @@ abbrev pub IsEarly : List Sig → List ℕ → Option ℕ → Bool → Type 0
 IsEarly sigs numbers index early = MatchOption index (early ≡ false) (λ place. MatchBool early (FirstDiffers sigs place numbers) (AllAgree sigs place numbers))
 
 -- what tells the overloads of a row apart before a length, and whether they differ before it
-pub record IsRow (ifaces : List Iface) (sigs : List Sig) (m : ℕ) (row : Row) : Type 0 where
+pub record IsRow (ifaces : List IfaceTerm) (sigs : List Sig) (m : ℕ) (row : Row) : Type 0 where
   pub index : MatchOption row.index (NoneTells ifaces sigs row.overloads m) (IsTelling ifaces sigs row.overloads m)
   pub early : IsEarly sigs row.overloads row.index row.early

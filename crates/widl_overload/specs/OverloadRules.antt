@@ -8,6 +8,7 @@ use Rattle.widl_idl.specs.declared.namespace.Space.{Space}
 use Rattle.widl_idl.specs.declared.operation.OpName.{OpName}
 use Rattle.widl_idl.specs.declared.signature.Sig.{Sig}
 use Rattle.widl_idl.specs.declared.violation.Violation.{Violation}
+use Rattle.widl_idl.specs.DefinitionTerms.{IfaceTerm, defs_term}
 use Rattle.widl_idl.specs.First.{Somewhere}
 use Rattle.widl_overload.specs.Index.{IsIndex, of_one_length, distinguishes}
 use Rattle.widl_overload.specs.Sets.{TupleTerm, effective_tuples}
@@ -33,7 +34,7 @@ pub record IsLeastNumber (P : ℕ → Type 0) (n : ℕ) : Type 0 where
   pub first : (m : ℕ) → m < n → P m → ⊥
 
 -- several tuples have the length, and at no place can they all be distinguished
-pub record LacksIndex (ifaces : List Iface) (tuples : List TupleTerm) (m : ℕ) : Type 0 where
+pub record LacksIndex (ifaces : List IfaceTerm) (tuples : List TupleTerm) (m : ℕ) : Type 0 where
   pub several : 2 ≤ length (of_one_length m tuples)
   pub indistinguishable : (place : ℕ) → place < m → distinguishes ifaces tuples m place ≡ false
 
@@ -42,7 +43,7 @@ abbrev pub DifferAt : TupleTerm → TupleTerm → ℕ → Type 0
 DifferAt t u place = (slice_get t.types place ≢ slice_get u.types place) ⊎ (slice_get t.opts place ≢ slice_get u.opts place)
 
 -- before the distinguishing index of a length two tuples of that length differ
-pub record DifferEarly (ifaces : List Iface) (tuples : List TupleTerm) (m : ℕ) : Type 0 where
+pub record DifferEarly (ifaces : List IfaceTerm) (tuples : List TupleTerm) (m : ℕ) : Type 0 where
   pub index : ℕ
   pub is_index : IsIndex ifaces tuples m index
   pub place : ℕ
@@ -74,8 +75,8 @@ pub record AtSmallestLength (P : List TupleTerm → ℕ → Type 0) (sigs : List
 
 -- rule 35: tuples of one length have no distinguishing index
 abbrev pub HasIndistinguishableOverloads : Defs → Violation → Type 0
-HasIndistinguishableOverloads defs s = Somewhere (AtSmallestLength (LacksIndex defs.ifaces)) (overload_lists defs) s
+HasIndistinguishableOverloads defs s = Somewhere (AtSmallestLength (LacksIndex (defs_term defs).ifaces)) (overload_lists defs) s
 
 -- rule 36: tuples of one length differ before their distinguishing index
 abbrev pub HasEarlyDifference : Defs → Violation → Type 0
-HasEarlyDifference defs s = Somewhere (AtSmallestLength (DifferEarly defs.ifaces)) (overload_lists defs) s
+HasEarlyDifference defs s = Somewhere (AtSmallestLength (DifferEarly (defs_term defs).ifaces)) (overload_lists defs) s

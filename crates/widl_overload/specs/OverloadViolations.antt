@@ -1,6 +1,6 @@
 -- What is found on the way to the rules on overloads.
 use Rattle.std.specs.Prelude.{◌≡◌, ℕ, ◌<◌, ◌≤◌, List, Contains, slice_get, Option, None, MatchOption}
-use Rattle.widl_idl.specs.declared.interface.Iface.{Iface}
+use Rattle.widl_idl.specs.DefinitionTerms.{IfaceTerm}
 use Rattle.widl_idl.specs.declared.signature.Sig.{Sig}
 use Rattle.widl_idl.specs.declared.violation.Violation.{Violation}
 use Rattle.widl_idl.specs.First.{FirstWhere, Somewhere, earlier}
@@ -47,7 +47,7 @@ abbrev pub IsSmallestBelow : (ℕ → Type 0) → ℕ → Option ℕ → Type 0
 IsSmallestBelow P m found = MatchOption found ((k : ℕ) → k < m → P k → ⊥) (IsLeastNumber P)
 
 -- the smallest lengths, up to the greatest one, at which tuples break each of the two rules
-pub record AreSmallest (ifaces : List Iface) (tuples : List TupleTerm) (most : ℕ) (lengths : BreakingLengths) : Type 0 where
+pub record AreSmallest (ifaces : List IfaceTerm) (tuples : List TupleTerm) (most : ℕ) (lengths : BreakingLengths) : Type 0 where
   pub indistinguishable : IsSmallest (LacksIndex ifaces tuples) most lengths.indistinguishable
   pub early : IsSmallest (DifferEarly ifaces tuples) most lengths.early
 
@@ -70,11 +70,11 @@ pub record AreFirst (Indistinguishable Early : Violation → Type 0) (violations
   pub early : FirstWhere Early violations.early
 
 -- the first violations in one list of overloads
-abbrev pub AreViolationsAt : List Iface → List Sig → OverloadViolations → Type 0
+abbrev pub AreViolationsAt : List IfaceTerm → List Sig → OverloadViolations → Type 0
 AreViolationsAt ifaces sigs violations = AreFirst (AtSmallestLength (LacksIndex ifaces) sigs) (AtSmallestLength (DifferEarly ifaces) sigs) violations
 
 -- the first violations in several lists of overloads
-abbrev pub AreViolationsIn : List Iface → List (List Sig) → OverloadViolations → Type 0
+abbrev pub AreViolationsIn : List IfaceTerm → List (List Sig) → OverloadViolations → Type 0
 AreViolationsIn ifaces lists violations = AreFirst (Somewhere (AtSmallestLength (LacksIndex ifaces)) lists) (Somewhere (AtSmallestLength (DifferEarly ifaces)) lists) violations
 
 abbrev pub no_violations : OverloadViolations

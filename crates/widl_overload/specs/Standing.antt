@@ -1,5 +1,5 @@
 -- For proofs alone. What stands at a place of an overload's entries, without the entries.
-use Rattle.std.specs.Prelude.{ℕ, ◌-◌, List, [], length, map, slice_get, Option, None, Some, option_map}
+use Rattle.std.specs.Prelude.{ℕ, ◌-◌, List, [], length, slice_get, Option, None, Some, option_map}
 use Rattle.std.specs.Option.{option_map_or}
 use Rattle.widl_idl.specs.declared.argument.Optionality.{Optionality}
 use Rattle.widl_idl.specs.declared.argument.Optionality.TheVariants.{Variadic}

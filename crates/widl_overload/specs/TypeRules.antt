@@ -1,20 +1,19 @@
 -- The rules of validity on types, each as one predicate over a type as it is written and what it means there.
 -- Source: Web IDL, "Types", "Nullable types", "Union types", "Annotated types", "Constants" and "Attributes".
-use Rattle.std.specs.Prelude.{◌≡◌, ◌⊎◌, ℕ, ◌<◌, Bool, true, false, ◌||◌, not, List, [], ◌++◌, Contains, length, slice_get, zero, suc, nat_eq, Option, None, Some, if◌then◌else◌}
+use Rattle.std.specs.Prelude.{◌≡◌, ℕ, ◌<◌, Bool, true, false, ◌||◌, not, List, [], ◌++◌, Contains, length, slice_get, zero, suc, Option, None, Some, if◌then◌else◌}
 use Rattle.std.specs.List.{list_any}
 use Rattle.widl_text.specs.declared.place.Place.{Place}
 use Rattle.widl_idl.specs.declared.int_kind.Mode.{Mode}
 use Rattle.widl_idl.specs.declared.int_kind.Mode.TheVariants as modes
-use Rattle.widl_idl.specs.declared.interface.Iface.{Iface}
+use Rattle.widl_idl.specs.DefinitionTerms.{IfaceTerm}
 use Rattle.widl_idl.specs.declared.violation.Violation.{Violation}
 use Rattle.widl_idl.specs.declared.text_kind.TextKind.{TextKind}
 use Rattle.widl_idl.specs.declared.text_kind.TextKind.TheVariants as texts
-use Rattle.widl_idl.specs.declared.tree.members.AttributeKind.{AttributeKind}
 use Rattle.widl_idl.specs.Flattened.{flattened_member, flattened_members, includes_nullable_type, nullable_members}
 use Rattle.widl_idl.specs.First.{Somewhere, is_before, violation_at}
-use Rattle.widl_idl.specs.MergingRules.{AtName, IsAt}
+use Rattle.widl_idl.specs.MergingRules.{IsAt}
 use Rattle.widl_idl.specs.PlainTypes.{PlainAttribute, PlainForm, PlainType, PlainValue, PlainUndefined, PlainUnion, plain_type, BooleanValue, IntegerValue}
-use Rattle.widl_idl.specs.PlainTrees.{PlainMemberKind, ConstantMember, AttributeMember, PlainAttributeMember, PlainDefinition}
+use Rattle.widl_idl.specs.PlainTrees.{ConstantMember, AttributeMember, PlainDefinition}
 use Rattle.widl_idl.specs.Resolution.{Annotation, ClampTo, EnforceRange, LegacyNullToEmptyString, Note, Typedef, WrittenType, TypedefName, NullableOf}
 use Rattle.widl_idl.specs.Terms.{TypeTerm, TypeTerms, AnyType, BooleanType, IntegerType, StringType, DictionaryType, SequenceType, RecordType, PromiseType, NullableType, UnionType, no_types}
 use Rattle.widl_idl.specs.Nodes.{Node, MemberNode}
@@ -123,7 +122,7 @@ abbrev pub HaveNullableAndDictionary : TypeTerms → Type 0
 HaveNullableAndDictionary ts = (nullable_members ts ≡ 1) × (list_any is_dictionary (flattened_members ts) ≡ true)
 
 -- two of these types aren't distinguishable
-pub record HaveIndistinguishablePair (ifaces : List Iface) (types : List TypeTerm) : Type 0 where
+pub record HaveIndistinguishablePair (ifaces : List IfaceTerm) (types : List TypeTerm) : Type 0 where
   pub first : ℕ
   pub second : ℕ
   pub follows : first < second
@@ -134,7 +133,7 @@ pub record HaveIndistinguishablePair (ifaces : List Iface) (types : List TypeTer
   pub indistinguishable : distinguishable ifaces one other ≡ false
 
 -- rule 24: two flattened members of a union aren't distinguishable
-abbrev pub HaveIndistinguishableMembers : List Iface → TypeTerms → Type 0
+abbrev pub HaveIndistinguishableMembers : List IfaceTerm → TypeTerms → Type 0
 HaveIndistinguishableMembers ifaces ts = HaveIndistinguishablePair ifaces (flattened_members ts)
 
 abbrev pub is_wrap : Mode → Bool

@@ -85,7 +85,7 @@ module _ (defs : Defs) (definitions : List PlainDefinition) where
   BreaksRule rule.WronglyNullable s = InOneType IsWronglyNullable s
   BreaksRule rule.SeveralNullableMembers s = InOneType (OfUnion HaveSeveralNullable) s
   BreaksRule rule.NullableBesideDictionary s = InOneType (OfUnion HaveNullableAndDictionary) s
-  BreaksRule rule.IndistinguishableUnionMembers s = InOneType (OfUnion (HaveIndistinguishableMembers defs.ifaces)) s
+  BreaksRule rule.IndistinguishableUnionMembers s = InOneType (OfUnion (HaveIndistinguishableMembers (defs_term defs).ifaces)) s
   BreaksRule rule.AnnotatedUnionMember s = InOneType IsAnnotatedMember s
   BreaksRule rule.NoEmptyDefault s = HasNoEmptyDefault (defs_term defs) definitions s
   BreaksRule rule.NullableDictionary s = InOneType IsNullableDictionary s

@@ -3,7 +3,7 @@
 ghost use Rattle.std.specs.Prelude.{◌≡◌, ◌&&◌, ◌||◌, not, false, is_some, List, map};
 ghost use Rattle.std.specs.List.{list_all, list_any};
 ghost use Rattle.std.specs.Option.{option_copied, option_map};
-ghost use Rattle.widl_idl.specs.declared.interface.Iface as interfaces;
+ghost use Rattle.widl_idl.specs.DefinitionTerms.{IfaceTerm, defs_term, iface_term};
 ghost use Rattle.widl_idl.specs.Flattened.{flattened_member, flattened_members, unannotated};
 ghost use Rattle.widl_idl.specs.Terms.{TypeTerm, packed, type_term, type_terms};
 ghost use Rattle.widl_overload.specs.Distinct.{HaveMembers, any_nullable_clash, are_unrelated, by_rules, categories_apart, category, distinguishable as distinguishable_in, has_dictionary, has_nullable, is_dictionary, is_never, is_same, listed, nullable_clash, overlaps, union_members};
@@ -17,7 +17,7 @@ use widl_idl::{Defs, IdlType, IdlTypes, Iface, includes_nullable, nullable_count
 /// two members are compared by the same rules; where one type is no union, all that the rules come to is
 /// told by the flattened members.
 pub fn distinguishable(defs: &Defs, a: &IdlType, b: &IdlType) -> bool
-    ensures { result ≡ distinguishable_in defs.now.ifaces (type_term a.now) (type_term b.now) }
+    ensures { result ≡ distinguishable_in (defs_term defs.now).ifaces (type_term a.now) (type_term b.now) }
 {
     let ifaces = defs.ifaces.as_slice();
     match second_members(a, b) {
@@ -29,23 +29,23 @@ pub fn distinguishable(defs: &Defs, a: &IdlType, b: &IdlType) -> bool
 /// It is what the standard's four rules say in order, where the members of unions are compared by the
 /// same rules.
 pub fn distinguishable_by_rules()
-    ensures { (ifaces : List interfaces.Iface) (t u : TypeTerm) → distinguishable_in ifaces t u ≡ by_rules ifaces (distinguishable_in ifaces) t u }
+    ensures { (ifaces : List IfaceTerm) (t u : TypeTerm) → distinguishable_in ifaces t u ≡ by_rules ifaces (distinguishable_in ifaces) t u }
 {}
 
 /// Distinguishability is symmetric.
 pub fn distinguishable_is_symmetric()
-    ensures { (ifaces : List interfaces.Iface) (t u : TypeTerm) → distinguishable_in ifaces t u ≡ distinguishable_in ifaces u t }
+    ensures { (ifaces : List IfaceTerm) (t u : TypeTerm) → distinguishable_in ifaces t u ≡ distinguishable_in ifaces u t }
 {}
 
 /// No type whose unions each have at least one member is distinguishable from itself.
 pub fn distinguishable_from_itself()
-    ensures { (ifaces : List interfaces.Iface) (t : TypeTerm) → HaveMembers t → distinguishable_in ifaces t t ≡ false }
+    ensures { (ifaces : List IfaceTerm) (t : TypeTerm) → HaveMembers t → distinguishable_in ifaces t t ≡ false }
 {}
 
 /// Whether each member of a union is distinguishable from each of the others.
 #[cycle(rules)]
 fn members_apart_from(ifaces: &[Iface], t: &IdlType, others: &[IdlType]) -> bool
-    ensures { result ≡ list_all (apart_from ifaces.now (map type_term others.now)) (members_in (type_term t.now)) }
+    ensures { result ≡ list_all (apart_from (map iface_term ifaces.now) (map type_term others.now)) (members_in (type_term t.now)) }
 {
     match t {
         IdlType::Nullable(inner) => members_apart_from(ifaces, inner, others),
@@ -57,7 +57,7 @@ fn members_apart_from(ifaces: &[Iface], t: &IdlType, others: &[IdlType]) -> bool
 /// Whether each of these members is distinguishable from each of the others.
 #[cycle(rules)]
 fn each_apart_from(ifaces: &[Iface], members: &IdlTypes, others: &[IdlType]) -> bool
-    ensures { result ≡ list_all (apart_from ifaces.now (map type_term others.now)) (listed (packed (type_terms members.now))) }
+    ensures { result ≡ list_all (apart_from (map iface_term ifaces.now) (map type_term others.now)) (listed (packed (type_terms members.now))) }
 {
     for member in members.as_slice() {
         for other in others {
@@ -109,7 +109,7 @@ fn members_of(t: &IdlType) -> Option<&[IdlType]>
 /// each two types that they are flattened to are apart.
 #[tactic(auto, unfolding(crate::specs::Pairs::flattened_apart))]
 fn flattened_apart(ifaces: &[Iface], a: &IdlType, b: &IdlType) -> bool
-    ensures { result ≡ flattened_apart_in ifaces.now (type_term a.now) (type_term b.now) }
+    ensures { result ≡ flattened_apart_in (map iface_term ifaces.now) (type_term a.now) (type_term b.now) }
 {
     !any_clash(a, b) && members_apart(ifaces, a, b)
 }
@@ -179,7 +179,7 @@ fn any_member_dictionary(members: &IdlTypes) -> bool
 /// Whether each of the types that one type is flattened to is apart from each of the other's.
 #[cycle(pairs)]
 fn members_apart(ifaces: &[Iface], a: &IdlType, b: &IdlType) -> bool
-    ensures { result ≡ list_all (each_apart ifaces.now (flattened_member (type_term b.now))) (flattened_member (type_term a.now)) }
+    ensures { result ≡ list_all (each_apart (map iface_term ifaces.now) (flattened_member (type_term b.now))) (flattened_member (type_term a.now)) }
 {
     match a {
         IdlType::Nullable(inner) => members_apart(ifaces, inner, b),
@@ -190,7 +190,7 @@ fn members_apart(ifaces: &[Iface], a: &IdlType, b: &IdlType) -> bool
 
 #[cycle(pairs)]
 fn all_members_apart(ifaces: &[Iface], members: &IdlTypes, b: &IdlType) -> bool
-    ensures { result ≡ list_all (each_apart ifaces.now (flattened_member (type_term b.now))) (flattened_members (packed (type_terms members.now))) }
+    ensures { result ≡ list_all (each_apart (map iface_term ifaces.now) (flattened_member (type_term b.now))) (flattened_members (packed (type_terms members.now))) }
 {
     for member in members.as_slice() {
         if !members_apart(ifaces, member, b) {
@@ -202,7 +202,7 @@ fn all_members_apart(ifaces: &[Iface], members: &IdlTypes, b: &IdlType) -> bool
 
 #[tactic(auto, unfolding(crate::specs::Pairs::each_apart))]
 fn innermost_apart(ifaces: &[Iface], a: &IdlType, b: &IdlType) -> bool
-    ensures { result ≡ each_apart ifaces.now (flattened_member (type_term b.now)) (unannotated (type_term a.now)) }
+    ensures { result ≡ each_apart (map iface_term ifaces.now) (flattened_member (type_term b.now)) (unannotated (type_term a.now)) }
 {
     apart_from_members(ifaces, category_of(a), b)
 }
@@ -210,7 +210,7 @@ fn innermost_apart(ifaces: &[Iface], a: &IdlType, b: &IdlType) -> bool
 /// Whether a category is apart from that of each of the types that a type is flattened to.
 #[cycle(one)]
 fn apart_from_members(ifaces: &[Iface], c: Category, t: &IdlType) -> bool
-    ensures { result ≡ list_all (is_apart ifaces.now c) (flattened_member (type_term t.now)) }
+    ensures { result ≡ list_all (is_apart (map iface_term ifaces.now) c) (flattened_member (type_term t.now)) }
 {
     match t {
         IdlType::Nullable(inner) => apart_from_members(ifaces, c, inner),
@@ -221,7 +221,7 @@ fn apart_from_members(ifaces: &[Iface], c: Category, t: &IdlType) -> bool
 
 #[cycle(one)]
 fn apart_from_all_members(ifaces: &[Iface], c: Category, members: &IdlTypes) -> bool
-    ensures { result ≡ list_all (is_apart ifaces.now c) (flattened_members (packed (type_terms members.now))) }
+    ensures { result ≡ list_all (is_apart (map iface_term ifaces.now) c) (flattened_members (packed (type_terms members.now))) }
 {
     for member in members.as_slice() {
         if !apart_from_members(ifaces, c, member) {
@@ -233,7 +233,7 @@ fn apart_from_all_members(ifaces: &[Iface], c: Category, members: &IdlTypes) -> 
 
 #[tactic(auto, unfolding(crate::specs::Pairs::is_apart))]
 fn apart_from_innermost(ifaces: &[Iface], c: Category, t: &IdlType) -> bool
-    ensures { result ≡ is_apart ifaces.now c (unannotated (type_term t.now)) }
+    ensures { result ≡ is_apart (map iface_term ifaces.now) c (unannotated (type_term t.now)) }
 {
     are_apart(ifaces, c, category_of(t))
 }
@@ -241,7 +241,7 @@ fn apart_from_innermost(ifaces: &[Iface], c: Category, t: &IdlType) -> bool
 /// Whether two categories are apart: they differ and do not overlap, or they are interfaces neither
 /// of which is or inherits from the other.
 fn are_apart(ifaces: &[Iface], c: Category, d: Category) -> bool
-    ensures { result ≡ categories_apart ifaces.now c d }
+    ensures { result ≡ categories_apart (map iface_term ifaces.now) c d }
 {
     match (c, d) {
         (Category::Never, _) | (_, Category::Never) => false,

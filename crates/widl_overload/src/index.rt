@@ -2,6 +2,7 @@
 
 ghost use Rattle.std.specs.Prelude.{◌≡◌, ◌<◌, ◌≤◌, ℕ, [], drop, length, nat_le, take, true, false, MatchOption};
 ghost use Rattle.std.specs.List.{list_all};
+ghost use Rattle.widl_idl.specs.DefinitionTerms.{defs_term};
 ghost use Rattle.widl_overload.specs.Index.{IsDistinguishingIndex, apart_at, each_two, has_length as has_length_of, terms_of_length};
 ghost use Rattle.widl_overload.specs.Sets.{tuple_term, tuples_in};
 
@@ -13,7 +14,7 @@ use widl_idl::Defs;
 /// fewer than two tuples have that length, or no place does (Web IDL, "distinguishing argument
 /// index").
 pub fn distinguishing_index(defs: &Defs, set: &OverloadSet, len: u32) -> Option<u32>
-    ensures { IsDistinguishingIndex defs.now.ifaces (tuples_in set.now) len result }
+    ensures { IsDistinguishingIndex (defs_term defs.now).ifaces (tuples_in set.now) len result }
 {
     let tuples = run(&set.tuples, len as usize);
     if are_several(tuples, len as usize) {
@@ -82,8 +83,8 @@ pub(crate) fn are_several(tuples: &[Tuple], m: usize) -> bool
 /// The lowest place at which each two tuples of a length are distinguishable.
 fn first_telling(defs: &Defs, tuples: &[Tuple], len: u32) -> Option<u32>
     ensures { MatchOption result
-        ((p : ℕ) → p < len → each_two (apart_at defs.now.ifaces p) (terms_of_length len tuples.now) ≡ false)
-        (λ place. (place < len) × (each_two (apart_at defs.now.ifaces place) (terms_of_length len tuples.now) ≡ true) × ((p : ℕ) → p < place → each_two (apart_at defs.now.ifaces p) (terms_of_length len tuples.now) ≡ false)) }
+        ((p : ℕ) → p < len → each_two (apart_at (defs_term defs.now).ifaces p) (terms_of_length len tuples.now) ≡ false)
+        (λ place. (place < len) × (each_two (apart_at (defs_term defs.now).ifaces place) (terms_of_length len tuples.now) ≡ true) × ((p : ℕ) → p < place → each_two (apart_at (defs_term defs.now).ifaces p) (terms_of_length len tuples.now) ≡ false)) }
 {
     for place in 0..len {
         if distinguishes(defs, tuples, len as usize, place as usize) {
@@ -95,7 +96,7 @@ fn first_telling(defs: &Defs, tuples: &[Tuple], len: u32) -> Option<u32>
 
 /// Whether each two tuples of a length are distinguishable at a place.
 fn distinguishes(defs: &Defs, tuples: &[Tuple], m: usize, place: usize) -> bool
-    ensures { result ≡ each_two (apart_at defs.now.ifaces place) (terms_of_length m tuples.now) }
+    ensures { result ≡ each_two (apart_at (defs_term defs.now).ifaces place) (terms_of_length m tuples.now) }
 {
     for (number, tuple) in tuples.iter().enumerate() {
         let (_, others) = tuples.split_at(number + 1);
@@ -108,7 +109,7 @@ fn distinguishes(defs: &Defs, tuples: &[Tuple], m: usize, place: usize) -> bool
 
 /// Whether a tuple is distinguishable at a place from each of a length.
 fn is_apart_from_each(defs: &Defs, t: &Tuple, others: &[Tuple], m: usize, place: usize) -> bool
-    ensures { result ≡ list_all (apart_at defs.now.ifaces place (tuple_term t.now)) (terms_of_length m others.now) }
+    ensures { result ≡ list_all (apart_at (defs_term defs.now).ifaces place (tuple_term t.now)) (terms_of_length m others.now) }
 {
     for u in others {
         if has_length(u, m) && !are_apart_at(defs, t, u, place) {
@@ -121,7 +122,7 @@ fn is_apart_from_each(defs: &Defs, t: &Tuple, others: &[Tuple], m: usize, place:
 /// Whether two tuples have distinguishable types at a place.
 #[tactic(auto, unfolding(crate::specs::Index::apart_at))]
 fn are_apart_at(defs: &Defs, t: &Tuple, u: &Tuple, place: usize) -> bool
-    ensures { result ≡ apart_at defs.now.ifaces place (tuple_term t.now) (tuple_term u.now) }
+    ensures { result ≡ apart_at (defs_term defs.now).ifaces place (tuple_term t.now) (tuple_term u.now) }
 {
     if place < t.types.len() && place < u.types.len() {
         distinguishable(defs, t.types.at(place), u.types.at(place))

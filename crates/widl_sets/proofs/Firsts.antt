@@ -2,14 +2,14 @@
 use Rattle.std.proofs.Common.{◌≡◌, ℕ, ◌⊎◌, inl, inr, true, false, cond, List, length, nat_le, arith, sym, ap, ◌∙◌}
 use Rattle.std.specs.Prelude.{Option, None, Some}
 use Rattle.std.proofs.lemmas.Bool.{cases_Bool, le-leb, leb-true}
-use Rattle.widl_idl.specs.declared.interface.Iface.{Iface}
+use Rattle.widl_idl.specs.DefinitionTerms.{IfaceTerm}
 use Rattle.widl_overload.specs.Index.{IsDistinguishingIndex, of_one_length, distinguishes}
 use Rattle.widl_overload.specs.Sets.{TupleTerm}
 use Rattle.widl_spell.specs.Ids.{first_from}
 use Rattle.widl_spell.proofs.FirstFrom.{first_from_at, first_from_none}
 use Rattle.widl_sets.specs.Lines.{index_of}
 
-pub index_is : (ifaces : List Iface) (tuples : List TupleTerm) (len : ℕ) (index : Option ℕ) → IsDistinguishingIndex ifaces tuples len index → index ≡ index_of ifaces tuples len
+pub index_is : (ifaces : List IfaceTerm) (tuples : List TupleTerm) (len : ℕ) (index : Option ℕ) → IsDistinguishingIndex ifaces tuples len index → index ≡ index_of ifaces tuples len
 unfolding index_of
 index_is ifaces tuples len None h = by (cases_Bool (nat_le 2 (length (of_one_length len tuples))))
   where

@@ -3,5 +3,4 @@ pub mod Firsts
 pub mod Tuples
 pub mod Stepped
 pub mod PlainTuples
-pub mod SameIndex
 pub mod OneListing

@@ -11,26 +11,19 @@ use Rattle.widl_idl.specs.declared.operation.OpName.{OpName}
 use Rattle.widl_idl.specs.DefinitionTerms.{DefsTerm, IfaceTerm, OpNameTerm, SpaceTerm, defs_term, iface_term, op_name_term, space_term}
 use Rattle.widl_overload.specs.Sets.{TupleTerm}
 use Rattle.widl_spell.specs.Ids.{id_order, parents_of}
-use Rattle.widl_sets.specs.Lines.{after, is_last_of_length, line_of_index, lines_from, lines_of_set, tuple_line}
+use Rattle.widl_sets.specs.Lines.{after, lines_from, lines_of_set, tuple_line}
 use Rattle.widl_sets.specs.Listing.{all_lines, lines_at, lines_or_none, namespace_lines, operation_lines}
 use Rattle.widl_trace.specs.CalleeTexts.{constructor_text, operation_text}
 use Rattle.widl_sets.proofs.PlainTuples.{effective_by, effective_is}
-use Rattle.widl_sets.proofs.SameIndex.{same_index}
 
 parents_by : (ifaces : List Iface) → parents_of ifaces ≡ map (λ (i : IfaceTerm). i.parent) (map iface_term ifaces)
 parents_by [] = refl
 parents_by (i ∷ ifaces) = ap (λ ps. i.parent ∷ ps) (parents_by ifaces)
 
 module _ (xs ys : Defs) (same : defs_term xs ≡ defs_term ys) where
-  same_parents : parents_of xs.ifaces ≡ parents_of ys.ifaces
-  same_parents = parents_by xs.ifaces ∙ ap (λ (d : DefsTerm). map (λ (i : IfaceTerm). i.parent) d.ifaces) same ∙ sym (parents_by ys.ifaces)
-
-  same_after : (callee : List ℕ) (tuples : List TupleTerm) (t : TupleTerm) (next : Option TupleTerm) → after xs.ifaces callee tuples t next ≡ after ys.ifaces callee tuples t next
-  same_after callee tuples t next = λ i. cond (is_last_of_length t next) (line_of_index callee (length t.types) (same_index xs.ifaces ys.ifaces same_parents tuples (length t.types) i)) []
-
   same_from : (callee : List ℕ) (tuples rest : List TupleTerm) → lines_from xs callee tuples rest ≡ lines_from ys callee tuples rest
   same_from callee tuples [] = refl
-  same_from callee tuples (t ∷ rest) = λ i. tuple_line (same i) callee t ++ same_after callee tuples t (slice_get rest 0) i ++ same_from callee tuples rest i
+  same_from callee tuples (t ∷ rest) = λ i. tuple_line (same i) callee t ++ after (same i).ifaces callee tuples t (slice_get rest 0) ++ same_from callee tuples rest i
 
   same_set : (callee : List ℕ) (tuples : List TupleTerm) → lines_of_set xs callee tuples ≡ lines_of_set ys callee tuples
   unfolding lines_of_set

@@ -3,8 +3,7 @@ use Rattle.std.specs.Prelude.{◌≡◌, ℕ, ◌<◌, ◌++◌, Bool, true, Lis
 use Rattle.widl_idl.specs.declared.argument.Optionality.{Optionality}
 use Rattle.widl_idl.specs.declared.argument.Optionality.TheVariants.{Required, Optional, Variadic}
 use Rattle.widl_idl.specs.declared.defs.Defs.{Defs}
-use Rattle.widl_idl.specs.declared.interface.Iface.{Iface}
-use Rattle.widl_idl.specs.DefinitionTerms.{DefsTerm, defs_term}
+use Rattle.widl_idl.specs.DefinitionTerms.{DefsTerm, defs_term, IfaceTerm}
 use Rattle.widl_idl.specs.Terms.{TypeTerm}
 use Rattle.widl_overload.specs.Index.{of_one_length, distinguishes}
 use Rattle.widl_overload.specs.Sets.{TupleTerm}
@@ -33,7 +32,7 @@ unfoldable pub tuple_line : DefsTerm → List ℕ → TupleTerm → List ℕ
 tuple_line defs callee t = front callee (length t.types) ++ codes " #" ++ decimal t.overload ++ codes " (" ++ separated (codes ", ") (argument_texts defs t.types t.opts) ++ codes ")\n"
 
 -- the distinguishing argument index of the tuples of a length (Web IDL, "distinguishing argument index"): the lowest place that tells each two of several apart
-unfoldable pub index_of : List Iface → List TupleTerm → ℕ → Option ℕ
+unfoldable pub index_of : List IfaceTerm → List TupleTerm → ℕ → Option ℕ
 index_of ifaces tuples len = if nat_le 2 (length (of_one_length len tuples)) then first_from (distinguishes ifaces tuples len) 0 len else None
 
 -- the line of an index, if there is one
@@ -41,7 +40,7 @@ abbrev pub line_of_index : List ℕ → ℕ → Option ℕ → List ℕ
 line_of_index callee len None = []
 line_of_index callee len (Some place) = front callee len ++ codes " index " ++ decimal place ++ codes "\n"
 
-abbrev pub index_line : List Iface → List ℕ → List TupleTerm → ℕ → List ℕ
+abbrev pub index_line : List IfaceTerm → List ℕ → List TupleTerm → ℕ → List ℕ
 index_line ifaces callee tuples len = line_of_index callee len (index_of ifaces tuples len)
 
 -- whether a tuple is the last of its length, in a list by length, by the tuple after it
@@ -50,13 +49,13 @@ is_last_of_length t None = true
 is_last_of_length t (Some next) = not (nat_eq (length next.types) (length t.types))
 
 -- what stands after the line of a tuple: after the last of its length the line of the index
-abbrev pub after : List Iface → List ℕ → List TupleTerm → TupleTerm → Option TupleTerm → List ℕ
+abbrev pub after : List IfaceTerm → List ℕ → List TupleTerm → TupleTerm → Option TupleTerm → List ℕ
 after ifaces callee tuples t next = if is_last_of_length t next then index_line ifaces callee tuples (length t.types) else []
 
 -- the lines from a tuple of a set on
 abbrev pub lines_from : Defs → List ℕ → List TupleTerm → List TupleTerm → List ℕ
 lines_from defs callee tuples [] = []
-lines_from defs callee tuples (t ∷ rest) = tuple_line (defs_term defs) callee t ++ after defs.ifaces callee tuples t (slice_get rest 0) ++ lines_from defs callee tuples rest
+lines_from defs callee tuples (t ∷ rest) = tuple_line (defs_term defs) callee t ++ after (defs_term defs).ifaces callee tuples t (slice_get rest 0) ++ lines_from defs callee tuples rest
 
 -- the lines of a set: one for each tuple, and for each length of several tuples one for its index
 unfoldable pub lines_of_set : Defs → List ℕ → List TupleTerm → List ℕ

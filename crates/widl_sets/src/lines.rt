@@ -139,7 +139,7 @@ fn push_after(
     next: Option<&Tuple>,
 ) -> Result<(), AllocError>
     requires { IsTuple (tuple_term tuple.now) }
-    ensures { OnOk result (text.new.items ≡ text.old.items ++ after defs.now.ifaces callee.now (tuples_in set.now) (tuple_term tuple.now) (option_map tuple_term (option_copied next.entry))) }
+    ensures { OnOk result (text.new.items ≡ text.old.items ++ after (defs_term defs.now).ifaces callee.now (tuples_in set.now) (tuple_term tuple.now) (option_map tuple_term (option_copied next.entry))) }
 {
     if is_last_of_length(tuple, next) {
         push_index(text, defs, callee, set, tuple.types.len() as u32)
@@ -166,7 +166,7 @@ fn push_index(
     set: &OverloadSet,
     len: u32,
 ) -> Result<(), AllocError>
-    ensures { OnOk result (text.new.items ≡ text.old.items ++ index_line defs.now.ifaces callee.now (tuples_in set.now) len) }
+    ensures { OnOk result (text.new.items ≡ text.old.items ++ index_line (defs_term defs.now).ifaces callee.now (tuples_in set.now) len) }
 {
     match index_of(defs, set, len) {
         None => Ok(()),
@@ -175,7 +175,7 @@ fn push_index(
 }
 
 fn index_of(defs: &Defs, set: &OverloadSet, len: u32) -> Option<u32>
-    ensures { result ≡ index_of defs.now.ifaces (tuples_in set.now) len }
+    ensures { result ≡ index_of (defs_term defs.now).ifaces (tuples_in set.now) len }
 {
     distinguishing_index(defs, set, len)
 }

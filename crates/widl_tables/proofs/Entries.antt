@@ -4,14 +4,13 @@ use Rattle.std.specs.List.{list_any}
 use Rattle.std.specs.Option.{option_map_or}
 use Rattle.std.proofs.lemmas.List.{drop-map, length-append, length-map, length-replicate, length-take}
 use Rattle.widl_idl.specs.declared.argument.Arg.{Arg}
-use Rattle.widl_idl.specs.declared.interface.Iface.{Iface}
-use Rattle.widl_idl.specs.DefinitionTerms.{ArgTerm, DefsTerm, SigTerm, arg_term}
+use Rattle.widl_idl.specs.DefinitionTerms.{ArgTerm, DefsTerm, SigTerm, arg_term, IfaceTerm}
 use Rattle.widl_overload.specs.Entries.{cut, entry_for, entry_of, is_variadic_list, optionalities_of, repeated, types_of}
 use Rattle.widl_overload.specs.Index.{apart_at, each_two}
 use Rattle.widl_overload.specs.Sets.{TupleTerm, are_free, declared_opts, is_variadic, with_tuple}
 use Rattle.widl_overload.specs.Standing.{args_in}
 use Rattle.widl_overload.proofs.SameTuples.{opts_are}
-use Rattle.widl_tables.specs.Kept.{choosing_place, counted_args, entries_of, numbers_of, parents_of, telling_from}
+use Rattle.widl_tables.specs.Kept.{choosing_place, counted_args, entries_of, numbers_of, telling_from}
 use Rattle.widl_tables.specs.EntriesByNumber.{entries_in, has_entry, telling_among}
 
 -- 1. The entry of one overload
@@ -104,10 +103,10 @@ each_long m n (s ∷ sigs) =
     subst (λ (e : Option TupleTerm). EachLong m (with_tuple e (entries_of m (n + 1) sigs))) (sym (entry_is n s.args m))
     (all_by (has_entry s.args m) (entry_for n s.args m) (entries_of m (n + 1) sigs) m (entry_long n s.args m) (each_long m (n + 1) sigs))
 
-choosing_by : (list : DefsTerm) (m : ℕ) (entries : List TupleTerm) → EachLong m entries → telling_among (parents_of list) m entries ≡ choosing_place list entries
+choosing_by : (list : DefsTerm) (m : ℕ) (entries : List TupleTerm) → EachLong m entries → telling_among list.ifaces m entries ≡ choosing_place list entries
 choosing_by list m [] h = refl
 choosing_by list m (t ∷ []) h = refl
-choosing_by list m (t ∷ u ∷ more) h = ap (λ k. Some (telling_from (parents_of list) (t ∷ u ∷ more) 0 k)) (sym h.0)
+choosing_by list m (t ∷ u ∷ more) h = ap (λ k. Some (telling_from list.ifaces (t ∷ u ∷ more) 0 k)) (sym h.0)
 
 -- 4. What is kept
 
@@ -118,15 +117,15 @@ kept_entries sigs all m n numbers same counted listed =
 
 -- the place that tells them apart
 pub kept_place : (list : DefsTerm) (sigs all : List SigTerm) (m n : ℕ) (numbers : List ℕ) → sigs ≡ all → m ≡ counted_args sigs n → numbers ≡ numbers_of (entries_of m 0 sigs)
-    → telling_among (parents_of list) m (entries_in sigs m numbers) ≡ choosing_place list (entries_of (counted_args all n) 0 all)
+    → telling_among list.ifaces m (entries_in sigs m numbers) ≡ choosing_place list (entries_of (counted_args all n) 0 all)
 kept_place list sigs all m n numbers same counted listed =
-    ap (λ s. telling_among (parents_of list) m (entries_in s m numbers)) same
-    ∙ ap (λ entries. telling_among (parents_of list) m entries) (ap (entries_in all m) (listed ∙ ap (λ s. numbers_of (entries_of m 0 s)) same) ∙ entries_again all m)
+    ap (λ s. telling_among list.ifaces m (entries_in s m numbers)) same
+    ∙ ap (λ entries. telling_among list.ifaces m entries) (ap (entries_in all m) (listed ∙ ap (λ s. numbers_of (entries_of m 0 s)) same) ∙ entries_again all m)
     ∙ choosing_by list m (entries_of m 0 all) (each_long m 0 all)
     ∙ ap (λ k. choosing_place list (entries_of k 0 all)) (counted ∙ ap (λ s. counted_args s n) same)
 
 -- one place more was tried
-pub telling_more : (ifaces : List Iface) (entries : List TupleTerm) (place m : ℕ) → place < m → each_two (apart_at ifaces place) entries ≡ false → telling_from ifaces entries place (m - place) ≡ telling_from ifaces entries (place + 1) (m - (place + 1))
+pub telling_more : (ifaces : List IfaceTerm) (entries : List TupleTerm) (place m : ℕ) → place < m → each_two (apart_at ifaces place) entries ≡ false → telling_from ifaces entries place (m - place) ≡ telling_from ifaces entries (place + 1) (m - (place + 1))
 telling_more ifaces entries place m below none =
     let more : m - place ≡ suc (m - (place + 1)) = omega arith in
     ap (telling_from ifaces entries place) more ∙ ap (λ b. cond b place (telling_from ifaces entries (place + 1) (m - (place + 1)))) none

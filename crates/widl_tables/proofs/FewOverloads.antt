@@ -20,7 +20,7 @@ use Rattle.widl_overload.specs.Entries.{interface_overloads, namespace_overloads
 use Rattle.widl_overload.specs.Sets.{AreNumbered, TupleTerm}
 use Rattle.widl_overload.specs.Sets.{interface_overloads as declared_in_interface, namespace_overloads as declared_in_namespace, overloads_of as declared_overloads}
 use Rattle.widl_overload.proofs.Numbered.{overloads_numbered}
-use Rattle.widl_tables.specs.Kept.{choosing_place, parents_of, telling_from, telling_place}
+use Rattle.widl_tables.specs.Kept.{choosing_place, telling_from, telling_place}
 
 -- 1. The overloads of a callee, as terms
 
@@ -70,7 +70,7 @@ few_overloads defs callee h = subst (λ (sigs : List SigTerm). length sigs < 2 ^
 
 -- 2. The place of entries that need none
 
-alone_at : (list : DefsTerm) (t : TupleTerm) (m : ℕ) → telling_from (parents_of list) (t ∷ []) 0 m ≡ 0
+alone_at : (list : DefsTerm) (t : TupleTerm) (m : ℕ) → telling_from list.ifaces (t ∷ []) 0 m ≡ 0
 alone_at list t zero = refl
 alone_at list t (suc m) = refl
 

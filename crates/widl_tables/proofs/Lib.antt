@@ -1,4 +1,3 @@
-pub mod Parents
 pub mod Finding
 pub mod Entries
 pub mod Picking

@@ -1,7 +1,6 @@
 -- For proofs alone. Entries by the numbers of their overloads.
 use Rattle.std.specs.Prelude.{ℕ, Bool, if◌then◌else◌, nat_lt, List, [], ◌∷◌, length, drop, map, Option, None, Some}
-use Rattle.widl_idl.specs.declared.interface.Iface.{Iface}
-use Rattle.widl_idl.specs.DefinitionTerms.{ArgTerm, SigTerm}
+use Rattle.widl_idl.specs.DefinitionTerms.{ArgTerm, SigTerm, IfaceTerm}
 use Rattle.widl_overload.specs.Entries.{entry_for, is_variadic_list, optionalities_of}
 use Rattle.widl_overload.specs.Sets.{TupleTerm, are_free}
 use Rattle.widl_overload.specs.Standing.{args_in}
@@ -12,7 +11,7 @@ abbrev pub entries_in : List SigTerm → ℕ → List ℕ → List TupleTerm
 entries_in sigs m numbers = map (λ (e : ℕ). entry_for e (args_in sigs e) m) numbers
 
 -- the place by which a value chooses among entries of a length
-abbrev pub telling_among : List Iface → ℕ → List TupleTerm → Option ℕ
+abbrev pub telling_among : List IfaceTerm → ℕ → List TupleTerm → Option ℕ
 telling_among ifaces m [] = None
 telling_among ifaces m (t ∷ []) = None
 telling_among ifaces m (t ∷ u ∷ more) = Some (telling_from ifaces (t ∷ u ∷ more) 0 m)

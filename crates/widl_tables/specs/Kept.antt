@@ -3,8 +3,6 @@
 use Rattle.std.specs.Prelude.{ℕ, ◌+◌, min, max, zero, suc, List, [], ◌∷◌, length, filter, map, nat_lt, nat_eq, if◌then◌else◌, Bool, Option, None, Some}
 use Rattle.std.specs.List.{list_any}
 use Rattle.widl_idl.specs.declared.callee.Callee.{Callee}
-use Rattle.widl_idl.specs.declared.interface.Iface.{Iface}
-use Rattle.widl_idl.specs.declared.interface.Stringify.TheVariants as stringifiers
 use Rattle.widl_idl.specs.DefinitionTerms.{DefsTerm, SigTerm, IfaceTerm}
 use Rattle.widl_overload.specs.Entries.{declared_args, entry_for, entry_of, is_variadic_list, overloads_of}
 use Rattle.widl_overload.specs.Index.{apart_at, each_two}
@@ -49,30 +47,12 @@ entry_alone overload entries = filter (λ (t : TupleTerm). nat_eq t.overload ove
 
 -- 3. The argument that tells entries apart
 
--- an interface as the definitions of inheritance and of distinguishable types read it: its parent alone
-abbrev pub with_parent_alone : IfaceTerm → Iface
-with_parent_alone i = record {
-  at = i.at;
-  name = i.name;
-  parent = i.parent;
-  ctors = [];
-  ops = [];
-  attrs = [];
-  consts = [];
-  text = stringifiers.No;
-  pairs = None;
-  order = [];
-}
-
-abbrev pub parents_of : DefsTerm → List Iface
-parents_of list = map with_parent_alone list.ifaces
-
 -- a platform object of the first interface implements the second
 abbrev pub implements : DefsTerm → ℕ → ℕ → Bool
-implements list m n = if nat_eq m n then nat_lt m (length list.ifaces) else inherits (parents_of list) m n
+implements list m n = if nat_eq m n then nat_lt m (length list.ifaces) else inherits list.ifaces m n
 
 -- of so many places from one on, the lowest at which each two entries have distinguishable types; else the place after them
-abbrev pub telling_from : List Iface → List TupleTerm → ℕ → ℕ → ℕ
+abbrev pub telling_from : List IfaceTerm → List TupleTerm → ℕ → ℕ → ℕ
 telling_from ifaces entries place zero = place
 telling_from ifaces entries place (suc count) = if each_two (apart_at ifaces place) entries then place else telling_from ifaces entries (place + 1) count
 
@@ -82,7 +62,7 @@ first_length (t ∷ entries) = length t.types
 
 -- the distinguishing argument index of entries of one length; where several have none, which is so in no valid list, their length
 abbrev pub telling_place : DefsTerm → List TupleTerm → ℕ
-telling_place list entries = telling_from (parents_of list) entries 0 (first_length entries)
+telling_place list entries = telling_from list.ifaces entries 0 (first_length entries)
 
 -- the place by which a value chooses: there is one where there are several entries
 abbrev pub choosing_place : DefsTerm → List TupleTerm → Option ℕ

@@ -6,7 +6,7 @@ ghost use Rattle.widl_idl.specs.DefinitionTerms.{defs_term, sig_term};
 ghost use Rattle.widl_overload.specs.Entries.{entry_for};
 ghost use Rattle.widl_overload.specs.Index.{apart_at, each_two};
 ghost use Rattle.widl_overload.specs.Standing.{args_in};
-ghost use Rattle.widl_tables.specs.Kept.{parents_of, telling_from};
+ghost use Rattle.widl_tables.specs.Kept.{telling_from};
 ghost use Rattle.widl_tables.specs.EntriesByNumber.{entries_in, telling_among};
 
 use crate::entry_types::standing_at;
@@ -22,7 +22,7 @@ pub(crate) fn choosing_place(
     overloads: &[u32],
     argcount: u32,
 ) -> Option<u32>
-    ensures { result ≡ telling_among (parents_of (defs_term defs.now)) argcount (entries_in (map sig_term sigs.now) argcount overloads.now) }
+    ensures { result ≡ telling_among (defs_term defs.now).ifaces argcount (entries_in (map sig_term sigs.now) argcount overloads.now) }
 {
     if overloads.len() < 2 {
         None
@@ -33,7 +33,7 @@ pub(crate) fn choosing_place(
 
 /// The lowest such place, or the length.
 fn telling_place(defs: &Defs, sigs: &[Sig], overloads: &[u32], argcount: u32) -> u32
-    ensures { result ≡ telling_from (parents_of (defs_term defs.now)) (entries_in (map sig_term sigs.now) argcount overloads.now) 0 argcount }
+    ensures { result ≡ telling_from (defs_term defs.now).ifaces (entries_in (map sig_term sigs.now) argcount overloads.now) 0 argcount }
 {
     for place in 0..argcount {
         if tells(defs, sigs, overloads, argcount, place) {
@@ -45,7 +45,7 @@ fn telling_place(defs: &Defs, sigs: &[Sig], overloads: &[u32], argcount: u32) ->
 
 /// Whether each two of the entries have distinguishable types at a place.
 fn tells(defs: &Defs, sigs: &[Sig], overloads: &[u32], argcount: u32, place: u32) -> bool
-    ensures { result ≡ each_two (apart_at (parents_of (defs_term defs.now)) place) (entries_in (map sig_term sigs.now) argcount overloads.now) }
+    ensures { result ≡ each_two (apart_at (defs_term defs.now).ifaces place) (entries_in (map sig_term sigs.now) argcount overloads.now) }
 {
     for (number, overload) in overloads.iter().enumerate() {
         let (_, others) = overloads.split_at(number + 1);
@@ -65,7 +65,7 @@ fn is_apart_from_each(
     argcount: u32,
     place: u32,
 ) -> bool
-    ensures { result ≡ list_all (apart_at (parents_of (defs_term defs.now)) place (entry_for overload (args_in (map sig_term sigs.now) overload) argcount)) (entries_in (map sig_term sigs.now) argcount others.now) }
+    ensures { result ≡ list_all (apart_at (defs_term defs.now).ifaces place (entry_for overload (args_in (map sig_term sigs.now) overload) argcount)) (entries_in (map sig_term sigs.now) argcount others.now) }
 {
     for other in others {
         if !are_apart(defs, sigs, overload, *other, argcount, place) {
@@ -76,7 +76,7 @@ fn is_apart_from_each(
 }
 
 /// Whether two entries have distinguishable types at a place.
-#[tactic(auto, using(crate::proofs::Parents::apart_same), unfolding(widl_overload::specs::Index::apart_at))]
+#[tactic(auto, unfolding(widl_overload::specs::Index::apart_at))]
 fn are_apart(
     defs: &Defs,
     sigs: &[Sig],
@@ -85,7 +85,7 @@ fn are_apart(
     argcount: u32,
     place: u32,
 ) -> bool
-    ensures { result ≡ apart_at (parents_of (defs_term defs.now)) place (entry_for overload (args_in (map sig_term sigs.now) overload) argcount) (entry_for other (args_in (map sig_term sigs.now) other) argcount) }
+    ensures { result ≡ apart_at (defs_term defs.now).ifaces place (entry_for overload (args_in (map sig_term sigs.now) overload) argcount) (entry_for other (args_in (map sig_term sigs.now) other) argcount) }
 {
     let one = standing_at(sigs, overload, argcount, place);
     let another = standing_at(sigs, other, argcount, place);

@@ -72,7 +72,6 @@ impl TypeTest {
 }
 
 /// Whether a platform object of the first interface implements the second.
-#[tactic(auto, using(crate::proofs::Parents::inherits_same))]
 fn implements(defs: &Defs, own: u32, other: u32) -> bool
     ensures { result ≡ implements_of (defs_term defs.now) own other }
 {

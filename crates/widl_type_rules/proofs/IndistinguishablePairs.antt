@@ -2,7 +2,7 @@
 use Rattle.std.proofs.Common.{◌≡◌, ℕ, suc, Bool, true, false, ◌||◌, ◌&&◌, not, List, [], ◌∷◌, map, None, nat_eq, arith, refl, sym, ap, ◌∙◌}
 use Rattle.std.proofs.Math.Bool.{or-false}
 use Rattle.std.specs.List.{All, filter_map, list_any}
-use Rattle.widl_idl.specs.declared.interface.Iface.{Iface}
+use Rattle.widl_idl.specs.DefinitionTerms.{IfaceTerm}
 use Rattle.widl_idl.specs.Terms.{TypeTerm, NullableType, UnionType}
 use Rattle.widl_idl.specs.Flattened.{includes_nullable_type}
 use Rattle.widl_overload.specs.declared.category.Category.{Category}
@@ -29,7 +29,7 @@ flat_category (NullableType t) h = absurd h
 flat_category (UnionType ts) h = absurd h
 flat_category t h = refl
 
-abbrev related_kinds : List Iface → Category → Category → Bool
+abbrev related_kinds : List IfaceTerm → Category → Category → Bool
 related_kinds ifaces (Interface m) (Interface n) = are_related ifaces m n
 related_kinds ifaces c d = false
 
@@ -44,12 +44,12 @@ not_both true b = refl
 not_both false true = refl
 not_both false false = refl
 
-indistinguishable_kinds : (ifaces : List Iface) (c d : Category) → not (categories_apart ifaces c d) ≡ (clash c d || related_kinds ifaces c d)
+indistinguishable_kinds : (ifaces : List IfaceTerm) (c d : Category) → not (categories_apart ifaces c d) ≡ (clash c d || related_kinds ifaces c d)
 indistinguishable_kinds ifaces (Interface m) (Interface n) = ap not (or-false (not (nat_eq m n) && (not (inherits ifaces m n) && not (inherits ifaces n m)))) ∙ not_related (nat_eq m n) (inherits ifaces m n) (inherits ifaces n m)
 indistinguishable_kinds ifaces (Interface m) d = refl
 indistinguishable_kinds ifaces c d = not_both (is_never c || is_never d) (is_same c d || (overlaps c d || overlaps d c))
 
-module _ (ifaces : List Iface) where
+module _ (ifaces : List IfaceTerm) where
   abbrev indistinguishable : TypeTerm → TypeTerm → Bool
   indistinguishable t u = not (distinguishable ifaces t u)
 

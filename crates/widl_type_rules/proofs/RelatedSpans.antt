@@ -9,8 +9,8 @@ use Rattle.std.proofs.lemmas.Simd.{map-map}
 use Rattle.widl_graph.proofs.Reach.{first_step}
 use Rattle.widl_graph.specs.Reaching.{IsForest, Reaches, more, one}
 use Rattle.widl_fits.specs.Hierarchies.{interface_parents}
+use Rattle.widl_idl.specs.DefinitionTerms.{IfaceTerm}
 use Rattle.widl_graph.proofs.Complete.{step_within}
-use Rattle.widl_idl.specs.declared.interface.Iface.{Iface}
 use Rattle.widl_overload.specs.Inheritance.{inherits}
 use Rattle.widl_graph.specs.Spans.{AreSpans, AreWhole, parent_graph, span_of}
 use Rattle.widl_graph.specs.declared.spans.Span.{Span}
@@ -32,12 +32,12 @@ same_tests true b f g = sym (f refl)
 same_tests false true f g = g refl
 same_tests false false f g = refl
 
-pub parents_graph : (ifaces : List Iface) → parent_graph (map (λ (i : Iface). i.parent) ifaces) ≡ interface_parents ifaces
-parents_graph ifaces = map-map option_to_list (λ (i : Iface). i.parent) ifaces
+pub parents_graph : (ifaces : List IfaceTerm) → parent_graph (map (λ (i : IfaceTerm). i.parent) ifaces) ≡ interface_parents ifaces
+parents_graph ifaces = map-map option_to_list (λ (i : IfaceTerm). i.parent) ifaces
 
-module _ (ifaces : List Iface) (spans : List (Option Span)) (order : List ℕ) (forest : IsForest (interface_parents ifaces)) (all : AreSpans (map (λ (i : Iface). i.parent) ifaces) spans order) (whole : AreWhole spans) where
+module _ (ifaces : List IfaceTerm) (spans : List (Option Span)) (order : List ℕ) (forest : IsForest (interface_parents ifaces)) (all : AreSpans (map (λ (i : IfaceTerm). i.parent) ifaces) spans order) (whole : AreWhole spans) where
   count : length (interface_parents ifaces) ≡ length spans
-  count = length-map ifaces (λ (i : Iface). option_to_list i.parent) ∙ sym (all.size ∙ length-map ifaces (λ (i : Iface). i.parent))
+  count = length-map ifaces (λ (i : IfaceTerm). option_to_list i.parent) ∙ sym (all.size ∙ length-map ifaces (λ (i : IfaceTerm). i.parent))
 
   abbrev lineage : ℕ → Span
   lineage n = lineage_of spans n

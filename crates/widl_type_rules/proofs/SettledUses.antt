@@ -3,11 +3,11 @@ use Rattle.std.proofs.Common.{◌≡◌, Bool, true, false, ℕ, ◌++◌, List,
 use Rattle.std.specs.Prelude.{◌&&◌, ◌||◌, ◌==◌, not, Contains}
 use Rattle.std.specs.List.{list_any}
 use Rattle.widl_text.specs.declared.place.Place.{Place}
-use Rattle.widl_idl.specs.declared.interface.Iface.{Iface}
 use Rattle.widl_idl.specs.declared.kind.Kind.{Kind}
 use Rattle.widl_idl.specs.declared.kind.Kind.TheVariants as kinds
 use Rattle.widl_idl.specs.declared.text_kind.TextKind.TheVariants as texts
 use Rattle.widl_idl.specs.declared.violation.Violation.{Violation}
+use Rattle.widl_idl.specs.DefinitionTerms.{IfaceTerm}
 use Rattle.widl_idl.specs.Flattened.{flattened_member}
 use Rattle.widl_idl.specs.Meanings.{meaning, meant_kind}
 use Rattle.widl_idl.specs.PlainTrees.{PlainDefinition}
@@ -190,7 +190,7 @@ module _ (definitions : List PlainDefinition) (u : TypeUse) (e : is_settled defi
   no_clamp_and_enforce s h = nothing_listed (all_notes definitions u) h.clamp notes_are h.clamp_listed
 
   -- it breaks no rule on types
-  pub no_type_rule : (ifaces : List Iface) (which : ValidityRule) (s : Violation) → BreaksUse ifaces definitions which u s → ⊥
+  pub no_type_rule : (ifaces : List IfaceTerm) (which : ValidityRule) (s : Violation) → BreaksUse ifaces definitions which u s → ⊥
   no_type_rule ifaces rule.OtherConstantType = no_other_constant_type
   no_type_rule ifaces rule.CopiedAttribute = no_copied_attribute
   no_type_rule ifaces rule.UndefinedInside = no_undefined_inside

@@ -7,7 +7,7 @@ use Rattle.std.proofs.lemmas.List.Sorted.{All-permutation}
 use Rattle.std.proofs.Math.Bool.{and-true}
 use Rattle.std.specs.List.{All, list_any}
 use Rattle.std.specs.List.Sorted.{IsNonDecreasingBy, IsPermutation}
-use Rattle.widl_idl.specs.declared.interface.Iface.{Iface}
+use Rattle.widl_idl.specs.DefinitionTerms.{IfaceTerm}
 use Rattle.widl_type_rules.specs.IndistinguishablePairs.{any_pair, are_related}
 use Rattle.widl_graph.specs.declared.spans.Span.{Span}
 use Rattle.widl_type_rules.specs.Lineages.{TellRelated, begins_within, lineage_of, touches}
@@ -40,7 +40,7 @@ in_order (s ∷ spans) up h =
 pub sorted_touch : (spans sorted : List Span) → IsPermutation spans sorted → IsNonDecreasingBy (λ s. s.start) sorted → All (λ s. s.start < s.past) spans → any_pair begins_within sorted ≡ any_pair touches spans
 sorted_touch spans sorted p up h = in_order sorted up (All-permutation (λ (s : Span). s.start < s.past) spans sorted p h) ∙ any_pair_permuted touches symmetric spans sorted p
 
-module _ (ifaces : List Iface) (all : List (Option Span)) (told : TellRelated ifaces all) where
+module _ (ifaces : List IfaceTerm) (all : List (Option Span)) (told : TellRelated ifaces all) where
   one_related : (n : ℕ) (numbers : List ℕ) → list_any (touches (lineage_of all n)) (map (lineage_of all) numbers) ≡ list_any (are_related ifaces n) numbers
   one_related n [] = refl
   one_related n (m ∷ numbers) = λ j. sym (told.tells n m) j || one_related n numbers j

@@ -1,7 +1,7 @@
 -- For proofs alone. Pairs of flattened members that aren't distinguishable, by their kinds and by their interfaces.
 use Rattle.std.specs.Prelude.{ℕ, Bool, true, false, ◌||◌, ◌&&◌, not, List, [], ◌∷◌, ⊤, nat_eq, Option, None, Some}
 use Rattle.std.specs.List.{list_any}
-use Rattle.widl_idl.specs.declared.interface.Iface.{Iface}
+use Rattle.widl_idl.specs.DefinitionTerms.{IfaceTerm}
 use Rattle.widl_idl.specs.Terms.{TypeTerm, NullableType, UnionType}
 use Rattle.widl_overload.specs.declared.category.Category.{Category}
 use Rattle.widl_overload.specs.declared.category.Category.TheVariants.{Interface}
@@ -28,7 +28,7 @@ abbrev pub clash : Category → Category → Bool
 clash c d = (is_never c || is_never d) || (not (is_interface c && is_interface d) && (is_same c d || (overlaps c d || overlaps d c)))
 
 -- whether two interfaces are one, or one inherits from the other
-abbrev pub are_related : List Iface → ℕ → ℕ → Bool
+abbrev pub are_related : List IfaceTerm → ℕ → ℕ → Bool
 are_related ifaces m n = nat_eq m n || (inherits ifaces m n || inherits ifaces n m)
 
 -- the number of an interface

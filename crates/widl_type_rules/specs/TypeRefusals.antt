@@ -1,7 +1,7 @@
 -- The rules on types, asked of one type.
 use Rattle.std.specs.Prelude.{List, [], ◌∷◌}
-use Rattle.widl_idl.specs.declared.interface.Iface.{Iface}
 use Rattle.widl_idl.specs.declared.violation.Violation.{Violation}
+use Rattle.widl_idl.specs.DefinitionTerms.{IfaceTerm}
 use Rattle.widl_idl.specs.First.{Somewhere}
 use Rattle.widl_idl.specs.PlainTrees.{PlainDefinition}
 use Rattle.widl_overload.specs.declared.validity_rule.ValidityRule.{ValidityRule}
@@ -15,7 +15,7 @@ type_rules =
     rule.OtherConstantType ∷ rule.CopiedAttribute ∷ rule.UndefinedInside ∷ rule.WronglyNullable ∷ rule.SeveralNullableMembers ∷ rule.NullableBesideDictionary
     ∷ rule.AnnotatedUnionMember ∷ rule.NullableDictionary ∷ rule.MisplacedAnnotation ∷ rule.ClampAndEnforceRange ∷ rule.IndistinguishableUnionMembers ∷ []
 
-module _ (ifaces : List Iface) (definitions : List PlainDefinition) where
+module _ (ifaces : List IfaceTerm) (definitions : List PlainDefinition) where
   -- a type, with what it means, breaks the rule; no type breaks one that isn't on types
   abbrev pub BreaksType : ValidityRule → UseTerm → Violation → Type 0
   BreaksType rule.OtherConstantType r = IsOtherConstantType r.meaning r.written

@@ -2,6 +2,7 @@
 
 ghost use Rattle.std.specs.Prelude.{◌≡◌, ◌++◌, Ok, true, false, IfOk, OnOk, map};
 ghost use Rattle.std.specs.List.{All, filter_map};
+ghost use Rattle.widl_idl.specs.DefinitionTerms.{defs_term};
 ghost use Rattle.widl_idl.specs.Terms.{type_terms};
 ghost use Rattle.widl_overload.specs.Distinct.{category};
 ghost use Rattle.widl_overload.specs.TypeRules.{HaveIndistinguishablePair};
@@ -27,10 +28,10 @@ pub fn have_indistinguishable(
     lineages: &Lineages,
     types: &IdlTypes,
 ) -> Result<bool, AllocError>
-    requires told { TellRelated defs.now.ifaces lineages.now.spans.items }
+    requires told { TellRelated (defs_term defs.now).ifaces lineages.now.spans.items }
     requires flat { All IsFlat (type_terms types.now) }
-    ensures yes { result ≡ Ok true → HaveIndistinguishablePair defs.now.ifaces (type_terms types.now) }
-    ensures no { result ≡ Ok false → HaveIndistinguishablePair defs.now.ifaces (type_terms types.now) → ⊥ }
+    ensures yes { result ≡ Ok true → HaveIndistinguishablePair (defs_term defs.now).ifaces (type_terms types.now) }
+    ensures no { result ≡ Ok false → HaveIndistinguishablePair (defs_term defs.now).ifaces (type_terms types.now) → ⊥ }
 {
     if any_clash(types) {
         return Ok(true);

@@ -4,6 +4,7 @@ ghost use Rattle.std.specs.Prelude.{◌≡◌, map, IfOk};
 ghost use Rattle.widl_graph.specs.Reaching.{IsForest};
 ghost use Rattle.widl_fits.specs.Hierarchies.{interface_parents};
 ghost use Rattle.widl_idl.specs.declared.interface.Iface.{Iface as IfaceType};
+ghost use Rattle.widl_idl.specs.DefinitionTerms.{defs_term};
 ghost use Rattle.widl_type_rules.specs.Lineages.{TellRelated, lineage_of};
 
 use std::alloc::{AllocError, Global};
@@ -24,8 +25,8 @@ impl Lineages {
     ///
     /// `AllocError` where there is no memory.
     pub fn of(alloc: Global, defs: &Defs) -> Result<Lineages, AllocError>
-        requires { IsForest (interface_parents defs.now.ifaces) }
-        ensures { IfOk result (λ all. TellRelated defs.now.ifaces all.spans.items) }
+        requires { IsForest (interface_parents (defs_term defs.now).ifaces) }
+        ensures { IfOk result (λ all. TellRelated (defs_term defs.now).ifaces all.spans.items) }
     {
         let parents = parents_of(alloc, defs.ifaces.as_slice())?;
         let spans = Spans::of(alloc, parents.as_slice())?;

@@ -1,8 +1,9 @@
 //! Interfaces of which one is another one, or inherits from it.
 
-ghost use Rattle.std.specs.Prelude.{◌≡◌, ◌<◌, IfOk, OnOk};
+ghost use Rattle.std.specs.Prelude.{◌≡◌, ◌<◌, IfOk, OnOk, map};
 ghost use Rattle.std.specs.List.{All};
 ghost use Rattle.std.specs.List.Sorted.{IsNonDecreasingBy, IsPermutation};
+ghost use Rattle.widl_idl.specs.DefinitionTerms.{iface_term};
 ghost use Rattle.widl_type_rules.specs.IndistinguishablePairs.{any_pair, are_related};
 ghost use Rattle.widl_type_rules.specs.Lineages.{TellRelated, begins_within, touches};
 
@@ -23,8 +24,8 @@ pub fn any_related(
     lineages: &Lineages,
     numbers: &[u32],
 ) -> Result<bool, AllocError>
-    requires { TellRelated ifaces.now lineages.now.spans.items }
-    ensures { IfOk result (λ found. found ≡ any_pair (are_related ifaces.now) numbers.now) }
+    requires { TellRelated (map iface_term ifaces.now) lineages.now.spans.items }
+    ensures { IfOk result (λ found. found ≡ any_pair (are_related (map iface_term ifaces.now)) numbers.now) }
 {
     let spans = lineages.spans_of(alloc, numbers)?;
     any_touch(spans)

@@ -5,6 +5,7 @@
 
 ghost use Rattle.std.specs.Prelude.{◌≡◌, IfOk};
 ghost use Rattle.widl_graph.specs.Reaching.{IsForest};
+ghost use Rattle.widl_idl.specs.DefinitionTerms.{defs_term};
 ghost use Rattle.widl_fits.specs.Hierarchies.{interface_parents};
 ghost use Rattle.widl_idl.specs.PlainTrees.{definition_kind_of, plain_definitions};
 ghost use Rattle.widl_overload.specs.TypeUses.{uses_in_definition};
@@ -42,7 +43,7 @@ pub fn find_in_types<'a>(
     resolver: &Resolver<'_, '_, 'a>,
 ) -> Result<Option<Refusal>, AllocError>
     requires same { resolver.now ≡ meanings.now }
-    requires forest { IsForest (interface_parents defs.now.ifaces) }
+    requires forest { IsForest (interface_parents (defs_term defs.now).ifaces) }
     ensures { IfOk result (λ found. IsFirstOver defs.now (plain_definitions meanings.now) type_rules found) }
 {
     let lineages = Lineages::of(alloc, defs)?;
@@ -72,8 +73,8 @@ fn find_in_definition<'a>(
     kind: &'a DefinitionKind,
 ) -> Result<Option<Refusal>, AllocError>
     requires same { resolver.now ≡ meanings.now }
-    requires related { TellRelated defs.now.ifaces lineages.now.spans.items }
-    ensures { IfOk result (λ found. IsFirst (SomeBreaks defs.now.ifaces (plain_definitions resolver.now) (uses_in_definition (definition_kind_of kind.now))) type_rules found) }
+    requires related { TellRelated (defs_term defs.now).ifaces lineages.now.spans.items }
+    ensures { IfOk result (λ found. IsFirst (SomeBreaks (defs_term defs.now).ifaces (plain_definitions resolver.now) (uses_in_definition (definition_kind_of kind.now))) type_rules found) }
 {
     let uses = list_type_uses(alloc, kind)?;
     let mut best = None;
@@ -94,8 +95,8 @@ fn find_in_use<'a>(
     written: &TypeUse<'a>,
 ) -> Result<Option<Refusal>, AllocError>
     requires same { resolver.now ≡ meanings.now }
-    requires related { TellRelated defs.now.ifaces lineages.now.spans.items }
-    ensures { IfOk result (λ found. IsFirst (λ which. BreaksUse defs.now.ifaces (plain_definitions resolver.now) which (use_of written.now)) type_rules found) }
+    requires related { TellRelated (defs_term defs.now).ifaces lineages.now.spans.items }
+    ensures { IfOk result (λ found. IsFirst (λ which. BreaksUse (defs_term defs.now).ifaces (plain_definitions resolver.now) which (use_of written.now)) type_rules found) }
 {
     if is_settled(meanings, written) {
         Ok(None)
@@ -115,8 +116,8 @@ fn find_in_type<'a>(
     resolver: &Resolver<'_, '_, 'a>,
     ty: &ResolvedUse<'a>,
 ) -> Result<Option<Refusal>, AllocError>
-    requires { TellRelated defs.now.ifaces lineages.now.spans.items }
-    ensures { IfOk result (λ found. IsFirst (λ which. BreaksType defs.now.ifaces (plain_definitions resolver.now) which (resolved_use ty.now)) type_rules found) }
+    requires { TellRelated (defs_term defs.now).ifaces lineages.now.spans.items }
+    ensures { IfOk result (λ found. IsFirst (λ which. BreaksType (defs_term defs.now).ifaces (plain_definitions resolver.now) which (resolved_use ty.now)) type_rules found) }
 {
     let found = indistinguishable_union(alloc, defs, lineages, ty)?;
     let best = first(None, ValidityRule::IndistinguishableUnionMembers, found);

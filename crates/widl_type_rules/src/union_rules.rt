@@ -1,6 +1,7 @@
 //! The rule on unions with two flattened members that aren't distinguishable.
 
 ghost use Rattle.std.specs.Prelude.{◌≡◌, Ok, true, false, IfOk};
+ghost use Rattle.widl_idl.specs.DefinitionTerms.{defs_term};
 ghost use Rattle.widl_idl.specs.First.{FirstWhere};
 ghost use Rattle.widl_idl.specs.Terms.{type_term};
 ghost use Rattle.widl_overload.specs.TypeRules.{HaveIndistinguishableMembers, OfUnion, members_of_union};
@@ -25,8 +26,8 @@ pub fn indistinguishable_union(
     lineages: &Lineages,
     ty: &ResolvedUse<'_>,
 ) -> Result<Option<Violation>, AllocError>
-    requires { TellRelated defs.now.ifaces lineages.now.spans.items }
-    ensures { IfOk result (λ found. FirstWhere (OfUnion (HaveIndistinguishableMembers defs.now.ifaces) (resolved_use ty.now).meaning (resolved_use ty.now).written) found) }
+    requires { TellRelated (defs_term defs.now).ifaces lineages.now.spans.items }
+    ensures { IfOk result (λ found. FirstWhere (OfUnion (HaveIndistinguishableMembers (defs_term defs.now).ifaces) (resolved_use ty.now).meaning (resolved_use ty.now).written) found) }
 {
     if is_union(&ty.written.ty.form)
         && has_indistinguishable_members(alloc, defs, lineages, &ty.meaning)?
@@ -45,9 +46,9 @@ fn has_indistinguishable_members(
     lineages: &Lineages,
     t: &IdlType,
 ) -> Result<bool, AllocError>
-    requires { TellRelated defs.now.ifaces lineages.now.spans.items }
-    ensures yes { result ≡ Ok true → HaveIndistinguishableMembers defs.now.ifaces (members_of_union (type_term t.now)) }
-    ensures no { result ≡ Ok false → HaveIndistinguishableMembers defs.now.ifaces (members_of_union (type_term t.now)) → ⊥ }
+    requires { TellRelated (defs_term defs.now).ifaces lineages.now.spans.items }
+    ensures yes { result ≡ Ok true → HaveIndistinguishableMembers (defs_term defs.now).ifaces (members_of_union (type_term t.now)) }
+    ensures no { result ≡ Ok false → HaveIndistinguishableMembers (defs_term defs.now).ifaces (members_of_union (type_term t.now)) → ⊥ }
 {
     match t {
         IdlType::Nullable(inner) => has_indistinguishable_members(alloc, defs, lineages, inner),

@@ -1,37 +1,27 @@
 -- The rules of validity ask of a set of files its definitions and the terms of its merged list. So two sets that agree in these break the same rules.
 use Rattle.std.proofs.Common.{◌≡◌, List, map, sym, ap, subst, ◌∙◌}
 use Rattle.widl_idl.specs.declared.defs.Defs.{Defs}
-use Rattle.widl_idl.specs.declared.interface.Iface.{Iface}
 use Rattle.widl_idl.specs.declared.violation.Violation.{Violation}
-use Rattle.widl_idl.specs.DefinitionTerms.{DefsTerm, DictTerm, defs_term, iface_term}
+use Rattle.widl_idl.specs.DefinitionTerms.{DefsTerm, DictTerm, defs_term}
 use Rattle.widl_idl.specs.Meanings.{definitions_of}
 use Rattle.widl_idl.specs.MergedSets.{MergedSet}
 use Rattle.widl_idl.specs.PlainTrees.{PlainDefinition}
-use Rattle.widl_idl.specs.Terms.{TypeTerm}
 use Rattle.widl_overload.specs.declared.validity_rule.ValidityRule.{ValidityRule}
 use Rattle.widl_overload.specs.declared.validity_rule.ValidityRule.TheVariants as rule
 use Rattle.widl_overload.specs.DefaultRules.{HasNoEmptyDefault, HasOtherDefault}
 use Rattle.widl_overload.specs.Dictionaries.{dictionary_terms}
 use Rattle.widl_overload.specs.DictionaryRules.{BeginsLongChain, HasNameTwice, HoldsItself}
-use Rattle.widl_overload.specs.TypeRules.{HaveIndistinguishablePair}
-use Rattle.widl_overload.specs.Validity.{BreaksRule, BreaksValidity}
-use Rattle.widl_overload.proofs.SameInterfaces.{apart_same}
+use Rattle.widl_overload.specs.TypeRules.{HaveIndistinguishableMembers, OfUnion}
+use Rattle.widl_overload.specs.Validity.{BreaksRule, BreaksValidity, InOneType}
 use Rattle.widl_overload.proofs.SameOverloads.{indistinguishable_overloads_same, early_difference_same}
-
--- interfaces with the same terms have the same indistinguishable pairs
-pair_same : (xs ys : List Iface) → map iface_term xs ≡ map iface_term ys → (types : List TypeTerm) → HaveIndistinguishablePair xs types → HaveIndistinguishablePair ys types
-pair_same xs ys same types h = record { first = h.first; second = h.second; follows = h.follows; one = h.one; other = h.other; one_is = h.one_is; other_is = h.other_is; indistinguishable = sym (apart_same xs ys same h.one h.other) ∙ h.indistinguishable }
 
 -- two merged lists with the same terms
 module _ (a b : Defs) (same : defs_term a ≡ defs_term b) where
-  same_ifaces : map iface_term a.ifaces ≡ map iface_term b.ifaces
-  same_ifaces = ap (λ (l : DefsTerm). l.ifaces) same
-
   in_dictionaries : (P : List DictTerm → Type 0) → P (dictionary_terms a) → P (dictionary_terms b)
   in_dictionaries P h = subst (λ (l : DefsTerm). P l.dicts) same h
 
   rule_same : (definitions : List PlainDefinition) (which : ValidityRule) (s : Violation) → BreaksRule a definitions which s → BreaksRule b definitions which s
-  rule_same definitions rule.IndistinguishableUnionMembers s h = record { item = h.item; listed = h.listed; breaks = ((h.breaks.0.0, pair_same a.ifaces b.ifaces same_ifaces _ h.breaks.0.1), h.breaks.1) }
+  rule_same definitions rule.IndistinguishableUnionMembers s h = subst (λ (l : DefsTerm). InOneType a definitions (OfUnion (HaveIndistinguishableMembers l.ifaces)) s) same h
   rule_same definitions rule.OtherDefault s h = subst (λ l. HasOtherDefault l definitions s) same h
   rule_same definitions rule.NoEmptyDefault s h = subst (λ l. HasNoEmptyDefault l definitions s) same h
   rule_same definitions rule.RepeatedDictionaryMember s h = in_dictionaries (λ dicts. HasNameTwice dicts s) h

@@ -2,6 +2,7 @@ use Rattle.std.proofs.Common.{◌≡◌, true, false, map, Some, sym, ap, ◌∙
 use Rattle.std.specs.List.{list_all}
 use Rattle.std.specs.Option.{option_copied, option_map}
 use Rattle.std.proofs.lemmas.List.{take_all}
+use Rattle.widl_idl.specs.DefinitionTerms.{iface_term}
 use Rattle.widl_idl.specs.Terms.{type_term, type_terms}
 use Rattle.widl_overload.specs.Distinct.{distinguishable}
 use Rattle.widl_overload.specs.Pairs.{apart_from, listed_terms, second_members}
@@ -14,7 +15,7 @@ use Rattle.widl_overload.proofs.distinct.+rules.Goals.{each_apart_from-in-Some+t
 pub each_apart_from-returns-then-not-are_apart : goal.each_apart_from-returns-then-not-are_apart
 unfolding apart_from
 each_apart_from-returns-then-not-are_apart t c =
-    let ifaces = c.args.ifaces.now in
+    let ifaces = map iface_term c.args.ifaces.now in
     let one = type_term c.member-item.result in
     let other = type_term c.other-item.result in
     let told : c.match-second_members.are_apart ≡ distinguishable ifaces one other = elim c.match-second_members.branch [
@@ -40,7 +41,7 @@ each_apart_from-returns-then-not-are_apart t c =
 pub each_apart_from-loop-other-preserved : goal.each_apart_from-loop-other-preserved
 unfolding apart_from
 each_apart_from-loop-other-preserved t c =
-    let ifaces = c.args.ifaces.now in
+    let ifaces = map iface_term c.args.ifaces.now in
     let one = type_term c.member-item.result in
     let other = type_term c.other-item.result in
     let told : c.match-second_members.are_apart ≡ distinguishable ifaces one other = elim c.match-second_members.branch [
@@ -62,14 +63,14 @@ each_apart_from-loop-other-preserved t c =
 pub each_apart_from-returns : goal.each_apart_from-returns
 unfolding apart_from
 each_apart_from-returns t c =
-    let test = list_all (apart_from c.args.ifaces.now (map type_term c.args.others.now)) in
+    let test = list_all (apart_from (map iface_term c.args.ifaces.now) (map type_term c.args.others.now)) in
     sym (ap test (listed_packed (type_terms c.args.members.now)) ∙ ap (λ types. test (map type_term types)) (sym c.as_slice-member-items.ensures)
     ∙ ap (λ types. test (map type_term types)) (sym (take_all c.loop-member.member-index c.as_slice-member-items.result.now (omega arith))) ∙ c.loop-member.invariant)
 
 pub each_apart_from-loop-member-preserved : goal.each_apart_from-loop-member-preserved
 unfolding apart_from
 each_apart_from-loop-member-preserved t c =
-    let test = distinguishable c.args.ifaces.now (type_term c.member-item.result) in
+    let test = distinguishable (map iface_term c.args.ifaces.now) (type_term c.member-item.result) in
     let all : list_all test (map type_term c.args.others.now) ≡ true
     = ap (λ types. list_all test (map type_term types)) (sym (take_all c.loop-other.other-index c.args.others.now (omega arith))) ∙ c.loop-other.invariant in
-    term_more (apart_from c.args.ifaces.now (map type_term c.args.others.now)) c.as_slice-member-items.result.now c.loop-member.member-index c.member-item.result (omega arith) c.member-item.is all c.loop-member.invariant
+    term_more (apart_from (map iface_term c.args.ifaces.now) (map type_term c.args.others.now)) c.as_slice-member-items.result.now c.loop-member.member-index c.member-item.result (omega arith) c.member-item.is all c.loop-member.invariant

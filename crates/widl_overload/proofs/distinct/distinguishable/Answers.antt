@@ -1,5 +1,6 @@
 use Rattle.std.proofs.Common.{◌≡◌, false, map, Some, sym, ap, ◌∙◌}
 use Rattle.std.specs.Option.{option_copied, option_map}
+use Rattle.widl_idl.specs.DefinitionTerms.{iface_term}
 use Rattle.widl_idl.specs.Terms.{type_term}
 use Rattle.widl_overload.specs.Distinct.{distinguishable}
 use Rattle.widl_overload.specs.Pairs.{listed_terms, second_members}
@@ -14,13 +15,13 @@ returns-then-not-do_clash c =
     let none : c.do_clash.result ≡ false = (let not = c.if-not-do_clash.true in cc) in
     let second : second_members t u ≡ Some (map type_term c.in-Some.others.now)
     = sym c.second_members.ensures ∙ ap (λ r. option_map listed_terms (option_copied r)) c.in-Some.is ∙ ap Some (listed_packed (map type_term c.in-Some.others.now)) in
-    left_told c.as_slice-ifaces.result.now t u (map type_term c.in-Some.others.now) c.do_clash.result c.members_apart_from.result second c.do_clash.ensures none c.members_apart_from.ensures
-    ∙ ap (λ ifaces. distinguishable ifaces t u) c.as_slice-ifaces.ensures
+    left_told (map iface_term c.as_slice-ifaces.result.now) t u (map type_term c.in-Some.others.now) c.do_clash.result c.members_apart_from.result second c.do_clash.ensures none c.members_apart_from.ensures
+    ∙ ap (λ ifaces. distinguishable (map iface_term ifaces) t u) c.as_slice-ifaces.ensures
 
 pub returns-in-None : goal.returns-in-None
 returns-in-None c =
     let t = type_term c.args.a.now in
     let u = type_term c.args.b.now in
     c.flattened_apart.ensures
-    ∙ other_told c.as_slice-ifaces.result.now t u (sym c.second_members.ensures ∙ ap (λ r. option_map listed_terms (option_copied r)) c.in-None.is)
-    ∙ ap (λ ifaces. distinguishable ifaces t u) c.as_slice-ifaces.ensures
+    ∙ other_told (map iface_term c.as_slice-ifaces.result.now) t u (sym c.second_members.ensures ∙ ap (λ r. option_map listed_terms (option_copied r)) c.in-None.is)
+    ∙ ap (λ ifaces. distinguishable (map iface_term ifaces) t u) c.as_slice-ifaces.ensures

@@ -1,4 +1,5 @@
 use Rattle.std.proofs.Common.{subst}
+use Rattle.widl_idl.specs.DefinitionTerms.{defs_term}
 use Rattle.widl_overload.specs.OverloadRules.{operation_lists}
 use Rattle.widl_overload.specs.OverloadViolations.{AreViolationsAt, AreViolationsIn}
 use Rattle.widl_overload.proofs.ViolationSteps.{violations_before}
@@ -6,7 +7,7 @@ use Rattle.widl_overload.proofs.overload_rules.violations_in_interface.Goals as 
 
 pub returns : goal.returns
 returns c =
-    let ifaces = c.args.defs.now.ifaces in
+    let ifaces = (defs_term c.args.defs.now).ifaces in
     let first = subst (λ sigs. AreViolationsAt ifaces sigs c.in_ok-constructors.constructors) c.as_slice.ensures c.in_ok-constructors.ensures in
     let later = subst (λ ops. AreViolationsIn ifaces (operation_lists ops) c.in_ok-operations.operations) c.as_slice-2.ensures c.in_ok-operations.ensures in
     violations_before ifaces c.args.iface.now.ctors (operation_lists c.args.iface.now.ops) c.in_ok-constructors.constructors c.in_ok-operations.operations c.earlier.result first later c.earlier.ensures

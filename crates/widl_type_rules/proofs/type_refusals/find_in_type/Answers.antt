@@ -1,3 +1,4 @@
+use Rattle.widl_idl.specs.DefinitionTerms.{defs_term}
 use Rattle.widl_idl.specs.PlainTrees.{plain_definitions}
 use Rattle.widl_idl.proofs.Steps.{first_rule, no_rules}
 use Rattle.widl_overload.specs.Validity.{validity_number}
@@ -9,7 +10,7 @@ use Rattle.widl_type_rules.proofs.type_refusals.find_in_type.Goals as goal
 
 pub returns : goal.returns
 returns c =
-    let b : Breaking = λ which. BreaksType c.args.defs.now.ifaces (plain_definitions c.args.resolver.now) which (resolved_use c.args.ty.now) in
+    let b : Breaking = λ which. BreaksType (defs_term c.args.defs.now).ifaces (plain_definitions c.args.resolver.now) which (resolved_use c.args.ty.now) in
     first_rule validity_number b rule.OtherConstantType _ _ _ _ c.other_constant_type.ensures c.first.ensures
     (first_rule validity_number b rule.CopiedAttribute _ _ _ _ c.copied_attribute.ensures c.first-best-10.ensures
     (first_rule validity_number b rule.UndefinedInside _ _ _ _ c.undefined_inside.ensures c.first-best-9.ensures

@@ -1,4 +1,5 @@
 use Rattle.std.proofs.Common.{arith, refl, subst}
+use Rattle.widl_idl.specs.DefinitionTerms.{defs_term}
 use Rattle.widl_idl.specs.FirstRefusal.{violation_of}
 use Rattle.widl_idl.specs.PlainTrees.{PlainDefinition, definition_of, plain_definitions}
 use Rattle.widl_idl.proofs.Somewhere.{nowhere}
@@ -11,11 +12,11 @@ use Rattle.widl_refusals.proofs.FirstRefusals.{all_items, list_pushed, next_item
 use Rattle.widl_type_rules.proofs.type_refusals.find_in_types.Goals as goal
 
 pub loop-definition-init : goal.loop-definition-init
-loop-definition-init c = (λ r b. nowhere (BreaksUse c.args.defs.now.ifaces (plain_definitions c.args.meanings.now) b.which) (violation_of r) b.breaks, c.in_ok-lineages.ensures)
+loop-definition-init c = (λ r b. nowhere (BreaksUse (defs_term c.args.defs.now).ifaces (plain_definitions c.args.meanings.now) b.which) (violation_of r) b.breaks, c.in_ok-lineages.ensures)
 
 pub loop-definition-preserved : goal.loop-definition-preserved
 loop-definition-preserved c =
-    let ifaces = c.args.defs.now.ifaces in
+    let ifaces = (defs_term c.args.defs.now).ifaces in
     let definitions = plain_definitions c.args.meanings.now in
     let d = definition_of c.definition-item.result.now in (
       next_item type_rules (λ ds. SomeBreaks ifaces definitions (type_uses_of ds)) (λ before e. SomeBreaks ifaces definitions (uses_in_definition e.kind)) (λ before e which. list_pushed (BreaksUse ifaces definitions which) (λ (x : PlainDefinition). uses_in_definition x.kind) before e) (λ e. definition_of e.now) c.all-definitions.result.now c.loop-definition.definition-index c.definition-item.result c.loop-definition.best c.in_ok-found.found _
@@ -27,7 +28,7 @@ loop-definition-preserved c =
 
 pub returns : goal.returns
 returns c =
-    let ifaces = c.args.defs.now.ifaces in
+    let ifaces = (defs_term c.args.defs.now).ifaces in
     let definitions = plain_definitions c.args.meanings.now in
     same_rules (SomeBreaks ifaces definitions (type_uses_of definitions)) (BreaksRule c.args.defs.now definitions) type_rules c.loop-definition.best refl
     (subst (λ ds. IsFirst (SomeBreaks ifaces definitions (type_uses_of ds)) type_rules c.loop-definition.best) (listed_same c.all-definitions.result.now c.args.meanings.now c.all-definitions.ensures)

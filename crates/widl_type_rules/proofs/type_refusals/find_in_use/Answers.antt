@@ -1,5 +1,6 @@
 use Rattle.std.proofs.Common.{sym, subst, ap, ◌∙◌}
 use Rattle.std.specs.Prelude.{IfOk}
+use Rattle.widl_idl.specs.DefinitionTerms.{defs_term}
 use Rattle.widl_idl.specs.FirstRefusal.{violation_of}
 use Rattle.widl_idl.specs.PlainTrees.{plain_definitions}
 use Rattle.widl_refusals.specs.Refusals.{IsFirst}
@@ -10,7 +11,7 @@ use Rattle.widl_type_rules.proofs.SettledUses.{no_type_rule}
 use Rattle.widl_type_rules.proofs.type_refusals.find_in_use.Goals as goal
 
 pub returns-then-is_settled : goal.returns-then-is_settled
-returns-then-is_settled c = λ r b. no_type_rule (plain_definitions c.args.resolver.now) (use_of c.args.written.now) (ap (λ d. is_settled (plain_definitions d) (use_of c.args.written.now)) c.requires.same ∙ sym c.is_settled.ensures ∙ c.if-is_settled.true) c.args.defs.now.ifaces b.which (violation_of r) b.breaks
+returns-then-is_settled c = λ r b. no_type_rule (plain_definitions c.args.resolver.now) (use_of c.args.written.now) (ap (λ d. is_settled (plain_definitions d) (use_of c.args.written.now)) c.requires.same ∙ sym c.is_settled.ensures ∙ c.if-is_settled.true) (defs_term c.args.defs.now).ifaces b.which (violation_of r) b.breaks
 
 pub returns-in_ok-ty : goal.returns-in_ok-ty
-returns-in_ok-ty c = subst (λ r. IfOk c.find_in_type-found.result (λ found. IsFirst (λ which. BreaksType c.args.defs.now.ifaces (plain_definitions c.args.resolver.now) which r) type_rules found)) c.in_ok-ty.ensures c.find_in_type-found.ensures
+returns-in_ok-ty c = subst (λ r. IfOk c.find_in_type-found.result (λ found. IsFirst (λ which. BreaksType (defs_term c.args.defs.now).ifaces (plain_definitions c.args.resolver.now) which r) type_rules found)) c.in_ok-ty.ensures c.find_in_type-found.ensures

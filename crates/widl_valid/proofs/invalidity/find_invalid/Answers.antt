@@ -1,5 +1,6 @@
 use Rattle.std.proofs.Common.{◌≡◌, List, Option, length, arith, sym, ap, subst, ◌∙◌}
 use Rattle.std.proofs.lemmas.List.{length-map}
+use Rattle.widl_idl.specs.DefinitionTerms.{defs_term}
 use Rattle.widl_idl.specs.declared.defs.Defs.{Defs}
 use Rattle.widl_idl.specs.declared.refusal.Refusal.{Refusal}
 use Rattle.widl_idl.specs.Meanings.{definitions_of}
@@ -62,7 +63,7 @@ find_in_defaults-requires-clause-hierarchy c =
 pub find_in_types-requires-clause-forest : goal.find_in_types-requires-clause-forest
 find_in_types-requires-clause-forest c =
     let set = c.args.merged.now in
-    subst (λ (d : Defs). IsForest (interface_parents d.ifaces)) (sym c.defs-defs.ensures.defs) (merged_interfaces set.defs set.fragments c.defs-defs.ensures.merged)
+    subst (λ (d : Defs). IsForest (interface_parents (defs_term d).ifaces)) (sym c.defs-defs.ensures.defs) (merged_interfaces set.defs set.fragments c.defs-defs.ensures.merged)
 
 pub returns : goal.returns
 returns c =
