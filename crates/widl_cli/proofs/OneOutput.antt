@@ -2,7 +2,7 @@
 use Rattle.std.proofs.Common.{◌≡◌, ℕ, List, drop, ap, refl, subst, sym, ◌∙◌}
 use Rattle.std.specs.Prelude.{Option, Some, None}
 use Rattle.widl_idl.specs.MergedSets.{MergedSet}
-use Rattle.widl_sets.proofs.OneListing.{same_lines}
+use Rattle.widl_sets.specs.Listing.{all_lines}
 use Rattle.widl_front.specs.Findings.{finding_line}
 use Rattle.widl_front.specs.Texts.{named}
 use Rattle.widl_front.specs.Verdicts.{AreAlike, AreSameSets, IsVerdict, refusal_line}
@@ -56,7 +56,7 @@ told_by others same a b alike o p is also = is ∙ same a b alike ∙ sym also
 
 -- the lines of sets are told by the terms of the list
 lines_told : (a b : MergedSet) → AreSameSets a b → sets_output a ≡ sets_output b
-lines_told a b same = ap (λ lines. record { bytes = lines; status = ends.Done }) (same_lines a.defs b.defs same.merged)
+lines_told a b same = ap (λ list. record { bytes = all_lines list; status = ends.Done }) same.merged
 
 -- what is known of verdicts, of scripts and of traces
 pub record Known : Type 0 where

@@ -37,7 +37,7 @@ abbrev pub accepted_output : MergedSet → Output
 accepted_output set = last (codes "accepted") ends.Done
 
 abbrev pub sets_output : MergedSet → Output
-sets_output set = record { bytes = all_lines set.defs; status = ends.Done }
+sets_output set = record { bytes = all_lines (defs_term set.defs); status = ends.Done }
 
 -- what is written for an accepted set over which scripts can't be run yet
 abbrev pub later_output : Output

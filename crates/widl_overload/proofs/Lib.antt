@@ -1,3 +1,4 @@
+pub mod Terms
 pub mod Walks
 pub mod Parents
 pub mod Ruled
@@ -13,6 +14,4 @@ pub mod DifferingTuples
 pub mod Rows
 pub mod OnlyViolations
 pub mod ViolationSteps
-pub mod SameTuples
-pub mod SameOverloads
 pub mod OverTerms

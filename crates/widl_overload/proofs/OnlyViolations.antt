@@ -3,8 +3,8 @@ use Rattle.std.proofs.Common.{◌≡◌, ℕ, ◌-◌, ◌<◌, ◌≤◌, true,
 use Rattle.std.specs.Prelude.{Option, None, Some, option_map, slice_get}
 use Rattle.std.proofs.lemmas.Option.{same_Some}
 use Rattle.widl_text.specs.declared.place.Place.{Place}
-use Rattle.widl_idl.specs.declared.signature.Sig.{Sig}
 use Rattle.widl_idl.specs.declared.violation.Violation.{Violation}
+use Rattle.widl_idl.specs.DefinitionTerms.{SigTerm}
 use Rattle.widl_idl.specs.First.{FirstWhere}
 use Rattle.widl_idl.proofs.Order.{first_same, one_violation}
 use Rattle.widl_overload.specs.Index.{of_one_length}
@@ -19,7 +19,7 @@ use Rattle.widl_overload.proofs.Rows.{row_of}
 abbrev pub violation : Place → Option Place → Violation
 violation at other = record { at = at; other = other }
 
-module _ (sigs : List Sig) (tuples : List TupleTerm) where
+module _ (sigs : List SigTerm) (tuples : List TupleTerm) where
   place_of : (o : Option TupleTerm) (t : TupleTerm) (n : ℕ) → o ≡ Some t → Some n ≡ option_map number_of o → overload_place sigs t ≡ place_of_number sigs n
   place_of o t n e number = ap (place_of_number sigs) (same_Some t.overload n (sym (number ∙ ap (option_map number_of) e)))
 
@@ -69,7 +69,7 @@ pub first_only : (P : Violation → Type 0) (found : Option Violation) → IsOnl
 first_only P None none = none
 first_only P (Some s) h = first_same (λ t. P s × (s ≡ t)) P (Some s) (λ t q. subst P q.1 q.0) (λ t p. (h.holds, h.only t p)) (one_violation (P s) s true (Some s) (λ e. h.holds) (λ e. absurd (cc)) refl)
 
-module _ (P : List TupleTerm → ℕ → Type 0) (sigs : List Sig) where
+module _ (P : List TupleTerm → ℕ → Type 0) (sigs : List SigTerm) where
   one_first : (Q : ℕ → Type 0) (m n : ℕ) → IsLeastNumber Q m → IsLeastNumber Q n → m ≡ n
   one_first Q m n a b =
       let not_below : m < n → ⊥ = λ l. b.first m l a.holds in

@@ -5,8 +5,7 @@ use Rattle.std.specs.List.{All, list_all}
 use Rattle.std.proofs.lemmas.List.{length-map}
 use Rattle.std.proofs.lemmas.List.Elements.{All-cons, All-contains, All-nil}
 use Rattle.std.proofs.lemmas.Option.{slice_get-map}
-use Rattle.widl_idl.specs.DefinitionTerms.{IfaceTerm}
-use Rattle.widl_idl.specs.declared.signature.Sig.{Sig}
+use Rattle.widl_idl.specs.DefinitionTerms.{IfaceTerm, SigTerm}
 use Rattle.widl_overload.specs.declared.span.Span.{Span}
 use Rattle.widl_overload.specs.Index.{IsIndex, apart_at, distinguishes, each_two, of_one_length, types_apart}
 use Rattle.widl_overload.specs.Numbers.{AllAgree, FirstDiffers, IsEarly, IsTelling, NoneTells, NumbersAgreeBefore, NumbersDifferAt, numbers_apart, numbers_tell}
@@ -20,12 +19,12 @@ use Rattle.widl_overload.proofs.NumberedTuples.{StandsFor, numbers_are, tuples_s
 use Rattle.widl_overload.proofs.OneLength.{of_this_length}
 
 -- the overloads with these numbers have these tuples of a length
-pub record AreOf (sigs : List Sig) (m : ℕ) (numbers : List ℕ) (tuples : List TupleTerm) : Type 0 where
+pub record AreOf (sigs : List SigTerm) (m : ℕ) (numbers : List ℕ) (tuples : List TupleTerm) : Type 0 where
   pub are : numbers ≡ map number_of tuples
   pub stand : All (StandsFor sigs m) tuples
 
 -- a row has the tuples of its length
-pub row_of : (sigs : List Sig) (spans : List Span) (m : ℕ) (numbers : List ℕ) → m ≤ longest sigs → AreSpans sigs spans → numbers ≡ true_places 0 (spans_hold m spans) → AreOf sigs m numbers (of_one_length m (effective_tuples sigs 0))
+pub row_of : (sigs : List SigTerm) (spans : List Span) (m : ℕ) (numbers : List ℕ) → m ≤ longest sigs → AreSpans sigs spans → numbers ≡ true_places 0 (spans_hold m spans) → AreOf sigs m numbers (of_one_length m (effective_tuples sigs 0))
 row_of sigs spans m numbers within spanned is = subst (AreOf sigs m numbers) (sym (of_this_length sigs m within)) (record {
   are = is ∙ ap (true_places 0) (spanned.each m) ∙ sym (numbers_are sigs m 0);
   stand = tuples_stand sigs m;
@@ -42,7 +41,7 @@ numbered_at (t ∷ tuples) (suc k) n below e =
 numbered : (tuples : List TupleTerm) (n : ℕ) → Contains (map number_of tuples) n → (t : TupleTerm) × Contains tuples t × (t.overload ≡ n)
 numbered tuples n c = let size = length-map tuples number_of in numbered_at tuples c.0 n (omega (arith, c.1)) c.2
 
-module _ (ifaces : List IfaceTerm) (sigs : List Sig) (m p : ℕ) (below : p < m) where
+module _ (ifaces : List IfaceTerm) (sigs : List SigTerm) (m p : ℕ) (below : p < m) where
   apart_same : (t u : TupleTerm) → StandsFor sigs m t → StandsFor sigs m u → apart_at ifaces p t u ≡ numbers_apart ifaces sigs p t.overload u.overload
   unfolding apart_at numbers_apart
   apart_same t u a b = λ i. types_apart ifaces (a.types p below i) (b.types p below i)
@@ -57,7 +56,7 @@ module _ (ifaces : List IfaceTerm) (sigs : List Sig) (m p : ℕ) (below : p < m)
       let later : All (StandsFor sigs m) tuples = λ k d l. all (suc k) d (omega arith) in
       λ i. each_same t tuples (all 0 t (omega arith)) later i && two_same tuples later i
 
-module _ (sigs : List Sig) (m : ℕ) where
+module _ (sigs : List SigTerm) (m : ℕ) where
   differ_same : (t u : TupleTerm) (i j p : ℕ) → p < m → StandsFor sigs m t → StandsFor sigs m u → t.overload ≡ i → u.overload ≡ j → NumbersDifferAt sigs i j p → DifferAt t u p
   differ_same t u i j p below a b is other d =
       let here : NumbersDifferAt sigs t.overload u.overload p = subst (λ k. NumbersDifferAt sigs k u.overload p) (sym is) (subst (λ k. NumbersDifferAt sigs i k p) (sym other) d) in
@@ -103,7 +102,7 @@ module _ (sigs : List Sig) (m : ℕ) where
       by_first (Some t) e = differ_by_first index tuples t false (sym e)
           (all_agree t tuples index within (All-contains (StandsFor sigs m) tuples t all (first_listed tuples t (sym e))) all (agree t.overload (slice_get-map number_of tuples 0 ∙ ap (option_map number_of) e)))
 
-module _ (ifaces : List IfaceTerm) (sigs : List Sig) (tuples : List TupleTerm) (m : ℕ) (numbers : List ℕ) (fit : AreOf sigs m numbers (of_one_length m tuples)) where
+module _ (ifaces : List IfaceTerm) (sigs : List SigTerm) (tuples : List TupleTerm) (m : ℕ) (numbers : List ℕ) (fit : AreOf sigs m numbers (of_one_length m tuples)) where
   same_count : length numbers ≡ length (of_one_length m tuples)
   same_count = ap length fit.are ∙ length-map (of_one_length m tuples) number_of
 

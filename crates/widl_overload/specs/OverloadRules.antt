@@ -2,31 +2,26 @@
 -- Source: Web IDL, "Overloading" and "distinguishing argument index".
 use Rattle.std.specs.Prelude.{◌≡◌, ◌≢◌, ◌⊎◌, ℕ, ◌-◌, ◌<◌, ◌≤◌, Bool, true, false, List, [], ◌∷◌, ◌++◌, Contains, length, map, filter, flat_map, slice_get, Option, Some, option_map}
 use Rattle.widl_text.specs.declared.place.Place.{Place}
-use Rattle.widl_idl.specs.declared.defs.Defs.{Defs}
-use Rattle.widl_idl.specs.declared.interface.Iface.{Iface}
-use Rattle.widl_idl.specs.declared.namespace.Space.{Space}
-use Rattle.widl_idl.specs.declared.operation.OpName.{OpName}
-use Rattle.widl_idl.specs.declared.signature.Sig.{Sig}
 use Rattle.widl_idl.specs.declared.violation.Violation.{Violation}
-use Rattle.widl_idl.specs.DefinitionTerms.{IfaceTerm, defs_term}
+use Rattle.widl_idl.specs.DefinitionTerms.{DefsTerm, IfaceTerm, OpNameTerm, SigTerm, SpaceTerm}
 use Rattle.widl_idl.specs.First.{Somewhere}
 use Rattle.widl_overload.specs.Index.{IsIndex, of_one_length, distinguishes}
 use Rattle.widl_overload.specs.Sets.{TupleTerm, effective_tuples}
 
 -- whether operations have a name; those without one can't be called
-abbrev pub has_name : OpName → Bool
+abbrev pub has_name : OpNameTerm → Bool
 has_name op = is_text op.name
   where
     is_text : List ℕ → Bool
     is_text [] = false
     is_text (c ∷ more) = true
 
-abbrev pub operation_lists : List OpName → List (List Sig)
-operation_lists ops = map (λ (op : OpName). op.sigs) (filter has_name ops)
+abbrev pub operation_lists : List OpNameTerm → List (List SigTerm)
+operation_lists ops = map (λ (op : OpNameTerm). op.sigs) (filter has_name ops)
 
 -- the overloads of all that can be called: of each interface its constructors and the operations of each name, and of each namespace the operations of each name
-abbrev pub overload_lists : Defs → List (List Sig)
-overload_lists defs = flat_map (λ (i : Iface). i.ctors ∷ operation_lists i.ops) defs.ifaces ++ flat_map (λ (s : Space). operation_lists s.ops) defs.spaces
+abbrev pub overload_lists : DefsTerm → List (List SigTerm)
+overload_lists defs = flat_map (λ (i : IfaceTerm). i.ctors ∷ operation_lists i.members.ops) defs.ifaces ++ flat_map (λ (s : SpaceTerm). operation_lists s.members.ops) defs.spaces
 
 -- the least number of which something holds
 pub record IsLeastNumber (P : ℕ → Type 0) (n : ℕ) : Type 0 where
@@ -55,11 +50,11 @@ pub record DifferEarly (ifaces : List IfaceTerm) (tuples : List TupleTerm) (m : 
   pub differ : DifferAt one other place
 
 -- the place of the name of a tuple's overload
-abbrev pub overload_place : List Sig → TupleTerm → Option Place
-overload_place sigs t = option_map (λ (s : Sig). s.at) (slice_get sigs t.overload)
+abbrev pub overload_place : List SigTerm → TupleTerm → Option Place
+overload_place sigs t = option_map (λ (s : SigTerm). s.at) (slice_get sigs t.overload)
 
 -- the violation is the name of the last overload of these tuples, and speaks of that of the first
-pub record AtOverloads (sigs : List Sig) (tuples : List TupleTerm) (s : Violation) : Type 0 where
+pub record AtOverloads (sigs : List SigTerm) (tuples : List TupleTerm) (s : Violation) : Type 0 where
   pub first : TupleTerm
   pub last : TupleTerm
   pub is_first : slice_get tuples 0 ≡ Some first
@@ -68,15 +63,15 @@ pub record AtOverloads (sigs : List Sig) (tuples : List TupleTerm) (s : Violatio
   pub other_first : overload_place sigs first ≡ s.other
 
 -- of the lengths of the effective overload set of which this holds the smallest one, at the names of its overloads
-pub record AtSmallestLength (P : List TupleTerm → ℕ → Type 0) (sigs : List Sig) (s : Violation) : Type 0 where
+pub record AtSmallestLength (P : List TupleTerm → ℕ → Type 0) (sigs : List SigTerm) (s : Violation) : Type 0 where
   pub size : ℕ
   pub smallest : IsLeastNumber (P (effective_tuples sigs 0)) size
   pub at_names : AtOverloads sigs (of_one_length size (effective_tuples sigs 0)) s
 
 -- rule 35: tuples of one length have no distinguishing index
-abbrev pub HasIndistinguishableOverloads : Defs → Violation → Type 0
-HasIndistinguishableOverloads defs s = Somewhere (AtSmallestLength (LacksIndex (defs_term defs).ifaces)) (overload_lists defs) s
+abbrev pub HasIndistinguishableOverloads : DefsTerm → Violation → Type 0
+HasIndistinguishableOverloads defs s = Somewhere (AtSmallestLength (LacksIndex defs.ifaces)) (overload_lists defs) s
 
 -- rule 36: tuples of one length differ before their distinguishing index
-abbrev pub HasEarlyDifference : Defs → Violation → Type 0
-HasEarlyDifference defs s = Somewhere (AtSmallestLength (DifferEarly (defs_term defs).ifaces)) (overload_lists defs) s
+abbrev pub HasEarlyDifference : DefsTerm → Violation → Type 0
+HasEarlyDifference defs s = Somewhere (AtSmallestLength (DifferEarly defs.ifaces)) (overload_lists defs) s

@@ -1,7 +1,6 @@
 -- What is found on the way to the rules on overloads.
 use Rattle.std.specs.Prelude.{◌≡◌, ℕ, ◌<◌, ◌≤◌, List, Contains, slice_get, Option, None, MatchOption}
-use Rattle.widl_idl.specs.DefinitionTerms.{IfaceTerm}
-use Rattle.widl_idl.specs.declared.signature.Sig.{Sig}
+use Rattle.widl_idl.specs.DefinitionTerms.{IfaceTerm, SigTerm}
 use Rattle.widl_idl.specs.declared.violation.Violation.{Violation}
 use Rattle.widl_idl.specs.First.{FirstWhere, Somewhere, earlier}
 use Rattle.widl_overload.specs.declared.overload_sizes.BreakingLengths.{BreakingLengths}
@@ -61,7 +60,7 @@ abbrev pub IsOnly : (Violation → Type 0) → Option Violation → Type 0
 IsOnly P found = MatchOption found ((s : Violation) → P s → ⊥) (IsOnlyViolation P)
 
 -- the violation at the names of the overloads that have tuples of a length, if there is such a length
-abbrev pub IsAtNames : List Sig → List TupleTerm → Option ℕ → Option Violation → Type 0
+abbrev pub IsAtNames : List SigTerm → List TupleTerm → Option ℕ → Option Violation → Type 0
 IsAtNames sigs tuples size found = MatchOption size (found ≡ None) (λ m. IsOnly (AtOverloads sigs (of_one_length m tuples)) found)
 
 -- the first violations at which each of two rules is broken
@@ -70,11 +69,11 @@ pub record AreFirst (Indistinguishable Early : Violation → Type 0) (violations
   pub early : FirstWhere Early violations.early
 
 -- the first violations in one list of overloads
-abbrev pub AreViolationsAt : List IfaceTerm → List Sig → OverloadViolations → Type 0
+abbrev pub AreViolationsAt : List IfaceTerm → List SigTerm → OverloadViolations → Type 0
 AreViolationsAt ifaces sigs violations = AreFirst (AtSmallestLength (LacksIndex ifaces) sigs) (AtSmallestLength (DifferEarly ifaces) sigs) violations
 
 -- the first violations in several lists of overloads
-abbrev pub AreViolationsIn : List IfaceTerm → List (List Sig) → OverloadViolations → Type 0
+abbrev pub AreViolationsIn : List IfaceTerm → List (List SigTerm) → OverloadViolations → Type 0
 AreViolationsIn ifaces lists violations = AreFirst (Somewhere (AtSmallestLength (LacksIndex ifaces)) lists) (Somewhere (AtSmallestLength (DifferEarly ifaces)) lists) violations
 
 abbrev pub no_violations : OverloadViolations

@@ -1,12 +1,11 @@
 -- For proofs alone. The lengths of which an overload has tuples, and the numbers of the overloads that have one of a length.
 use Rattle.std.specs.Prelude.{◌≡◌, ℕ, ◌+◌, ◌<◌, ◌≤◌, Bool, true, false, ◌&&◌, ◌||◌, List, [], ◌∷◌, length, drop, map, nat_le, is_some, if◌then◌else◌}
-use Rattle.widl_idl.specs.declared.argument.Arg.{Arg}
-use Rattle.widl_idl.specs.declared.signature.Sig.{Sig}
+use Rattle.widl_idl.specs.DefinitionTerms.{ArgTerm, SigTerm}
 use Rattle.widl_overload.specs.declared.span.Span.{Span}
 use Rattle.widl_overload.specs.Sets.{are_free, declared_opts, tuple_of}
 
 -- whether an overload with these arguments has a tuple of a length
-abbrev pub has_tuple : ℕ → List Arg → Bool
+abbrev pub has_tuple : ℕ → List ArgTerm → Bool
 has_tuple m args = is_some (tuple_of 0 args m)
 
 abbrev pub holds : ℕ → Span → Bool
@@ -15,16 +14,16 @@ holds m span = nat_le span.least m && (nat_le m span.declared || span.is_variadi
 abbrev pub spans_hold : ℕ → List Span → List Bool
 spans_hold m spans = map (holds m) spans
 
-abbrev pub have_tuples : ℕ → List Sig → List Bool
-have_tuples m sigs = map (λ (s : Sig). has_tuple m s.args) sigs
+abbrev pub have_tuples : ℕ → List SigTerm → List Bool
+have_tuples m sigs = map (λ (s : SigTerm). has_tuple m s.args) sigs
 
 -- the lengths of the tuples of each overload
-pub record AreSpans (sigs : List Sig) (spans : List Span) : Type 0 where
+pub record AreSpans (sigs : List SigTerm) (spans : List Span) : Type 0 where
   pub count : length spans ≡ length sigs
   pub each : (m : ℕ) → spans_hold m spans ≡ have_tuples m sigs
 
 -- the place from which on a call may leave out each argument, and before which it may not
-pub record IsFreeStart (args : List Arg) (start : ℕ) : Type 0 where
+pub record IsFreeStart (args : List ArgTerm) (start : ℕ) : Type 0 where
   pub within : start ≤ length args
   pub free : (m : ℕ) → start ≤ m → are_free (declared_opts (drop m args)) ≡ true
   pub others : (m : ℕ) → m < start → are_free (declared_opts (drop m args)) ≡ false

@@ -96,8 +96,8 @@ module _ (defs : Defs) (definitions : List PlainDefinition) where
   BreaksRule rule.HiddenIterationMethod s = HidesIterationMethod definitions s
   BreaksRule rule.CallbackInterfaceOperations s = InOneDefinition (λ d. HasOtherThanOne d.kind) s
   BreaksRule rule.Stringifiers s = Somewhere (IsOtherStringifier definitions) (nodes_of definitions) s ⊎ InOneOwner is_interface_kind IsSecondStringifier definitions s
-  BreaksRule rule.IndistinguishableOverloads s = HasIndistinguishableOverloads defs s
-  BreaksRule rule.EarlyDifference s = HasEarlyDifference defs s
+  BreaksRule rule.IndistinguishableOverloads s = HasIndistinguishableOverloads (defs_term defs) s
+  BreaksRule rule.EarlyDifference s = HasEarlyDifference (defs_term defs) s
   BreaksRule rule.WritablePromise s = Somewhere (IsWritablePromise definitions) (nodes_of definitions) s
   BreaksRule rule.PromisesAndOthers s = InOneOwner has_members_of_its_own (MixesPromises definitions) definitions s
   BreaksRule rule.NamelessOperation s = InOneDefinition (λ d. HasNameless d.kind) s

@@ -1,6 +1,7 @@
 //! The names of the overloads that break a rule.
 
-ghost use Rattle.std.specs.Prelude.{◌≡◌, ◌<◌, IfOk, length};
+ghost use Rattle.std.specs.Prelude.{◌≡◌, ◌<◌, IfOk, length, map};
+ghost use Rattle.widl_idl.specs.DefinitionTerms.{sig_term};
 ghost use Rattle.widl_overload.specs.OverloadNames.{AreNamed, AreNamedAt, place_of_number};
 
 use crate::span::{Span, overloads_of_length};
@@ -21,7 +22,7 @@ pub(crate) fn at_names(
     size: Option<u32>,
 ) -> Result<Option<Violation>, AllocError>
     requires few { length spans.now < 4294967296 }
-    ensures { IfOk result (λ violation. AreNamedAt sigs.now spans.now size violation) }
+    ensures { IfOk result (λ violation. AreNamedAt (map sig_term sigs.now) spans.now size violation) }
 {
     match size {
         None => Ok(None),
@@ -34,7 +35,7 @@ pub(crate) fn at_names(
 
 /// The violation at the name of the last of these overloads, which speaks of that of the first.
 fn at_ends(sigs: &[Sig], overloads: &[u32]) -> Option<Violation>
-    ensures { AreNamed sigs.now overloads.now result }
+    ensures { AreNamed (map sig_term sigs.now) overloads.now result }
 {
     let first = overloads.first()?;
     let last = overloads.last()?;
@@ -47,7 +48,7 @@ fn at_ends(sigs: &[Sig], overloads: &[u32]) -> Option<Violation>
 
 /// The place of the name of an overload.
 fn overload_place(sigs: &[Sig], number: u32) -> Option<Place>
-    ensures { result ≡ place_of_number sigs.now number }
+    ensures { result ≡ place_of_number (map sig_term sigs.now) number }
 {
     match sigs.get(number as usize) {
         None => None,

@@ -1,9 +1,9 @@
 //! The rules on overloads: those of one length are distinguishable, by the first argument at which they
 //! differ.
 
-ghost use Rattle.std.specs.Prelude.{◌≡◌, IfOk, [], ◌∷◌};
+ghost use Rattle.std.specs.Prelude.{◌≡◌, IfOk, [], ◌∷◌, map};
 ghost use Rattle.widl_idl.specs.Counts.{IsNumbered, IsNumberedList, NumberedInterface, NumberedNamespace, NumberedOp};
-ghost use Rattle.widl_idl.specs.DefinitionTerms.{defs_term};
+ghost use Rattle.widl_idl.specs.DefinitionTerms.{defs_term, iface_term, op_name_term, sig_term, space_term};
 ghost use Rattle.widl_overload.specs.OverloadLists.{lists_of_interface, lists_of_interfaces, lists_of_namespaces};
 ghost use Rattle.widl_overload.specs.OverloadRules.{operation_lists, overload_lists};
 ghost use Rattle.widl_overload.specs.OverloadViolations.{AreViolationsAt, AreViolationsIn};
@@ -27,7 +27,7 @@ pub fn first_overload_violations(
     defs: &Defs,
 ) -> Result<OverloadViolations, AllocError>
     requires { IsNumberedList defs.now }
-    ensures { IfOk result (λ violations. AreViolationsIn (defs_term defs.now).ifaces (overload_lists defs.now) violations) }
+    ensures { IfOk result (λ violations. AreViolationsIn (defs_term defs.now).ifaces (overload_lists (defs_term defs.now)) violations) }
 {
     let in_interfaces = violations_in_interfaces(alloc, defs, defs.ifaces.as_slice())?;
     let in_namespaces = violations_in_namespaces(alloc, defs, defs.spaces.as_slice())?;
@@ -40,7 +40,7 @@ fn violations_in_interfaces(
     ifaces: &[Iface],
 ) -> Result<OverloadViolations, AllocError>
     requires { IsNumbered NumberedInterface ifaces.now }
-    ensures { IfOk result (λ violations. AreViolationsIn (defs_term defs.now).ifaces (lists_of_interfaces ifaces.now) violations) }
+    ensures { IfOk result (λ violations. AreViolationsIn (defs_term defs.now).ifaces (lists_of_interfaces (map iface_term ifaces.now)) violations) }
 {
     let mut best = OverloadViolations::none();
     for iface in ifaces {
@@ -56,7 +56,7 @@ fn violations_in_interface(
     iface: &Iface,
 ) -> Result<OverloadViolations, AllocError>
     requires { NumberedInterface iface.now }
-    ensures { IfOk result (λ violations. AreViolationsIn (defs_term defs.now).ifaces (lists_of_interface iface.now) violations) }
+    ensures { IfOk result (λ violations. AreViolationsIn (defs_term defs.now).ifaces (lists_of_interface (iface_term iface.now)) violations) }
 {
     let constructors = violations_of_overloads(alloc, defs, iface.ctors.as_slice())?;
     let operations = violations_in_operations(alloc, defs, iface.ops.as_slice())?;
@@ -69,7 +69,7 @@ fn violations_in_namespaces(
     spaces: &[Space],
 ) -> Result<OverloadViolations, AllocError>
     requires { IsNumbered NumberedNamespace spaces.now }
-    ensures { IfOk result (λ violations. AreViolationsIn (defs_term defs.now).ifaces (lists_of_namespaces spaces.now) violations) }
+    ensures { IfOk result (λ violations. AreViolationsIn (defs_term defs.now).ifaces (lists_of_namespaces (map space_term spaces.now)) violations) }
 {
     let mut best = OverloadViolations::none();
     for space in spaces {
@@ -85,7 +85,7 @@ fn violations_in_operations(
     ops: &[OpName],
 ) -> Result<OverloadViolations, AllocError>
     requires { IsNumbered NumberedOp ops.now }
-    ensures { IfOk result (λ violations. AreViolationsIn (defs_term defs.now).ifaces (operation_lists ops.now) violations) }
+    ensures { IfOk result (λ violations. AreViolationsIn (defs_term defs.now).ifaces (operation_lists (map op_name_term ops.now)) violations) }
 {
     let mut best = OverloadViolations::none();
     for op in ops {
@@ -102,7 +102,7 @@ fn violations_of_operation(
     op: &OpName,
 ) -> Result<OverloadViolations, AllocError>
     requires { NumberedOp op.now }
-    ensures { IfOk result (λ violations. AreViolationsIn (defs_term defs.now).ifaces (operation_lists (op.now ∷ [])) violations) }
+    ensures { IfOk result (λ violations. AreViolationsIn (defs_term defs.now).ifaces (operation_lists (op_name_term op.now ∷ [])) violations) }
 {
     if op.name.len() == 0 {
         Ok(OverloadViolations::none())
@@ -117,8 +117,8 @@ pub(crate) fn violations_of_overloads(
     defs: &Defs,
     sigs: &[Sig],
 ) -> Result<OverloadViolations, AllocError>
-    requires { AreNumbered sigs.now }
-    ensures { IfOk result (λ violations. AreViolationsAt (defs_term defs.now).ifaces sigs.now violations) }
+    requires { AreNumbered (map sig_term sigs.now) }
+    ensures { IfOk result (λ violations. AreViolationsAt (defs_term defs.now).ifaces (map sig_term sigs.now) violations) }
 {
     if sigs.len() < 2 {
         return Ok(OverloadViolations::none());

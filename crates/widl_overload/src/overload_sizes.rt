@@ -1,8 +1,8 @@
 //! The smallest lengths at which an effective overload set breaks the rules on overloads. No tuple is built:
 //! the walk goes over the lengths, and over the overloads that have a tuple of each.
 
-ghost use Rattle.std.specs.Prelude.{◌≡◌, ◌-◌, ◌<◌, IfOk, MatchBool, MatchOption, None, Some, false, length, nat_le};
-ghost use Rattle.widl_idl.specs.DefinitionTerms.{defs_term};
+ghost use Rattle.std.specs.Prelude.{◌≡◌, ◌-◌, ◌<◌, IfOk, MatchBool, MatchOption, None, Some, false, length, nat_le, map};
+ghost use Rattle.widl_idl.specs.DefinitionTerms.{defs_term, sig_term};
 ghost use Rattle.widl_overload.specs.Numbers.{IsEarly, IsRow, IsTelling, NoneTells};
 ghost use Rattle.widl_overload.specs.OverloadViolations.{AreSmallest};
 ghost use Rattle.widl_overload.specs.Sets.{AreNumbered, effective_tuples, longest};
@@ -53,11 +53,11 @@ pub(crate) fn breaking_lengths(
     spans: &[Span],
     most: usize,
 ) -> Result<BreakingLengths, AllocError>
-    requires numbered { AreNumbered sigs.now }
-    requires spans { AreSpans sigs.now spans.now }
-    requires most { most ≡ longest sigs.now }
+    requires numbered { AreNumbered (map sig_term sigs.now) }
+    requires spans { AreSpans (map sig_term sigs.now) spans.now }
+    requires most { most ≡ longest (map sig_term sigs.now) }
     requires few { most < 4294967296 }
-    ensures { IfOk result (λ lengths. AreSmallest (defs_term defs.now).ifaces (effective_tuples sigs.now 0) most lengths) }
+    ensures { IfOk result (λ lengths. AreSmallest (defs_term defs.now).ifaces (effective_tuples (map sig_term sigs.now) 0) most lengths) }
 {
     let mut row = Row {
         overloads: Items::new(alloc),
@@ -110,9 +110,9 @@ fn next_row(
     m: u32,
 ) -> Result<Row, AllocError>
     requires few { length spans.now < 4294967296 }
-    requires before { IsRow (defs_term defs.now).ifaces sigs.now (m - 1) row }
+    requires before { IsRow (defs_term defs.now).ifaces (map sig_term sigs.now) (m - 1) row }
     requires listed { AreListed spans.now m row.end row.overloads }
-    ensures row { IfOk result (λ next. IsRow (defs_term defs.now).ifaces sigs.now m next) }
+    ensures row { IfOk result (λ next. IsRow (defs_term defs.now).ifaces (map sig_term sigs.now) m next) }
     ensures now { IfOk result (λ next. next.overloads ≡ true_places 0 (spans_hold m spans.now)) }
     ensures listed { IfOk result (λ next. AreListed spans.now m next.end next.overloads) }
 {
@@ -127,8 +127,8 @@ fn next_row(
 
 /// The row of a length of which the same overloads have a tuple as of the one before.
 fn longer_row(defs: &Defs, sigs: &[Sig], row: Row, m: u32) -> Row
-    requires { IsRow (defs_term defs.now).ifaces sigs.now (m - 1) row }
-    ensures row { IsRow (defs_term defs.now).ifaces sigs.now m result }
+    requires { IsRow (defs_term defs.now).ifaces (map sig_term sigs.now) (m - 1) row }
+    ensures row { IsRow (defs_term defs.now).ifaces (map sig_term sigs.now) m result }
     ensures same { result.overloads ≡ row.overloads }
     ensures end { result.end ≡ row.end }
 {
@@ -141,8 +141,8 @@ fn longer_row(defs: &Defs, sigs: &[Sig], row: Row, m: u32) -> Row
 
 /// The row of a length, of these overloads, which no place before `from` tells apart.
 fn row_from(defs: &Defs, sigs: &[Sig], overloads: Items<u32>, end: usize, from: u32, m: u32) -> Row
-    requires { NoneTells (defs_term defs.now).ifaces sigs.now overloads from }
-    ensures row { IsRow (defs_term defs.now).ifaces sigs.now m result }
+    requires { NoneTells (defs_term defs.now).ifaces (map sig_term sigs.now) overloads from }
+    ensures row { IsRow (defs_term defs.now).ifaces (map sig_term sigs.now) m result }
     ensures same { result.overloads ≡ overloads }
     ensures end { result.end ≡ end }
 {
@@ -159,8 +159,8 @@ fn row_from(defs: &Defs, sigs: &[Sig], overloads: Items<u32>, end: usize, from: 
 /// The lowest place at which each two of several overloads are distinguishable, which is none before
 /// `from`.
 fn index_from(defs: &Defs, sigs: &[Sig], overloads: &[u32], from: u32, m: u32) -> Option<u32>
-    requires { NoneTells (defs_term defs.now).ifaces sigs.now overloads.now from }
-    ensures { MatchOption result (NoneTells (defs_term defs.now).ifaces sigs.now overloads.now m) (IsTelling (defs_term defs.now).ifaces sigs.now overloads.now m) }
+    requires { NoneTells (defs_term defs.now).ifaces (map sig_term sigs.now) overloads.now from }
+    ensures { MatchOption result (NoneTells (defs_term defs.now).ifaces (map sig_term sigs.now) overloads.now m) (IsTelling (defs_term defs.now).ifaces (map sig_term sigs.now) overloads.now m) }
 {
     if overloads.len() < 2 {
         None
@@ -171,7 +171,7 @@ fn index_from(defs: &Defs, sigs: &[Sig], overloads: &[u32], from: u32, m: u32) -
 
 /// Whether overloads differ before their distinguishing argument index, if they have one.
 fn are_early(sigs: &[Sig], overloads: &[u32], index: Option<u32>) -> bool
-    ensures { IsEarly sigs.now overloads.now index result }
+    ensures { IsEarly (map sig_term sigs.now) overloads.now index result }
 {
     match index {
         None => false,

@@ -3,8 +3,8 @@
 ghost use Rattle.std.specs.Prelude.{◌≡◌, ◌+◌, ◌-◌, ◌<◌, ◌≤◌, ◌++◌, [], ◌↔◌, ℕ, List, Contains, Some, None, IfOk, IsSome, OnOk, Option, drop, length, map, replicate, slice_get, take};
 ghost use Rattle.std.specs.List.{list_any};
 ghost use Rattle.std.specs.Option.{ForSome, option_copied, option_map};
+ghost use Rattle.widl_idl.specs.DefinitionTerms.{SigTerm, arg_term, defs_term, sig_term};
 ghost use Rattle.widl_idl.specs.Terms.{type_term, type_terms};
-ghost use Rattle.widl_idl.specs.declared.signature.Sig as signatures;
 ghost use Rattle.widl_overload.specs.Construction.{constructed};
 ghost use Rattle.widl_overload.specs.Sets.{AreNumbered, TupleTerm, declared_opts, declared_types, are_free, effective_set_of, effective_tuples, has_variadic, is_free as is_free_in, is_variadic, longer as longer_of, longest, of_length, of_lengths, overloads_of, shorter as shorter_of, tuple_of, tuple_term, tuples_in, variadic_last, with_tuple};
 
@@ -27,9 +27,9 @@ pub fn effective_set(
     callee: &Callee,
     n: u32,
 ) -> Result<OverloadSet, AllocError>
-    requires callee { IsSome (overloads_of defs.now callee.now) }
-    requires numbered { ForSome (overloads_of defs.now callee.now) AreNumbered }
-    ensures { IfOk result (λ set. tuples_in set ≡ effective_set_of defs.now callee.now n) }
+    requires callee { IsSome (overloads_of (defs_term defs.now) callee.now) }
+    requires numbered { ForSome (overloads_of (defs_term defs.now) callee.now) AreNumbered }
+    ensures { IfOk result (λ set. tuples_in set ≡ effective_set_of (defs_term defs.now) callee.now n) }
 {
     match overloads(defs, callee) {
         Some(sigs) => set_of(alloc, sigs.as_slice(), n),
@@ -40,13 +40,13 @@ pub fn effective_set(
 /// The standard's own construction, which grows the declared lists of each overload and cuts them at
 /// their end, gives the same tuples.
 pub fn effective_set_is_as_constructed()
-    ensures { (sigs : List signatures.Sig) (n : ℕ) (t : TupleTerm) → Contains (constructed sigs n) t ↔ Contains (effective_tuples sigs n) t }
+    ensures { (sigs : List SigTerm) (n : ℕ) (t : TupleTerm) → Contains (constructed sigs n) t ↔ Contains (effective_tuples sigs n) t }
 {}
 
 /// The effective overload set of these overloads.
 pub(crate) fn set_of(alloc: Global, sigs: &[Sig], n: u32) -> Result<OverloadSet, AllocError>
-    requires { AreNumbered sigs.now }
-    ensures { IfOk result (λ set. tuples_in set ≡ effective_tuples sigs.now n) }
+    requires { AreNumbered (map sig_term sigs.now) }
+    ensures { IfOk result (λ set. tuples_in set ≡ effective_tuples (map sig_term sigs.now) n) }
 {
     let mut set = OverloadSet {
         tuples: Vec::new(alloc),
@@ -61,9 +61,9 @@ pub(crate) fn set_of(alloc: Global, sigs: &[Sig], n: u32) -> Result<OverloadSet,
 /// The greatest length that the set has tuples of: beyond the longest list of arguments only a
 /// variadic overload has any.
 fn greatest_length(sigs: &[Sig], n: u32) -> usize
-    requires { AreNumbered sigs.now }
+    requires { AreNumbered (map sig_term sigs.now) }
     ensures few { result < 4294967296 }
-    ensures all { of_lengths 0 (result + 1) sigs.now ≡ effective_tuples sigs.now n }
+    ensures all { of_lengths 0 (result + 1) (map sig_term sigs.now) ≡ effective_tuples (map sig_term sigs.now) n }
 {
     let most = longest_list(sigs);
     if any_variadic(sigs) {
@@ -75,8 +75,8 @@ fn greatest_length(sigs: &[Sig], n: u32) -> usize
 
 /// The length of the longest list of arguments.
 pub(crate) fn longest_list(sigs: &[Sig]) -> usize
-    requires { AreNumbered sigs.now }
-    ensures is { result ≡ longest sigs.now }
+    requires { AreNumbered (map sig_term sigs.now) }
+    ensures is { result ≡ longest (map sig_term sigs.now) }
     ensures few { result < 4294967296 }
 {
     let mut most = 0usize;
@@ -88,7 +88,7 @@ pub(crate) fn longest_list(sigs: &[Sig]) -> usize
 
 /// Whether one of the overloads is variadic.
 fn any_variadic(sigs: &[Sig]) -> bool
-    ensures { result ≡ list_any has_variadic sigs.now }
+    ensures { result ≡ list_any (λ s. has_variadic (sig_term s)) sigs.now }
 {
     sigs.iter()
         .any(|sig| last_variadic(sig.args.as_slice()).is_some())
@@ -96,7 +96,7 @@ fn any_variadic(sigs: &[Sig]) -> bool
 
 /// The last argument, if it is variadic.
 pub(crate) fn last_variadic(args: &[Arg]) -> Option<&Arg>
-    ensures { option_copied result ≡ variadic_last args.now }
+    ensures { option_map arg_term (option_copied result) ≡ variadic_last (map arg_term args.now) }
 {
     match args.last() {
         None => None,
@@ -121,8 +121,8 @@ fn add_length(
     sigs: &[Sig],
     m: usize,
 ) -> Result<(), AllocError>
-    requires { AreNumbered sigs.now }
-    ensures { OnOk result (tuples_in set.new ≡ tuples_in set.old ++ of_length m 0 sigs.now) }
+    requires { AreNumbered (map sig_term sigs.now) }
+    ensures { OnOk result (tuples_in set.new ≡ tuples_in set.old ++ of_length m 0 (map sig_term sigs.now)) }
 {
     for (number, sig) in sigs.iter().enumerate() {
         add_tuple(alloc, set, number as u32, sig.args.as_slice(), m)?;
@@ -138,7 +138,7 @@ fn add_tuple(
     args: &[Arg],
     m: usize,
 ) -> Result<(), AllocError>
-    ensures { OnOk result (tuples_in set.new ≡ tuples_in set.old ++ with_tuple (tuple_of number args.now m) []) }
+    ensures { OnOk result (tuples_in set.new ≡ tuples_in set.old ++ with_tuple (tuple_of number (map arg_term args.now) m) []) }
 {
     if let Some(tuple) = make_tuple(alloc, number, args, m)? {
         set.push(tuple)?;
@@ -153,7 +153,7 @@ fn make_tuple(
     args: &[Arg],
     m: usize,
 ) -> Result<Option<Tuple>, AllocError>
-    ensures { IfOk result (λ tuple. option_map tuple_term tuple ≡ tuple_of number args.now m) }
+    ensures { IfOk result (λ tuple. option_map tuple_term tuple ≡ tuple_of number (map arg_term args.now) m) }
 {
     if args.len() < m {
         longer(alloc, number, args, m - args.len())
@@ -169,7 +169,7 @@ fn longer(
     args: &[Arg],
     count: usize,
 ) -> Result<Option<Tuple>, AllocError>
-    ensures { IfOk result (λ tuple. option_map tuple_term tuple ≡ longer_of number args.now count (variadic_last args.now)) }
+    ensures { IfOk result (λ tuple. option_map tuple_term tuple ≡ longer_of number (map arg_term args.now) count (variadic_last (map arg_term args.now))) }
 {
     match last_variadic(args) {
         None => Ok(None),
@@ -187,7 +187,7 @@ fn longer(
 /// The declared lists as far as a length, if each argument from there on may be left out.
 fn shorter(alloc: Global, number: u32, args: &[Arg], m: usize) -> Result<Option<Tuple>, AllocError>
     requires { m ≤ length args.now }
-    ensures { IfOk result (λ tuple. option_map tuple_term tuple ≡ shorter_of number args.now m) }
+    ensures { IfOk result (λ tuple. option_map tuple_term tuple ≡ shorter_of number (map arg_term args.now) m) }
 {
     let (first, others) = args.split_at(m);
     if all_free(others) {
@@ -199,7 +199,7 @@ fn shorter(alloc: Global, number: u32, args: &[Arg], m: usize) -> Result<Option<
 
 /// The tuple of the declared lists.
 fn declared(alloc: Global, number: u32, args: &[Arg]) -> Result<Tuple, AllocError>
-    ensures { IfOk result (λ tuple. tuple_term tuple ≡ record { overload = number; types = declared_types args.now; opts = declared_opts args.now }) }
+    ensures { IfOk result (λ tuple. tuple_term tuple ≡ record { overload = number; types = declared_types (map arg_term args.now); opts = declared_opts (map arg_term args.now) }) }
 {
     Ok(Tuple {
         overload: number,
@@ -209,7 +209,7 @@ fn declared(alloc: Global, number: u32, args: &[Arg]) -> Result<Tuple, AllocErro
 }
 
 fn types_of(alloc: Global, args: &[Arg]) -> Result<IdlTypes, AllocError>
-    ensures { IfOk result (λ types. type_terms types ≡ declared_types args.now) }
+    ensures { IfOk result (λ types. type_terms types ≡ declared_types (map arg_term args.now)) }
 {
     let mut types = IdlTypes::new(alloc);
     for arg in args {
@@ -220,7 +220,7 @@ fn types_of(alloc: Global, args: &[Arg]) -> Result<IdlTypes, AllocError>
 }
 
 fn opts_of(alloc: Global, args: &[Arg]) -> Result<Optionalities, AllocError>
-    ensures { IfOk result (λ opts. opts ≡ declared_opts args.now) }
+    ensures { IfOk result (λ opts. opts ≡ declared_opts (map arg_term args.now)) }
 {
     let mut opts = Optionalities::new(alloc);
     for arg in args {
@@ -231,7 +231,7 @@ fn opts_of(alloc: Global, args: &[Arg]) -> Result<Optionalities, AllocError>
 
 /// Whether a call may leave out each of these arguments, which are the last ones of an overload.
 pub fn all_free(args: &[Arg]) -> bool
-    ensures { result ≡ are_free (declared_opts args.now) }
+    ensures { result ≡ are_free (declared_opts (map arg_term args.now)) }
 {
     for (place, arg) in args.iter().enumerate() {
         if !is_free(arg.opt, place + 1 == args.len()) {

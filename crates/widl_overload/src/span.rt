@@ -1,6 +1,7 @@
 //! The lengths of which an overload has tuples, and the overloads that have one of a length.
 
-ghost use Rattle.std.specs.Prelude.{◌≡◌, ◌<◌, ◌≤◌, ℕ, IfOk, length};
+ghost use Rattle.std.specs.Prelude.{◌≡◌, ◌<◌, ◌≤◌, ℕ, IfOk, length, map};
+ghost use Rattle.widl_idl.specs.DefinitionTerms.{arg_term, sig_term};
 ghost use Rattle.widl_overload.specs.Spans.{AreSpans, IsFreeStart, spans_hold, true_places};
 
 use crate::sets::{is_free, last_variadic};
@@ -18,12 +19,13 @@ pub(crate) struct Span {
 }
 
 impl Span {
-    ghost use Rattle.std.specs.Prelude.{◌≡◌, ◌<◌, ◌≤◌, ℕ};
+    ghost use Rattle.std.specs.Prelude.{◌≡◌, ◌<◌, ◌≤◌, ℕ, map};
+    ghost use Rattle.widl_idl.specs.DefinitionTerms.{arg_term};
     ghost use Rattle.widl_overload.specs.Spans.{has_tuple, holds};
 
     /// The lengths of the tuples of an overload with these arguments.
     fn of(args: &[Arg]) -> Span
-        ensures { (m : ℕ) → holds m result ≡ has_tuple m args.now }
+        ensures { (m : ℕ) → holds m result ≡ has_tuple m (map arg_term args.now) }
     {
         Span {
             least: least_length(args),
@@ -56,7 +58,7 @@ impl Span {
 
 /// How many arguments a call has to give.
 fn least_length(args: &[Arg]) -> usize
-    ensures { IsFreeStart args.now result }
+    ensures { IsFreeStart (map arg_term args.now) result }
 {
     let mut least = args.len();
     while least > 0 {
@@ -70,7 +72,7 @@ fn least_length(args: &[Arg]) -> usize
 
 /// The lengths of the tuples of each overload.
 pub(crate) fn spans_of(alloc: Global, sigs: &[Sig]) -> Result<Items<Span>, AllocError>
-    ensures { IfOk result (λ spans. AreSpans sigs.now spans) }
+    ensures { IfOk result (λ spans. AreSpans (map sig_term sigs.now) spans) }
 {
     let mut spans = Items::new(alloc);
     for sig in sigs {

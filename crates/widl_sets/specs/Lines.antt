@@ -2,8 +2,7 @@
 use Rattle.std.specs.Prelude.{◌≡◌, ℕ, ◌<◌, ◌++◌, Bool, true, List, [], ◌∷◌, length, map, codes, decimal, nat_eq, nat_le, not, slice_get, zip, Option, None, Some, if◌then◌else◌}
 use Rattle.widl_idl.specs.declared.argument.Optionality.{Optionality}
 use Rattle.widl_idl.specs.declared.argument.Optionality.TheVariants.{Required, Optional, Variadic}
-use Rattle.widl_idl.specs.declared.defs.Defs.{Defs}
-use Rattle.widl_idl.specs.DefinitionTerms.{DefsTerm, defs_term, IfaceTerm}
+use Rattle.widl_idl.specs.DefinitionTerms.{DefsTerm, IfaceTerm}
 use Rattle.widl_idl.specs.Terms.{TypeTerm}
 use Rattle.widl_overload.specs.Index.{of_one_length, distinguishes}
 use Rattle.widl_overload.specs.Sets.{TupleTerm}
@@ -53,12 +52,12 @@ abbrev pub after : List IfaceTerm → List ℕ → List TupleTerm → TupleTerm 
 after ifaces callee tuples t next = if is_last_of_length t next then index_line ifaces callee tuples (length t.types) else []
 
 -- the lines from a tuple of a set on
-abbrev pub lines_from : Defs → List ℕ → List TupleTerm → List TupleTerm → List ℕ
+abbrev pub lines_from : DefsTerm → List ℕ → List TupleTerm → List TupleTerm → List ℕ
 lines_from defs callee tuples [] = []
-lines_from defs callee tuples (t ∷ rest) = tuple_line (defs_term defs) callee t ++ after (defs_term defs).ifaces callee tuples t (slice_get rest 0) ++ lines_from defs callee tuples rest
+lines_from defs callee tuples (t ∷ rest) = tuple_line defs callee t ++ after defs.ifaces callee tuples t (slice_get rest 0) ++ lines_from defs callee tuples rest
 
 -- the lines of a set: one for each tuple, and for each length of several tuples one for its index
-unfoldable pub lines_of_set : Defs → List ℕ → List TupleTerm → List ℕ
+unfoldable pub lines_of_set : DefsTerm → List ℕ → List TupleTerm → List ℕ
 lines_of_set defs callee tuples = lines_from defs callee tuples tuples
 
 -- a tuple of a set: each of its types has its optionality value, and there are few enough of them

@@ -4,9 +4,7 @@
 //! the texts of `widl_spell` and `widl_trace`. The contract that is used above: [`set_lines`] answers exactly these lines, the interfaces in the order of their ids.
 #![tactic(auto)]
 
-mod laws;
 mod lines;
 mod listing;
 
-pub use laws::one_term_has_one_listing;
 pub use listing::set_lines;

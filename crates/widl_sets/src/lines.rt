@@ -25,7 +25,7 @@ pub fn push_set(
     set: &OverloadSet,
 ) -> Result<(), AllocError>
     requires { All IsTuple (tuples_in set.now) }
-    ensures { OnOk result (text.new.items ≡ text.old.items ++ lines_of_set defs.now callee.now (tuples_in set.now)) }
+    ensures { OnOk result (text.new.items ≡ text.old.items ++ lines_of_set (defs_term defs.now) callee.now (tuples_in set.now)) }
 {
     for place in 0..set.len() {
         let tuple = set.at(place);

@@ -1,9 +1,10 @@
 //! The lines of all that can be called.
 
-ghost use Rattle.std.specs.Prelude.{◌≡◌, ◌++◌, ◌<◌, ℕ, IfOk, IsSome, OnOk, Some, length, slice_get};
+ghost use Rattle.std.specs.Prelude.{◌≡◌, ◌++◌, ◌<◌, ℕ, IfOk, IsSome, OnOk, Some, length, slice_get, map};
 ghost use Rattle.std.specs.List.{flat_map};
 ghost use Rattle.widl_idl.specs.Counts.{IsNumberedList};
 ghost use Rattle.widl_idl.specs.declared.callee.Part.TheVariants as parts;
+ghost use Rattle.widl_idl.specs.DefinitionTerms.{defs_term, iface_term, op_name_term, sig_term, space_term};
 ghost use Rattle.widl_overload.specs.Sets.{effective_set_of, overloads_in, overloads_named, overloads_of};
 ghost use Rattle.widl_spell.specs.Ids.{id_order, parents_of};
 ghost use Rattle.widl_sets.specs.Lines.{lines_of_set};
@@ -29,7 +30,7 @@ use widl_trace::{constructor_text, operation_text};
 #[tactic(auto, unfolding(crate::specs::Listing::all_lines))]
 pub fn set_lines(alloc: Global, defs: &Defs) -> Result<Vec<u8>, AllocError>
     requires { IsNumberedList defs.now }
-    ensures { IfOk result (λ text. text.items ≡ all_lines defs.now) }
+    ensures { IfOk result (λ text. text.items ≡ all_lines (defs_term defs.now)) }
 {
     let mut text = Vec::new(alloc);
     let order = id_order(alloc, defs.ifaces.as_slice())?;
@@ -46,7 +47,7 @@ fn push_interfaces(
     order: &[u32],
 ) -> Result<(), AllocError>
     requires { IsNumberedList defs.now }
-    ensures { OnOk result (text.new.items ≡ text.old.items ++ flat_map (lines_at defs.now) order.now) }
+    ensures { OnOk result (text.new.items ≡ text.old.items ++ flat_map (lines_at (defs_term defs.now)) order.now) }
 {
     for number in order {
         push_interface(alloc, text, defs, *number)?;
@@ -62,7 +63,7 @@ fn push_interface(
     number: u32,
 ) -> Result<(), AllocError>
     requires { IsNumberedList defs.now }
-    ensures { OnOk result (text.new.items ≡ text.old.items ++ lines_at defs.now number) }
+    ensures { OnOk result (text.new.items ≡ text.old.items ++ lines_at (defs_term defs.now) number) }
 {
     match defs.ifaces.as_slice().get(number as usize) {
         None => Ok(()),
@@ -80,7 +81,7 @@ fn push_callees(
 ) -> Result<(), AllocError>
     requires numbered { IsNumberedList defs.now }
     requires at { slice_get defs.now.ifaces number ≡ Some iface.now }
-    ensures { OnOk result (text.new.items ≡ text.old.items ++ interface_lines defs.now iface.now) }
+    ensures { OnOk result (text.new.items ≡ text.old.items ++ interface_lines (defs_term defs.now) (iface_term iface.now)) }
 {
     let owner = Owner::Iface(number);
     push_constructors(alloc, text, defs, owner, iface)?;
@@ -96,8 +97,8 @@ fn push_constructors(
     iface: &Iface,
 ) -> Result<(), AllocError>
     requires numbered { IsNumberedList defs.now }
-    requires constructors { overloads_in defs.now owner parts.Constructor ≡ Some iface.now.ctors }
-    ensures { OnOk result (text.new.items ≡ text.old.items ++ callee_lines defs.now (constructor_text iface.now.name) iface.now.ctors) }
+    requires constructors { overloads_in (defs_term defs.now) owner parts.Constructor ≡ Some (map sig_term iface.now.ctors) }
+    ensures { OnOk result (text.new.items ≡ text.old.items ++ callee_lines (defs_term defs.now) (constructor_text iface.now.name) (map sig_term iface.now.ctors)) }
 {
     let callee = Callee {
         owner,
@@ -110,7 +111,7 @@ fn push_constructors(
 /// Adds the lines of the namespaces.
 fn push_namespaces(alloc: Global, text: &mut Vec<u8>, defs: &Defs) -> Result<(), AllocError>
     requires { IsNumberedList defs.now }
-    ensures { OnOk result (text.new.items ≡ text.old.items ++ flat_map (namespace_lines defs.now) defs.now.spaces) }
+    ensures { OnOk result (text.new.items ≡ text.old.items ++ flat_map (namespace_lines (defs_term defs.now)) (defs_term defs.now).spaces) }
 {
     for (number, space) in defs.spaces.as_slice().iter().enumerate() {
         push_namespace(alloc, text, defs, number as u32, space)?;
@@ -128,7 +129,7 @@ fn push_namespace(
 ) -> Result<(), AllocError>
     requires numbered { IsNumberedList defs.now }
     requires at { slice_get defs.now.spaces number ≡ Some space.now }
-    ensures { OnOk result (text.new.items ≡ text.old.items ++ namespace_lines defs.now space.now) }
+    ensures { OnOk result (text.new.items ≡ text.old.items ++ namespace_lines (defs_term defs.now) (space_term space.now)) }
 {
     push_operations(
         alloc,
@@ -151,8 +152,8 @@ fn push_operations(
 ) -> Result<(), AllocError>
     requires numbered { IsNumberedList defs.now }
     requires few { length ops.now < 4294967296 }
-    requires overloads { (m : ℕ) → overloads_in defs.now owner (parts.Op m) ≡ overloads_named ops.now m }
-    ensures { OnOk result (text.new.items ≡ text.old.items ++ flat_map (operation_lines defs.now name.now) ops.now) }
+    requires overloads { (m : ℕ) → overloads_in (defs_term defs.now) owner (parts.Op m) ≡ overloads_named (map op_name_term ops.now) m }
+    ensures { OnOk result (text.new.items ≡ text.old.items ++ flat_map (operation_lines (defs_term defs.now) name.now) (map op_name_term ops.now)) }
 {
     for (number, op) in ops.iter().enumerate() {
         let callee = Callee {
@@ -174,8 +175,8 @@ fn push_operation(
     callee: &Callee,
 ) -> Result<(), AllocError>
     requires numbered { IsNumberedList defs.now }
-    requires overloads { overloads_of defs.now callee.now ≡ Some op.now.sigs }
-    ensures { OnOk result (text.new.items ≡ text.old.items ++ operation_lines defs.now owner.now op.now) }
+    requires overloads { overloads_of (defs_term defs.now) callee.now ≡ Some (map sig_term op.now.sigs) }
+    ensures { OnOk result (text.new.items ≡ text.old.items ++ operation_lines (defs_term defs.now) owner.now (op_name_term op.now)) }
 {
     let name = operation_text(alloc, owner, op)?;
     push_callee(alloc, text, defs, &name, callee)
@@ -190,8 +191,8 @@ fn push_callee(
     callee: &Callee,
 ) -> Result<(), AllocError>
     requires numbered { IsNumberedList defs.now }
-    requires callee { IsSome (overloads_of defs.now callee.now) }
-    ensures { OnOk result (text.new.items ≡ text.old.items ++ lines_of_set defs.now name.now (effective_set_of defs.now callee.now 0)) }
+    requires callee { IsSome (overloads_of (defs_term defs.now) callee.now) }
+    ensures { OnOk result (text.new.items ≡ text.old.items ++ lines_of_set (defs_term defs.now) name.now (effective_set_of (defs_term defs.now) callee.now 0)) }
 {
     let set = effective_set(alloc, defs, callee, 0)?;
     push_set(alloc, text, defs, name, &set)

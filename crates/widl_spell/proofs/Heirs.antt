@@ -1,11 +1,12 @@
 -- The heirs of interfaces at the start, and the interfaces without a parent, one more.
-use Rattle.std.proofs.Common.{◌≡◌, ℕ, ◌+◌, ◌<◌, ◌&&◌, ◌||◌, ◌⊎◌, inl, inr, Bool, true, false, List, [], length, get_or, replicate, nat_eq, nat_lt, arith, refl, sym, ap, ◌∙◌}
+use Rattle.std.proofs.Common.{◌≡◌, ℕ, ◌+◌, ◌<◌, ◌&&◌, ◌||◌, ◌⊎◌, inl, inr, Bool, true, false, List, [], length, get_or, replicate, nat_eq, nat_lt, arith, refl, sym, ap, ◌∙◌, map}
 use Rattle.std.specs.Prelude.{Option, Some, option_and_then, option_map}
 use Rattle.std.specs.List.{list_any}
 use Rattle.std.proofs.lemmas.Bool.{cases_order, eq-eqb, le-ltb, lt-ltb, ne_eqb}
 use Rattle.std.proofs.lemmas.List.{get_or-replicate, length-replicate}
 use Rattle.std.proofs.lemmas.Option.{slice_get-get_or, slice_get-map}
 use Rattle.widl_idl.specs.declared.interface.Iface.{Iface}
+use Rattle.widl_idl.specs.DefinitionTerms.{IfaceTerm, iface_term}
 use Rattle.widl_spell.specs.Ids.{parent_at, parents_of}
 use Rattle.widl_spell.specs.Ready.{AddsParentless, AreHeirs, AreParentless, is_parentless}
 
@@ -16,9 +17,9 @@ no_heirs heirs count is = record {
   each = λ p q below. ap (λ (xs : List (List ℕ)). list_any (nat_eq q) (get_or xs p [])) is ∙ ap (list_any (nat_eq q)) (get_or-replicate count p [] [] below);
 }
 
-pub parent_is : (ifaces : List Iface) (i : ℕ) (iface : Iface) → i < length ifaces → iface ≡ get_or ifaces i iface → parent_at (parents_of ifaces) i ≡ iface.parent
+pub parent_is : (ifaces : List Iface) (i : ℕ) (iface : Iface) → i < length ifaces → iface ≡ get_or ifaces i iface → parent_at (parents_of (map iface_term ifaces)) i ≡ iface.parent
 parent_is ifaces i iface below is =
-    ap (option_and_then (λ parent. parent)) (slice_get-map (λ (x : Iface). x.parent) ifaces i ∙ ap (option_map (λ (x : Iface). x.parent)) (slice_get-get_or ifaces i iface below ∙ ap (λ x. Some x) (sym is)))
+    ap (option_and_then (λ parent. parent)) (slice_get-map (λ (x : IfaceTerm). x.parent) (map iface_term ifaces) i ∙ ap (option_map (λ (x : IfaceTerm). x.parent)) (slice_get-map iface_term ifaces i ∙ ap (option_map iface_term) (slice_get-get_or ifaces i iface below ∙ ap (λ x. Some x) (sym is))))
 
 at_itself : (a : Bool) → ((a && true) || (false && a)) ≡ (true && a)
 at_itself true = refl

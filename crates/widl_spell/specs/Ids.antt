@@ -1,10 +1,10 @@
 -- The order of the ids of interfaces.
 use Rattle.std.specs.Prelude.{ℕ, ◌+◌, ◌&&◌, ◌++◌, Bool, true, not, List, [], ◌∷◌, length, map, nat_eq, slice_get, zero, suc, Option, None, Some, option_and_then, if◌then◌else◌}
 use Rattle.std.specs.List.{list_any}
-use Rattle.widl_idl.specs.declared.interface.Iface.{Iface}
+use Rattle.widl_idl.specs.DefinitionTerms.{IfaceTerm}
 
 -- the parent of each interface
-abbrev pub parents_of : List Iface → List (Option ℕ)
+abbrev pub parents_of : List IfaceTerm → List (Option ℕ)
 parents_of ifaces = map (λ i. i.parent) ifaces
 
 abbrev pub parent_at : List (Option ℕ) → ℕ → Option ℕ

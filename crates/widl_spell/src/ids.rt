@@ -3,7 +3,8 @@
 //! A number is ready from when its parent has an id. The least that is ready has the next id, and makes
 //! those ready whose parent it is. So each interface is added to the ready ones once, and taken once.
 
-ghost use Rattle.std.specs.Prelude.{◌≡◌, ◌<◌, [], length, slice_index_or, IfOk, OnOk, Some};
+ghost use Rattle.std.specs.Prelude.{◌≡◌, ◌<◌, [], length, slice_index_or, IfOk, OnOk, Some, map};
+ghost use Rattle.widl_idl.specs.DefinitionTerms.{iface_term};
 ghost use Rattle.widl_spell.specs.Ids.{id_order, parents_of};
 ghost use Rattle.widl_spell.specs.Ready.{AddsHeir, AddsParentless, AreHeirs, AreReady, Steps, is_ready};
 
@@ -21,7 +22,7 @@ use widl_text::Items;
 #[tactic(auto, unfolding(crate::specs::Ids::id_order))]
 pub fn id_order(alloc: Global, ifaces: &[Iface]) -> Result<Vec<u32>, AllocError>
     requires { length ifaces.now < 4294967296 }
-    ensures { IfOk result (λ order. order.items ≡ id_order (parents_of ifaces.now)) }
+    ensures { IfOk result (λ order. order.items ≡ id_order (parents_of (map iface_term ifaces.now))) }
 {
     let heirs = heirs_of(alloc, ifaces)?;
     let mut ready = without_parent(alloc, ifaces)?;
@@ -62,7 +63,7 @@ fn heirs_at(heirs: &Vec<Items<u32>>, number: u32) -> &[u32]
 /// For each interface the numbers of those whose parent it is.
 fn heirs_of(alloc: Global, ifaces: &[Iface]) -> Result<Vec<Items<u32>>, AllocError>
     requires { length ifaces.now < 4294967296 }
-    ensures { IfOk result (λ heirs. AreHeirs (parents_of ifaces.now) heirs.items (length ifaces.now)) }
+    ensures { IfOk result (λ heirs. AreHeirs (parents_of (map iface_term ifaces.now)) heirs.items (length ifaces.now)) }
 {
     let mut heirs = no_heirs(alloc, ifaces.len())?;
     for (number, iface) in ifaces.iter().enumerate() {
@@ -106,7 +107,7 @@ fn add_heir_at(heirs: &mut Vec<Items<u32>>, parent: usize, heir: u32) -> Result<
 /// The interfaces without a parent.
 fn without_parent(alloc: Global, ifaces: &[Iface]) -> Result<Ready, AllocError>
     requires { length ifaces.now < 4294967296 }
-    ensures { IfOk result (λ ready. AreReady (parents_of ifaces.now) [] (is_ready ready)) }
+    ensures { IfOk result (λ ready. AreReady (parents_of (map iface_term ifaces.now)) [] (is_ready ready)) }
 {
     let mut ready = Ready::new(alloc);
     for (number, iface) in ifaces.iter().enumerate() {

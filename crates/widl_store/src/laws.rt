@@ -1,8 +1,7 @@
 //! Laws of stores and of the first store, which take no step.
 
 ghost use Rattle.std.specs.Prelude.{◌≡◌, ◌≤◌, ◌∷◌, ℕ, Contains, List, length, map};
-ghost use Rattle.widl_idl.specs.DefinitionTerms.{DefsTerm, SpaceTerm, sig_term};
-ghost use Rattle.widl_idl.specs.declared.signature.Sig as signatures;
+ghost use Rattle.widl_idl.specs.DefinitionTerms.{DefsTerm, SigTerm, SpaceTerm};
 ghost use Rattle.widl_overload.specs.Sets.{TupleTerm, effective_tuples};
 ghost use Rattle.widl_store.specs.Bounds.{AreFewObjects, AreSharesKept, AreWithinShares};
 ghost use Rattle.widl_store.specs.declared.property.Prop as props;
@@ -29,8 +28,8 @@ pub fn references_stay_live()
 /// That the length of an operation's function is that of the shortest tuple of its effective overload set
 /// (Web IDL, "Creating an operation function"): no tuple is shorter, and one has that length.
 pub fn shortest_length()
-    ensures least { (sigs : List signatures.Sig) (n : ℕ) (t : TupleTerm) → Contains (effective_tuples sigs n) t → shortest (map sig_term sigs) ≤ length t.types }
-    ensures reached { (sig : signatures.Sig) (sigs : List signatures.Sig) (n : ℕ) → (t : TupleTerm) × Contains (effective_tuples (sig ∷ sigs) n) t × (length t.types ≡ shortest (map sig_term (sig ∷ sigs))) }
+    ensures least { (sigs : List SigTerm) (n : ℕ) (t : TupleTerm) → Contains (effective_tuples sigs n) t → shortest sigs ≤ length t.types }
+    ensures reached { (sig : SigTerm) (sigs : List SigTerm) (n : ℕ) → (t : TupleTerm) × Contains (effective_tuples (sig ∷ sigs) n) t × (length t.types ≡ shortest (sig ∷ sigs)) }
 {}
 
 /// That each operation name of a namespace has exactly one function among the first objects, whatever its

@@ -2,22 +2,16 @@
 use Rattle.std.proofs.Common.{◌≡◌, ℕ, suc, ◌+◌, ◌-◌, ◌<◌, ◌≤◌, ◌++◌, Bool, true, false, cond, nat_lt, List, [], ◌∷◌, length, drop, map, replicate, slice_get, Option, None, Some, arith, refl, sym, ap, subst, ◌∙◌}
 use Rattle.std.specs.List.{list_any}
 use Rattle.std.specs.Option.{option_map_or}
-use Rattle.std.proofs.lemmas.List.{drop-map, length-append, length-map, length-replicate, length-take}
-use Rattle.widl_idl.specs.declared.argument.Arg.{Arg}
-use Rattle.widl_idl.specs.DefinitionTerms.{ArgTerm, DefsTerm, SigTerm, arg_term, IfaceTerm}
+use Rattle.std.proofs.lemmas.List.{length-append, length-map, length-replicate, length-take}
+use Rattle.widl_idl.specs.DefinitionTerms.{ArgTerm, DefsTerm, IfaceTerm, SigTerm}
 use Rattle.widl_overload.specs.Entries.{cut, entry_for, entry_of, is_variadic_list, optionalities_of, repeated, types_of}
 use Rattle.widl_overload.specs.Index.{apart_at, each_two}
-use Rattle.widl_overload.specs.Sets.{TupleTerm, are_free, declared_opts, is_variadic, with_tuple}
+use Rattle.widl_overload.specs.Sets.{TupleTerm, are_free, is_variadic, with_tuple}
 use Rattle.widl_overload.specs.Standing.{args_in}
-use Rattle.widl_overload.proofs.SameTuples.{opts_are}
 use Rattle.widl_tables.specs.Kept.{choosing_place, counted_args, entries_of, numbers_of, telling_from}
 use Rattle.widl_tables.specs.EntriesByNumber.{entries_in, has_entry, telling_among}
 
 -- 1. The entry of one overload
-
--- the last arguments may be left out, as their terms tell
-pub free_again : (args : List Arg) (m : ℕ) → are_free (declared_opts (drop m args)) ≡ are_free (optionalities_of (drop m (map arg_term args)))
-free_again args m = ap are_free (opts_are (drop m args) ∙ ap optionalities_of (sym (drop-map arg_term m args)))
 
 split_by : (b v a : Bool) (x y : TupleTerm) → cond b (cond v (Some x) None) (cond a (Some y) None) ≡ cond (cond b v a) (Some (cond b x y)) None
 split_by true true a x y = refl

@@ -1,6 +1,7 @@
 //! The standard's categories against each other, and worked overload sets.
 
-ghost use Rattle.std.specs.Prelude.{IsTrue};
+ghost use Rattle.std.specs.Prelude.{IsTrue, map};
+ghost use Rattle.widl_idl.specs.DefinitionTerms.{sig_term};
 ghost use Rattle.widl_overload.specs.Sets.{AreNumbered};
 
 use crate::shared::numbered::is_numbered_list;
@@ -151,8 +152,9 @@ fn a_long_chain_of_interfaces(rt: HostRuntime) -> Result<(), Fail> {
     Ok(())
 }
 
+#[tactic(auto, using(widl_overload::proofs::Numbered::few_terms))]
 fn are_numbered(sigs: &[Sig]) -> bool
-    ensures { IsTrue result → AreNumbered sigs.now }
+    ensures { IsTrue result → AreNumbered (map sig_term sigs.now) }
 {
     sigs.len() < 4_294_967_296 && sigs.iter().all(|sig| sig.args.len() < 4_294_967_296)
 }

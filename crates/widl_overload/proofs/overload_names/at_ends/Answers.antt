@@ -2,6 +2,7 @@ use Rattle.std.proofs.Common.{◌≡◌, ◌-◌, length, map, ap, subst, sym, �
 use Rattle.std.specs.Prelude.{Some, option_map, slice_get}
 use Rattle.std.proofs.lemmas.List.{length-map}
 use Rattle.std.proofs.lemmas.Option.{slice_get-map}
+use Rattle.widl_idl.specs.DefinitionTerms.{sig_term}
 use Rattle.widl_overload.specs.OverloadNames.{number_of}
 use Rattle.widl_overload.specs.OverloadRules.{AtOverloads}
 use Rattle.widl_overload.specs.OverloadViolations.{IsOnlyViolation}
@@ -10,7 +11,7 @@ use Rattle.widl_overload.proofs.overload_names.at_ends.Goals as goal
 
 pub returns : goal.returns
 returns c = λ tuples are.
-    let sigs = c.args.sigs.now in
+    let sigs = map sig_term c.args.sigs.now in
     let first : Some c.in_ok-first.first.now ≡ option_map number_of (slice_get tuples 0) = c.in_ok-first.ensures.value ∙ ap (λ ns. slice_get ns 0) are ∙ slice_get-map number_of tuples 0 in
     let last : Some c.in_ok-last.last.now ≡ option_map number_of (slice_get tuples (length tuples - 1)) =
     c.in_ok-last.ensures.value ∙ ap (λ ns. slice_get ns (length ns - 1)) are ∙ slice_get-map number_of tuples (length (map number_of tuples) - 1) ∙ ap (λ n. option_map number_of (slice_get tuples (n - 1))) (length-map tuples number_of) in

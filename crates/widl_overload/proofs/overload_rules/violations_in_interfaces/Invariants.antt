@@ -1,8 +1,8 @@
-use Rattle.std.proofs.Common.{take}
-use Rattle.widl_idl.specs.DefinitionTerms.{defs_term}
+use Rattle.std.proofs.Common.{take, map}
+use Rattle.widl_idl.specs.DefinitionTerms.{defs_term, iface_term}
 use Rattle.widl_overload.specs.OverloadLists.{lists_of_interfaces}
 use Rattle.widl_overload.specs.OverloadViolations.{AreViolationsIn}
 use Rattle.widl_overload.proofs.overload_rules.violations_in_interfaces.Given as goal
 
 abbrev pub invariant-loop-iface : goal.invariant-loop-iface
-invariant-loop-iface l = AreViolationsIn (defs_term l.defs).ifaces (lists_of_interfaces (take l.iface-index l.ifaces)) l.best
+invariant-loop-iface l = AreViolationsIn (defs_term l.defs).ifaces (lists_of_interfaces (map iface_term (take l.iface-index l.ifaces))) l.best

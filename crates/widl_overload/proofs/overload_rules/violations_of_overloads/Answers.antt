@@ -1,5 +1,6 @@
-use Rattle.std.proofs.Common.{subst, sym}
-use Rattle.widl_idl.specs.DefinitionTerms.{defs_term}
+use Rattle.std.proofs.Common.{arith, subst, sym, map}
+use Rattle.std.proofs.lemmas.List.{length-map}
+use Rattle.widl_idl.specs.DefinitionTerms.{defs_term, sig_term}
 use Rattle.widl_overload.specs.OverloadRules.{DifferEarly, LacksIndex}
 use Rattle.widl_overload.specs.Spans.{AreSpans}
 use Rattle.widl_overload.proofs.OnlyViolations.{callee_violation}
@@ -7,12 +8,12 @@ use Rattle.widl_overload.proofs.ViolationSteps.{none_indistinguishable_beyond, n
 use Rattle.widl_overload.proofs.overload_rules.violations_of_overloads.Goals as goal
 
 pub returns-then-sigs-lt2 : goal.returns-then-sigs-lt2
-returns-then-sigs-lt2 c = violations_of_few (defs_term c.args.defs.now).ifaces c.args.sigs.now c.none.result c.if-sigs-lt2.true c.none.ensures
+returns-then-sigs-lt2 c = violations_of_few (defs_term c.args.defs.now).ifaces (map sig_term c.args.sigs.now) c.none.result (omega (arith, length-map c.args.sigs.now sig_term, c.if-sigs-lt2.true)) c.none.ensures
 
 pub returns : goal.returns
 returns c =
     let ifaces = (defs_term c.args.defs.now).ifaces in
-    let sigs = c.args.sigs.now in
+    let sigs = map sig_term c.args.sigs.now in
     let most = c.longest_list-most.result in
     let lengths = c.in_ok-lengths.lengths in
     record {

@@ -1,5 +1,5 @@
-use Rattle.std.proofs.Common.{◌≡◌, ◌≤◌, ◌+◌, ◌-◌, arith, subst}
-use Rattle.widl_idl.specs.DefinitionTerms.{defs_term}
+use Rattle.std.proofs.Common.{◌≡◌, ◌≤◌, ◌+◌, ◌-◌, arith, subst, map}
+use Rattle.widl_idl.specs.DefinitionTerms.{defs_term, sig_term}
 use Rattle.widl_overload.specs.Numbers.{IsRow}
 use Rattle.widl_overload.specs.OverloadRules.{DifferEarly, LacksIndex}
 use Rattle.widl_overload.specs.Sets.{effective_tuples, longest}
@@ -10,7 +10,7 @@ use Rattle.widl_overload.proofs.overload_sizes.breaking_lengths.Goals as goal
 pub loop-m-preserved : goal.loop-m-preserved
 loop-m-preserved c =
     let ifaces = (defs_term c.args.defs.now).ifaces in
-    let sigs = c.args.sigs.now in
+    let sigs = map sig_term c.args.sigs.now in
     let tuples = effective_tuples sigs 0 in
     let m = c.loop-m.m in
     let row = c.in_ok-row.row in
@@ -29,7 +29,7 @@ loop-m-preserved c =
 pub returns : goal.returns
 returns c =
     let ifaces = (defs_term c.args.defs.now).ifaces in
-    let tuples = effective_tuples c.args.sigs.now 0 in
+    let tuples = effective_tuples (map sig_term c.args.sigs.now) 0 in
     record {
       indistinguishable = smallest_all (LacksIndex ifaces tuples) c.loop-m.m c.args.most c.loop-m.indistinguishable (omega arith) c.loop-m.invariant.indistinguishable;
       early = smallest_all (DifferEarly ifaces tuples) c.loop-m.m c.args.most c.loop-m.early (omega arith) c.loop-m.invariant.early;

@@ -1,5 +1,5 @@
-use Rattle.std.proofs.Common.{◌-◌}
-use Rattle.widl_idl.specs.DefinitionTerms.{defs_term}
+use Rattle.std.proofs.Common.{◌-◌, map}
+use Rattle.widl_idl.specs.DefinitionTerms.{defs_term, sig_term}
 use Rattle.widl_overload.specs.Numbers.{IsRow}
 use Rattle.widl_overload.specs.OverloadRules.{DifferEarly, LacksIndex}
 use Rattle.widl_overload.specs.OverloadViolations.{IsSmallestBelow}
@@ -9,8 +9,8 @@ use Rattle.widl_overload.proofs.overload_sizes.breaking_lengths.Given as goal
 
 abbrev pub invariant-loop-m : goal.invariant-loop-m
 invariant-loop-m l = record {
-  row : IsRow (defs_term l.defs).ifaces l.sigs (l.m - 1) l.row;
+  row : IsRow (defs_term l.defs).ifaces (map sig_term l.sigs) (l.m - 1) l.row;
   listed : AreListed l.spans l.m l.row.end l.row.overloads;
-  indistinguishable : IsSmallestBelow (LacksIndex (defs_term l.defs).ifaces (effective_tuples l.sigs 0)) l.m l.indistinguishable;
-  early : IsSmallestBelow (DifferEarly (defs_term l.defs).ifaces (effective_tuples l.sigs 0)) l.m l.early;
+  indistinguishable : IsSmallestBelow (LacksIndex (defs_term l.defs).ifaces (effective_tuples (map sig_term l.sigs) 0)) l.m l.indistinguishable;
+  early : IsSmallestBelow (DifferEarly (defs_term l.defs).ifaces (effective_tuples (map sig_term l.sigs) 0)) l.m l.early;
 }

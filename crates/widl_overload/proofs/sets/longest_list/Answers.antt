@@ -1,10 +1,19 @@
-use Rattle.std.proofs.Common.{◌≡◌, ◌+◌, ◌<◌, max, length, take, arith}
+use Rattle.std.proofs.Common.{◌≡◌, ℕ, ◌<◌, ◌+◌, length, map, max, take, arith}
+use Rattle.std.proofs.lemmas.List.{length-map}
+use Rattle.widl_idl.specs.DefinitionTerms.{SigTerm, arg_term, sig_term}
 use Rattle.widl_overload.specs.Sets.{longest}
 use Rattle.widl_overload.proofs.Lengths.{args_few, longest_more}
+use Rattle.widl_overload.proofs.Terms.{item_term}
 use Rattle.widl_overload.proofs.sets.longest_list.Goals as goal
 
 pub loop-sig-preserved : goal.loop-sig-preserved
 loop-sig-preserved c =
-    let few : length c.sig-item.result.args < 4294967296 = args_few c.args.sigs.now c.loop-sig.sig-index c.sig-item.result c.requires (omega arith) c.sig-item.is in
-    let more : longest (take (c.loop-sig.sig-index + 1) c.args.sigs.now) ≡ max (longest (take c.loop-sig.sig-index c.args.sigs.now)) (length c.sig-item.result.args) = longest_more c.args.sigs.now c.loop-sig.sig-index c.sig-item.result (omega arith) c.sig-item.is in
+    let sigs = map sig_term c.args.sigs.now in
+    let i : ℕ = c.loop-sig.sig-index in
+    let s : SigTerm = sig_term c.sig-item.result in
+    let below : i < length sigs = omega (arith, length-map c.args.sigs.now sig_term) in
+    let is = item_term sig_term c.args.sigs.now i c.sig-item.result (omega arith) c.sig-item.is in
+    let size : length s.args ≡ length c.sig-item.result.args = length-map c.sig-item.result.args arg_term in
+    let few : length s.args < 4294967296 = args_few sigs i s c.requires below is in
+    let more : longest (take (i + 1) sigs) ≡ max (longest (take i sigs)) (length s.args) = longest_more sigs i s below is in
     (omega arith, omega arith)
