@@ -3,7 +3,7 @@
 //! All of them are asked of one definition at a time, while it is at hand in the processor's cache.
 
 ghost use Rattle.std.specs.Prelude.{◌≡◌, IfOk};
-ghost use Rattle.widl_idl.specs.declared.defs.Defs.{Defs};
+ghost use Rattle.widl_idl.specs.DefinitionTerms.{DefsTerm};
 ghost use Rattle.widl_idl.specs.PlainTrees.{definition_of};
 ghost use Rattle.widl_names.specs.Listings.{listed_definitions};
 ghost use Rattle.widl_definition_rules.specs.DefinitionRefusals.{BreaksDefinition, definition_rules};
@@ -33,7 +33,7 @@ pub fn find_in_definitions(
     alloc: Global,
     definitions: &[&Definition],
 ) -> Result<Option<Refusal>, AllocError>
-    ensures { IfOk result (λ found. (defs : Defs) → IsFirstOver defs (listed_definitions definitions.now) definition_rules found) }
+    ensures { IfOk result (λ found. (list : DefsTerm) → IsFirstOver list (listed_definitions definitions.now) definition_rules found) }
 {
     let mut best = None;
     for definition in definitions {

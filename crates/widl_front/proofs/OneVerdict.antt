@@ -3,11 +3,9 @@ use Rattle.std.proofs.Common.{◌≡◌, ℕ, ◌+◌, ◌<◌, List, [], ◌∷
 use Rattle.std.specs.Prelude.{Option, Some, None, EachIndex, IsUtf8}
 use Rattle.widl_idl.specs.declared.defs.Defs.{Defs}
 use Rattle.widl_idl.specs.declared.refusal.Refusal.{Refusal}
-use Rattle.widl_idl.specs.declared.violation.Violation.{Violation}
 use Rattle.widl_idl.specs.declared.tree.fragments.Fragment.{Fragment}
 use Rattle.widl_idl.specs.DefinitionTerms.{defs_term}
-use Rattle.widl_idl.specs.FirstRefusal.{FirstBroken, violation_of}
-use Rattle.widl_idl.specs.FirstRefusal as first_refusal
+use Rattle.widl_idl.specs.FirstRefusal.{FirstBroken}
 use Rattle.widl_idl.specs.Meanings.{definitions_of}
 use Rattle.widl_idl.specs.MergedList.{merged_from, merged_list}
 use Rattle.widl_idl.specs.MergedSets.{MergedSet}
@@ -16,8 +14,7 @@ use Rattle.widl_lex.specs.Tokens.{TokenList}
 use Rattle.widl_merge.specs.Refusals.{IsRefusal}
 use Rattle.widl_idl.proofs.Steps.{same_refusal}
 use Rattle.widl_merge.proofs.OneRefusal.{one_refusal}
-use Rattle.widl_overload.specs.Validity.{BreaksValidity, validity_number, validity_rules}
-use Rattle.widl_valid.proofs.SameSets.{breaks_same}
+use Rattle.widl_overload.specs.Validity.{BreaksRule, validity_number, validity_rules}
 use Rattle.widl_syntax.specs.OneTree.{EachSpellingHasOneTree}
 use Rattle.widl_syntax.specs.Signs.{UnparsesTo}
 use Rattle.widl_syntax.specs.UnparsedDefinitions.{fragment}
@@ -48,18 +45,6 @@ all_trees cuts trees file (bytes ∷ texts) (x ∷ xs) (y ∷ ys) utf8 is other 
     let rest = all_trees cuts trees (file + 1) texts xs ys (λ i below. utf8 (suc i) (omega (arith, below))) is.1 other.1 in
     ap (λ l. l ++ definitions_of xs) here ∙ ap (λ l. plain_definitions y.definitions ++ l) rest
 
--- the first refusal by rules that are broken at the same violations
-module _ {R : Type 0} (number : R → ℕ) (Breaks Others : R → Violation → Type 0) (rules : List R) where
-  broken_changed : (r : Refusal) → ((rule : R) (s : Violation) → Breaks rule s → Others rule s) → first_refusal.Broken number Breaks rules r → first_refusal.Broken number Others rules r
-  broken_changed r to broken = record { which = broken.which; listed = broken.listed; numbered = broken.numbered; breaks = to broken.which (violation_of r) broken.breaks }
-
-  first_changed : (a : Option Refusal) → ((rule : R) (s : Violation) → Breaks rule s → Others rule s) → ((rule : R) (s : Violation) → Others rule s → Breaks rule s) → FirstBroken number Breaks rules a → FirstBroken number Others rules a
-  first_changed None to from earliest = λ r broken. earliest r (record { which = broken.which; listed = broken.listed; numbered = broken.numbered; breaks = from broken.which (violation_of r) broken.breaks })
-  first_changed (Some r) to from earliest = record {
-    broken = broken_changed r to earliest.broken;
-    first = λ s broken. earliest.first s (record { which = broken.which; listed = broken.listed; numbered = broken.numbered; breaks = from broken.which (violation_of s) broken.breaks });
-  }
-
 -- the merged lists of trees with the same definitions have the same terms
 same_terms : (xs ys : List Fragment) (a b : Defs) → definitions_of xs ≡ definitions_of ys → defs_term a ≡ merged_list xs → defs_term b ≡ merged_list ys → defs_term a ≡ defs_term b
 same_terms xs ys a b same is other = is ∙ ap merged_from same ∙ sym other
@@ -67,11 +52,9 @@ same_terms xs ys a b same is other = is ∙ ap merged_from same ∙ sym other
 -- sets of trees with the same definitions have one first refusal by the rules of validity
 one_invalidity : (xs ys : List Fragment) → definitions_of xs ≡ definitions_of ys → (a b : Option Refusal) → IsRefusalAfter xs None a → IsRefusalAfter ys None b → a ≡ b
 one_invalidity xs ys same a b is other =
-    let first : MergedSet = record { defs = is.0; fragments = xs } in
-    let second : MergedSet = record { defs = other.0; fragments = ys } in
     let merged : defs_term is.0 ≡ defs_term other.0 = same_terms xs ys is.0 other.0 same is.1 other.1 in
-    same_refusal validity_number (BreaksValidity second) validity_rules a b
-    (first_changed validity_number (BreaksValidity first) (BreaksValidity second) validity_rules a (breaks_same first second same merged) (breaks_same second first (sym same) (sym merged)) is.2)
+    same_refusal validity_number (BreaksRule (defs_term other.0) (definitions_of ys)) validity_rules a b
+    (subst (λ list. FirstBroken validity_number (BreaksRule list (definitions_of ys)) validity_rules a) merged (subst (λ definitions. FirstBroken validity_number (BreaksRule (defs_term is.0) definitions) validity_rules a) same is.2))
     other.2
 
 one_after : (xs ys : List Fragment) → definitions_of xs ≡ definitions_of ys → (p q a b : Option Refusal) → p ≡ q → IsRefusalAfter xs p a → IsRefusalAfter ys q b → a ≡ b

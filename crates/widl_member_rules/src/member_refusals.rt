@@ -1,7 +1,7 @@
 //! The first refusal by the rules on members.
 
 ghost use Rattle.std.specs.Prelude.{◌≡◌, IfOk};
-ghost use Rattle.widl_idl.specs.declared.defs.Defs.{Defs};
+ghost use Rattle.widl_idl.specs.DefinitionTerms.{DefsTerm};
 ghost use Rattle.widl_idl.specs.PlainTrees.{plain_definitions};
 ghost use Rattle.widl_member_rules.specs.MemberRefusals.{member_rules};
 ghost use Rattle.widl_refusals.specs.Refusals.{IsFirstOver};
@@ -26,7 +26,7 @@ pub fn find_in_members<'a>(
 ) -> Result<Option<Refusal>, AllocError>
     requires same { parts.now ≡ meanings.now }
     requires resolved { resolver.now ≡ meanings.now }
-    ensures { IfOk result (λ found. (defs : Defs) → IsFirstOver defs (plain_definitions meanings.now) member_rules found) }
+    ensures { IfOk result (λ found. (list : DefsTerm) → IsFirstOver list (plain_definitions meanings.now) member_rules found) }
 {
     let owners = find_in_owners(alloc, meanings, parts, resolver)?;
     let types = find_in_member_types(alloc, resolver, meanings.all())?;

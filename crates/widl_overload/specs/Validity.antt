@@ -1,8 +1,7 @@
 -- The rules of validity over a set of files and its merged list.
 use Rattle.std.specs.Prelude.{◌⊎◌, ℕ, List, [], ◌∷◌}
-use Rattle.widl_idl.specs.declared.defs.Defs.{Defs}
 use Rattle.widl_idl.specs.declared.violation.Violation.{Violation}
-use Rattle.widl_idl.specs.DefinitionTerms.{defs_term}
+use Rattle.widl_idl.specs.DefinitionTerms.{DefsTerm, defs_term}
 use Rattle.widl_idl.specs.First.{Somewhere}
 use Rattle.widl_idl.specs.Meanings.{definitions_of}
 use Rattle.widl_idl.specs.MergedSets.{MergedSet}
@@ -14,7 +13,6 @@ use Rattle.widl_overload.specs.declared.validity_rule.ValidityRule.TheVariants a
 use Rattle.widl_overload.specs.ArgumentRules.{FollowsEllipsis, FollowsOptional, InOneList, IsArgumentPastLimit, RepeatsArgument}
 use Rattle.widl_overload.specs.DefaultRules.{HasNoEmptyDefault, HasOtherDefault}
 use Rattle.widl_overload.specs.DefinitionRules.{AnnotatesNoType, HasMisformed, HasNameless, HasOtherThanOne, HasValueTwice}
-use Rattle.widl_overload.specs.Dictionaries.{dictionary_terms}
 use Rattle.widl_overload.specs.DictionaryRules.{BeginsLongChain, HasNameTwice, HoldsItself}
 use Rattle.widl_overload.specs.IterableRules.{HasSecondIterable, HidesIterationMethod}
 use Rattle.widl_overload.specs.MemberRules.{HasKeptName, HasOverloadPastLimit, InOneOwner, IsSecondStringifier, MixesPromises, RepeatsMember, has_members_of_its_own, is_interface_kind}
@@ -62,7 +60,7 @@ validity_number rule.MisformedCallbackOperation = 46
 validity_number rule.LongDictionaryChain = 47
 
 -- over these definitions and their merged list
-module _ (defs : Defs) (definitions : List PlainDefinition) where
+module _ (list : DefsTerm) (definitions : List PlainDefinition) where
   -- one of the definitions breaks the rule
   abbrev pub InOneDefinition : (PlainDefinition → Violation → Type 0) → Violation → Type 0
   InOneDefinition Breaks s = Somewhere Breaks definitions s
@@ -77,17 +75,17 @@ module _ (defs : Defs) (definitions : List PlainDefinition) where
   BreaksRule rule.RepeatedArgumentName s = InOneList RepeatsArgument definitions s
   BreaksRule rule.ArgumentAfterEllipsis s = InOneList FollowsEllipsis definitions s
   BreaksRule rule.RequiredAfterOptional s = InOneList FollowsOptional definitions s
-  BreaksRule rule.OtherDefault s = HasOtherDefault (defs_term defs) definitions s
+  BreaksRule rule.OtherDefault s = HasOtherDefault list definitions s
   BreaksRule rule.OtherConstantType s = InOneType IsOtherConstantType s
   BreaksRule rule.OtherConstantValue s = Somewhere (HasOtherValue definitions) (nodes_of definitions) s
   BreaksRule rule.CopiedAttribute s = InOneType IsCopiedAttribute s
-  BreaksRule rule.RepeatedDictionaryMember s = HasNameTwice (dictionary_terms defs) s
+  BreaksRule rule.RepeatedDictionaryMember s = HasNameTwice list.dicts s
   BreaksRule rule.WronglyNullable s = InOneType IsWronglyNullable s
   BreaksRule rule.SeveralNullableMembers s = InOneType (OfUnion HaveSeveralNullable) s
   BreaksRule rule.NullableBesideDictionary s = InOneType (OfUnion HaveNullableAndDictionary) s
-  BreaksRule rule.IndistinguishableUnionMembers s = InOneType (OfUnion (HaveIndistinguishableMembers (defs_term defs).ifaces)) s
+  BreaksRule rule.IndistinguishableUnionMembers s = InOneType (OfUnion (HaveIndistinguishableMembers list.ifaces)) s
   BreaksRule rule.AnnotatedUnionMember s = InOneType IsAnnotatedMember s
-  BreaksRule rule.NoEmptyDefault s = HasNoEmptyDefault (defs_term defs) definitions s
+  BreaksRule rule.NoEmptyDefault s = HasNoEmptyDefault list definitions s
   BreaksRule rule.NullableDictionary s = InOneType IsNullableDictionary s
   BreaksRule rule.MisplacedAnnotation s = InOneType HasMisplacedAnnotation s
   BreaksRule rule.ClampAndEnforceRange s = Somewhere (HasClampAndEnforceRange definitions) (type_uses_of definitions) s
@@ -96,23 +94,23 @@ module _ (defs : Defs) (definitions : List PlainDefinition) where
   BreaksRule rule.HiddenIterationMethod s = HidesIterationMethod definitions s
   BreaksRule rule.CallbackInterfaceOperations s = InOneDefinition (λ d. HasOtherThanOne d.kind) s
   BreaksRule rule.Stringifiers s = Somewhere (IsOtherStringifier definitions) (nodes_of definitions) s ⊎ InOneOwner is_interface_kind IsSecondStringifier definitions s
-  BreaksRule rule.IndistinguishableOverloads s = HasIndistinguishableOverloads (defs_term defs) s
-  BreaksRule rule.EarlyDifference s = HasEarlyDifference (defs_term defs) s
+  BreaksRule rule.IndistinguishableOverloads s = HasIndistinguishableOverloads list s
+  BreaksRule rule.EarlyDifference s = HasEarlyDifference list s
   BreaksRule rule.WritablePromise s = Somewhere (IsWritablePromise definitions) (nodes_of definitions) s
   BreaksRule rule.PromisesAndOthers s = InOneOwner has_members_of_its_own (MixesPromises definitions) definitions s
   BreaksRule rule.NamelessOperation s = InOneDefinition (λ d. HasNameless d.kind) s
   BreaksRule rule.UndefinedInside s = Somewhere IsUndefinedInside (type_uses_of definitions) s
-  BreaksRule rule.DictionaryHoldsItself s = HoldsItself (dictionary_terms defs) s
+  BreaksRule rule.DictionaryHoldsItself s = HoldsItself list.dicts s
   BreaksRule rule.RepeatedMember s = InOneOwner has_members_of_its_own RepeatsMember definitions s
   BreaksRule rule.KeptName s = InOneOwner is_interface_kind HasKeptName definitions s
   BreaksRule rule.TooManyOverloads s = InOneOwner has_members_of_its_own HasOverloadPastLimit definitions s
   BreaksRule rule.TooManyArguments s = InOneList IsArgumentPastLimit definitions s
   BreaksRule rule.MisformedCallbackOperation s = InOneDefinition (λ d. HasMisformed d.kind) s
-  BreaksRule rule.LongDictionaryChain s = BeginsLongChain (dictionary_terms defs) s
+  BreaksRule rule.LongDictionaryChain s = BeginsLongChain list.dicts s
 
 -- the rule is broken at the violation by a set of files with its merged list
 abbrev pub BreaksValidity : MergedSet → ValidityRule → Violation → Type 0
-BreaksValidity set rule s = BreaksRule set.defs (definitions_of set.fragments) rule s
+BreaksValidity set rule s = BreaksRule (defs_term set.defs) (definitions_of set.fragments) rule s
 
 -- the rules of validity
 abbrev pub validity_rules : List ValidityRule

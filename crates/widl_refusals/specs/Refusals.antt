@@ -1,8 +1,8 @@
 -- The first refusal by some rules of validity.
 use Rattle.std.specs.Prelude.{List, Option, None, Some, if◌then◌else◌}
-use Rattle.widl_idl.specs.declared.defs.Defs.{Defs}
 use Rattle.widl_idl.specs.declared.refusal.Refusal.{Refusal}
 use Rattle.widl_idl.specs.declared.violation.Violation.{Violation}
+use Rattle.widl_idl.specs.DefinitionTerms.{DefsTerm}
 use Rattle.widl_idl.specs.FirstRefusal.{FirstBroken, is_earlier}
 use Rattle.widl_idl.specs.PlainTrees.{PlainDefinition}
 use Rattle.widl_overload.specs.declared.validity_rule.ValidityRule.{ValidityRule}
@@ -19,5 +19,5 @@ abbrev pub IsFirst : (ValidityRule → Violation → Type 0) → List ValidityRu
 IsFirst Breaks rules found = FirstBroken validity_number Breaks rules found
 
 -- the first refusal by these rules over these definitions and their merged list
-abbrev pub IsFirstOver : Defs → List PlainDefinition → List ValidityRule → Option Refusal → Type 0
-IsFirstOver defs definitions rules found = IsFirst (BreaksRule defs definitions) rules found
+abbrev pub IsFirstOver : DefsTerm → List PlainDefinition → List ValidityRule → Option Refusal → Type 0
+IsFirstOver list definitions rules found = IsFirst (BreaksRule list definitions) rules found

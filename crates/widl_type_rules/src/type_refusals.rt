@@ -44,7 +44,7 @@ pub fn find_in_types<'a>(
 ) -> Result<Option<Refusal>, AllocError>
     requires same { resolver.now ≡ meanings.now }
     requires forest { IsForest (interface_parents (defs_term defs.now).ifaces) }
-    ensures { IfOk result (λ found. IsFirstOver defs.now (plain_definitions meanings.now) type_rules found) }
+    ensures { IfOk result (λ found. IsFirstOver (defs_term defs.now) (plain_definitions meanings.now) type_rules found) }
 {
     let lineages = Lineages::of(alloc, defs)?;
     let mut best = None;

@@ -1,2 +1,1 @@
-pub mod SameSets
 pub mod Valid

@@ -2,8 +2,8 @@
 
 ghost use Rattle.std.specs.Prelude.{◌≡◌, List, IfOk};
 ghost use Rattle.widl_fits.specs.Hierarchies.{IsHierarchy};
-ghost use Rattle.widl_idl.specs.declared.defs.Defs.{Defs as MergedList};
 ghost use Rattle.widl_idl.specs.Counts.{IsNumberedList};
+ghost use Rattle.widl_idl.specs.DefinitionTerms.{DefsTerm, defs_term};
 ghost use Rattle.widl_idl.specs.MergingRules.{parent_links};
 ghost use Rattle.widl_idl.specs.PlainTrees.{PlainDefinition, plain_definitions};
 ghost use Rattle.widl_inheritance.specs.HoldingGraph.{AreWithin};
@@ -29,7 +29,7 @@ use widl_refusals::first;
 /// `AllocError` where there is no memory.
 pub fn find_in_overloads(alloc: Global, defs: &Defs) -> Result<Option<Refusal>, AllocError>
     requires { IsNumberedList defs.now }
-    ensures { IfOk result (λ found. (definitions : List PlainDefinition) → IsFirstOver defs.now definitions overload_rules found) }
+    ensures { IfOk result (λ found. (definitions : List PlainDefinition) → IsFirstOver (defs_term defs.now) definitions overload_rules found) }
 {
     let found = first_overload_violations(alloc, defs)?;
     let best = first(None, ValidityRule::EarlyDifference, found.early);
@@ -49,7 +49,7 @@ pub fn find_in_overloads(alloc: Global, defs: &Defs) -> Result<Option<Refusal>, 
 pub fn find_in_dictionaries(alloc: Global, defs: &Defs) -> Result<Option<Refusal>, AllocError>
     requires within { AreWithin (dictionary_terms defs.now) }
     requires hierarchy { IsHierarchy (dictionary_terms defs.now) }
-    ensures { IfOk result (λ found. (definitions : List PlainDefinition) → IsFirstOver defs.now definitions dictionary_rules found) }
+    ensures { IfOk result (λ found. (definitions : List PlainDefinition) → IsFirstOver (defs_term defs.now) definitions dictionary_rules found) }
 {
     let dicts = defs.dicts.as_slice();
     let holdings = Holdings::of(alloc, dicts)?;
@@ -74,7 +74,7 @@ pub fn find_in_defaults<'a>(
 ) -> Result<Option<Refusal>, AllocError>
     requires same { resolver.now ≡ meanings.now }
     requires hierarchy { IsHierarchy (dictionary_terms defs.now) }
-    ensures { IfOk result (λ found. IsFirstOver defs.now (plain_definitions meanings.now) default_rules found) }
+    ensures { IfOk result (λ found. IsFirstOver (defs_term defs.now) (plain_definitions meanings.now) default_rules found) }
 {
     let all = meanings.all();
     let found = first_without_empty_default(alloc, defs, resolver, all)?;
@@ -95,7 +95,7 @@ pub fn find_in_iterables(
 ) -> Result<Option<Refusal>, AllocError>
     requires same { parts.now ≡ meanings.now }
     requires acyclic { IsAcyclic (parent_links (plain_definitions meanings.now)) }
-    ensures { IfOk result (λ found. (defs : MergedList) → IsFirstOver defs (plain_definitions meanings.now) iterable_rules found) }
+    ensures { IfOk result (λ found. (list : DefsTerm) → IsFirstOver list (plain_definitions meanings.now) iterable_rules found) }
 {
     let found = find_iterables(alloc, meanings, parts)?;
     let best = first(None, ValidityRule::HiddenIterationMethod, found.hidden);

@@ -15,4 +15,4 @@ pub loop-definition-preserved : goal.loop-definition-preserved
 loop-definition-preserved c = next_item definition_rules DefinitionsBreak (λ before d which. BreaksDefinition which d) definition_pushed (λ d. definition_of d.now) c.args.definitions.now c.loop-definition.definition-index c.definition-item.result c.loop-definition.best c.in_ok-found.found _ (omega arith) c.definition-item.is c.loop-definition.invariant c.in_ok-found.ensures c.earlier_refusal-best.ensures
 
 pub returns : goal.returns
-returns c = λ defs. same_rules (DefinitionsBreak (listed_definitions c.args.definitions.now)) (BreaksRule defs (listed_definitions c.args.definitions.now)) definition_rules c.loop-definition.best refl (all_items definition_rules DefinitionsBreak (λ d. definition_of d.now) c.args.definitions.now c.loop-definition.definition-index c.loop-definition.best (omega arith) c.loop-definition.invariant)
+returns c = λ list. same_rules (DefinitionsBreak (listed_definitions c.args.definitions.now)) (BreaksRule list (listed_definitions c.args.definitions.now)) definition_rules c.loop-definition.best refl (all_items definition_rules DefinitionsBreak (λ d. definition_of d.now) c.args.definitions.now c.loop-definition.definition-index c.loop-definition.best (omega arith) c.loop-definition.invariant)

@@ -30,6 +30,6 @@ pub returns : goal.returns
 returns c =
     let ifaces = (defs_term c.args.defs.now).ifaces in
     let definitions = plain_definitions c.args.meanings.now in
-    same_rules (SomeBreaks ifaces definitions (type_uses_of definitions)) (BreaksRule c.args.defs.now definitions) type_rules c.loop-definition.best refl
+    same_rules (SomeBreaks ifaces definitions (type_uses_of definitions)) (BreaksRule (defs_term c.args.defs.now) definitions) type_rules c.loop-definition.best refl
     (subst (λ ds. IsFirst (SomeBreaks ifaces definitions (type_uses_of ds)) type_rules c.loop-definition.best) (listed_same c.all-definitions.result.now c.args.meanings.now c.all-definitions.ensures)
     (all_items type_rules (λ ds. SomeBreaks ifaces definitions (type_uses_of ds)) (λ e. definition_of e.now) c.all-definitions.result.now c.loop-definition.definition-index c.loop-definition.best (omega arith) c.loop-definition.invariant.0))

@@ -18,7 +18,7 @@ first_other_default-requires-clause-listed c = all_plain c.all-all.result.now c.
 
 pub returns : goal.returns
 returns c =
-    let b = BreaksRule c.args.defs.now (plain_definitions c.args.meanings.now) in
+    let b = BreaksRule (defs_term c.args.defs.now) (plain_definitions c.args.meanings.now) in
     let there : (P : DefsTerm → List PlainDefinition → Violation → Type 0) (found : Option Violation) → FirstWhere (P (defs_term c.args.defs.now) (plain_definitions c.args.resolver.now)) found → FirstWhere (P (defs_term c.args.defs.now) (plain_definitions c.args.meanings.now)) found
     = λ P found l. subst (λ ds. FirstWhere (P (defs_term c.args.defs.now) (plain_definitions ds)) found) c.requires.same l in
     first_rule validity_number b rule.OtherDefault _ _ _ _ (there HasOtherDefault _ c.in_ok-found-2.ensures) c.first.ensures

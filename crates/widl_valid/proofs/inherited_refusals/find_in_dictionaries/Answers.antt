@@ -1,6 +1,6 @@
 use Rattle.std.proofs.Common.{List, Option, map, subst, sym}
 use Rattle.widl_idl.specs.declared.violation.Violation.{Violation}
-use Rattle.widl_idl.specs.DefinitionTerms.{DictTerm, dict_term}
+use Rattle.widl_idl.specs.DefinitionTerms.{DictTerm, defs_term, dict_term}
 use Rattle.widl_idl.specs.First.{FirstWhere}
 use Rattle.widl_idl.proofs.Steps.{first_rule, no_rules}
 use Rattle.widl_fits.specs.Hierarchies.{IsHierarchy}
@@ -22,7 +22,7 @@ first_repeated_member-requires c = subst (λ ds. IsHierarchy (map dict_term ds))
 
 pub returns : goal.returns
 returns c = λ definitions.
-    let b = BreaksRule c.args.defs.now definitions in
+    let b = BreaksRule (defs_term c.args.defs.now) definitions in
     let there : (P : List DictTerm → Violation → Type 0) (found : Option Violation) → FirstWhere (P (map dict_term c.as_slice-dicts.result.now)) found → FirstWhere (P (dictionary_terms c.args.defs.now)) found
     = λ P found l. subst (λ ds. FirstWhere (P (map dict_term ds)) found) c.as_slice-dicts.ensures l in
     first_rule validity_number b rule.RepeatedDictionaryMember _ _ _ _ (there HasNameTwice _ c.in_ok-found-2.ensures) c.first.ensures

@@ -5,7 +5,7 @@ use Rattle.widl_overload.specs.declared.validity_rule.ValidityRule.TheVariants a
 use Rattle.widl_valid.proofs.inherited_refusals.find_in_iterables.Goals as goal
 
 pub returns : goal.returns
-returns c = λ defs.
-    let b = BreaksRule defs (plain_definitions c.args.meanings.now) in
+returns c = λ list.
+    let b = BreaksRule list (plain_definitions c.args.meanings.now) in
     first_rule validity_number b rule.SecondIterable _ _ _ _ c.in_ok-found.ensures.second c.first.ensures
     (first_rule validity_number b rule.HiddenIterationMethod _ _ _ _ c.in_ok-found.ensures.hidden c.first-best.ensures (no_rules validity_number b))

@@ -9,6 +9,7 @@ use Rattle.widl_idl.specs.PlainTrees.{definition_of, plain_definitions}
 use Rattle.widl_idl.specs.declared.merging_rule.MergingRule.TheVariants as merging
 use Rattle.widl_graph.specs.Reaching.{IsForest, IsAcyclic}
 use Rattle.widl_fits.specs.Hierarchies.{IsHierarchy, interface_parents}
+use Rattle.widl_idl.specs.DefinitionTerms.{defs_term}
 use Rattle.widl_fits.proofs.MergedHierarchies.{merged_hierarchy, merged_interfaces}
 use Rattle.widl_fits.proofs.MergedParents.{none_back}
 use Rattle.widl_inheritance.specs.HoldingGraph.{AreWithin}
@@ -72,8 +73,8 @@ returns c =
     let there : definitions_of set.fragments ≡ listed_definitions c.as_slice-all.result.now = sym (ap listed_definitions c.as_slice-all.ensures.value ∙ c.in_ok-definitions.ensures ∙ ap definitions_of fragments) in
     let meant : definitions_of set.fragments ≡ plain_definitions c.in_ok-meanings.meanings = there ∙ all_plain c.as_slice-all.result.now c.in_ok-meanings.meanings (sym c.in_ok-meanings.ensures) in
     let b = BreaksValidity set in
-    let over : (rules : List ValidityRule) (found : Option Refusal) → IsFirstOver c.defs-defs.result.now (plain_definitions c.in_ok-meanings.meanings) rules found → IsFirst b rules found
-    = λ rules found l. subst (λ (d : Defs). IsFirstOver d (definitions_of set.fragments) rules found) c.defs-defs.ensures.defs (subst (λ ds. IsFirstOver c.defs-defs.result.now ds rules found) (sym meant) l) in
+    let over : (rules : List ValidityRule) (found : Option Refusal) → IsFirstOver (defs_term c.defs-defs.result.now) (plain_definitions c.in_ok-meanings.meanings) rules found → IsFirst b rules found
+    = λ rules found l. subst (λ (d : Defs). IsFirstOver (defs_term d) (definitions_of set.fragments) rules found) c.defs-defs.ensures.defs (subst (λ ds. IsFirstOver (defs_term c.defs-defs.result.now) ds rules found) (sym meant) l) in
     let list = plain_definitions c.in_ok-meanings.meanings in
     both_lists b definition_rules _ _ _ _
     (both_lists b type_rules _ _ _ _
@@ -81,9 +82,9 @@ returns c =
     (both_lists b default_rules _ _ _ _
     (both_lists b dictionary_rules _ _ _ _
     (both_lists b iterable_rules overload_rules _ _ _ (over overload_rules _ (c.in_ok-best.ensures list))
-    (over iterable_rules _ (c.in_ok-found.ensures c.defs-defs.result.now)) c.earlier_refusal-best.ensures)
+    (over iterable_rules _ (c.in_ok-found.ensures (defs_term c.defs-defs.result.now))) c.earlier_refusal-best.ensures)
     (over dictionary_rules _ (c.in_ok-found-2.ensures list)) c.earlier_refusal-best-2.ensures)
     (over default_rules _ c.in_ok-found-3.ensures) c.earlier_refusal-best-3.ensures)
-    (over member_rules _ (c.in_ok-found-4.ensures c.defs-defs.result.now)) c.earlier_refusal-best-4.ensures)
+    (over member_rules _ (c.in_ok-found-4.ensures (defs_term c.defs-defs.result.now))) c.earlier_refusal-best-4.ensures)
     (over type_rules _ c.in_ok-found-5.ensures) c.earlier_refusal-best-5.ensures)
-    (subst (λ ds. IsFirstOver set.defs ds definition_rules c.in_ok-found-6.found) (sym there) (c.in_ok-found-6.ensures set.defs)) c.earlier_refusal.ensures
+    (subst (λ ds. IsFirstOver (defs_term set.defs) ds definition_rules c.in_ok-found-6.found) (sym there) (c.in_ok-found-6.ensures (defs_term set.defs))) c.earlier_refusal.ensures
