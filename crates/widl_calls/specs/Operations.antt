@@ -11,7 +11,7 @@ use Rattle.widl_idl.specs.declared.callee.Part.{Part}
 use Rattle.widl_idl.specs.declared.callee.Part.TheVariants as parts
 use Rattle.widl_idl.specs.DefinitionTerms.{DefsTerm, SigTerm, OpNameTerm, MembersTerm, IfaceTerm, SpaceTerm}
 use Rattle.widl_idl.specs.Terms.{TypeTerm, UndefinedType, PromiseType}
-use Rattle.widl_overload.specs.Entries.{overloads_of}
+use Rattle.widl_overload.specs.sets.Entries.{overloads_of}
 use Rattle.widl_value.specs.declared.value.Value.{Value}
 use Rattle.widl_value.specs.IdlTerms.{IdlTerm}
 use Rattle.widl_script_tree.specs.declared.steps.StepLine.{StepLine}

@@ -5,7 +5,7 @@ ghost use Rattle.std.specs.List.{list_any};
 ghost use Rattle.std.specs.Option.{option_copied, option_map_or};
 ghost use Rattle.widl_idl.specs.DefinitionTerms.{defs_term, sig_term};
 ghost use Rattle.widl_idl.specs.Terms.{UndefinedType, type_term};
-ghost use Rattle.widl_overload.specs.Entries.{overloads_of};
+ghost use Rattle.widl_overload.specs.sets.Entries.{overloads_of};
 ghost use Rattle.widl_calls.specs.FoundSteps.{lines_found, steps_over};
 ghost use Rattle.widl_calls.specs.Operations.{is_promise, lines_of, result_type, returns_promise};
 

@@ -23,9 +23,9 @@ use Rattle.widl_idl.specs.declared.text_kind.TextKind.TheVariants as texts
 use Rattle.widl_idl.specs.DefinitionTerms.{DefsTerm, ArgTerm}
 use Rattle.widl_idl.specs.Flattened.{flattened_member, flattened_members, includes_nullable_type}
 use Rattle.widl_idl.specs.Terms.{TypeTerm, TypeTerms, no_types, more_types, AnyType, UndefinedType, BooleanType, IntegerType, StringType, EnumerationType, InterfaceType, CallbackFunctionType, CallbackInterfaceType, DictionaryType, ObjectType, SequenceType, RecordType, PromiseType, NullableType, UnionType}
-use Rattle.widl_overload.specs.Dictionaries.{BeginsChain, alone as alone_in_chain, after, dictionaries_in, dictionaries_in_all}
-use Rattle.widl_overload.specs.Entries.{declared_args, type_at, optionality_at}
-use Rattle.widl_overload.specs.Sets.{TupleTerm, is_variadic}
+use Rattle.widl_overload.specs.rules.Dictionaries.{BeginsChain, alone as alone_in_chain, after, dictionaries_in, dictionaries_in_all}
+use Rattle.widl_overload.specs.sets.Entries.{declared_args, type_at, optionality_at}
+use Rattle.widl_overload.specs.sets.Sets.{TupleTerm, is_variadic}
 use Rattle.widl_value.specs.Classes.{class_of}
 use Rattle.widl_value.specs.declared.number.Number.{Number}
 use Rattle.widl_value.specs.declared.object.ObjRef.{ObjRef}

@@ -9,7 +9,7 @@ use Rattle.widl_graph.specs.Reaching.{Reaches, one}
 use Rattle.widl_graph.proofs.ParentSteps.{up_step}
 use Rattle.widl_graph.proofs.Reach.{after_step}
 use Rattle.widl_idl.specs.DefinitionTerms.{DefsTerm, DictTerm, MemberTerm}
-use Rattle.widl_overload.specs.Dictionaries.{HoldsIn, IsOfLine, dictionaries_in, dictionary_parents}
+use Rattle.widl_overload.specs.rules.Dictionaries.{HoldsIn, IsOfLine, dictionaries_in, dictionary_parents}
 use Rattle.widl_tables.specs.MemberOrder.{DeclaredMember, parent_in, line_within, line_of, declared_from, declared_by, by_name, members_in_order}
 use Rattle.widl_tables.proofs.NameOrder.{all_by_name}
 

@@ -7,8 +7,8 @@ use Rattle.std.proofs.lemmas.List.{drop_all, length-map, length-take}
 use Rattle.widl_dialog.specs.Dialog.{End, Steps}
 use Rattle.widl_idl.specs.declared.callee.Callee.{Callee}
 use Rattle.widl_idl.specs.DefinitionTerms.{DefsTerm, SigTerm}
-use Rattle.widl_overload.specs.Entries.{declared_args, entry_for, overloads_of}
-use Rattle.widl_overload.specs.Sets.{TupleTerm}
+use Rattle.widl_overload.specs.sets.Entries.{declared_args, entry_for, overloads_of}
+use Rattle.widl_overload.specs.sets.Sets.{TupleTerm}
 use Rattle.widl_value.specs.Classes.{class_of}
 use Rattle.widl_value.specs.declared.class.Class.{Class}
 use Rattle.widl_value.specs.declared.value.Value.{Value}

@@ -8,7 +8,7 @@ use Rattle.widl_graph.proofs.Reach.{first_step}
 use Rattle.widl_idl.specs.DefinitionTerms.{DictTerm}
 use Rattle.widl_idl.specs.First.{violation_at}
 use Rattle.widl_overload.specs.declared.validity_rule.ValidityRule.TheVariants as rule
-use Rattle.widl_overload.specs.Dictionaries.{BeginsChain, alone, after, HoldsIn, IsOfLine, dictionary_terms}
+use Rattle.widl_overload.specs.rules.Dictionaries.{BeginsChain, alone, after, HoldsIn, IsOfLine, dictionary_terms}
 use Rattle.widl_convert.specs.Laws.{ValidChainsEnd}
 
 module _ (dicts : List DictTerm) where

@@ -13,8 +13,8 @@ use Rattle.widl_idl.specs.declared.text_kind.TextKind.{TextKind}
 use Rattle.widl_idl.specs.declared.text_kind.TextKind.TheVariants as texts
 use Rattle.widl_idl.specs.DefinitionTerms.{DefsTerm, ArgTerm, SigTerm}
 use Rattle.widl_idl.specs.Terms.{TypeTerm, IntegerType, StringType, EnumerationType, ObjectType, TypeTerms, AnyType, SequenceType, RecordType, DictionaryType, NullableType, UnionType}
-use Rattle.widl_overload.specs.Entries.{declared_args, is_variadic_list, optionality_at, overloads_of, type_at}
-use Rattle.widl_overload.specs.Sets.{TupleTerm, is_variadic}
+use Rattle.widl_overload.specs.sets.Entries.{declared_args, is_variadic_list, optionality_at, overloads_of, type_at}
+use Rattle.widl_overload.specs.sets.Sets.{TupleTerm, is_variadic}
 use Rattle.widl_value.specs.Classes.{class_of}
 use Rattle.widl_value.specs.declared.number.Number.{Number}
 use Rattle.widl_value.specs.declared.object.ObjRef.{ObjRef}

@@ -9,8 +9,8 @@ use Rattle.widl_idl.specs.declared.literal.Literal.TheVariants as literals
 use Rattle.widl_idl.specs.DefinitionTerms.{DefsTerm, ArgTerm}
 use Rattle.widl_idl.specs.Flattened.{flattened_member}
 use Rattle.widl_idl.specs.Terms.{TypeTerm, AnyType, EnumerationType}
-use Rattle.widl_overload.specs.Entries.{declared_args}
-use Rattle.widl_overload.specs.Sets.{is_variadic}
+use Rattle.widl_overload.specs.sets.Entries.{declared_args}
+use Rattle.widl_overload.specs.sets.Sets.{is_variadic}
 use Rattle.widl_value.specs.declared.value.Value.TheVariants as values
 use Rattle.widl_value.specs.IdlTerms.{IdlTerm, NullValue, MissingValue, BooleanValue, IntegerValue, StringValue, EnumerationValue, AnyValue, SequenceValue, no_values}
 use Rattle.widl_scalar.specs.Enumerations.{value_place}

@@ -6,8 +6,8 @@ use Rattle.widl_dialog.specs.Dialog.{End, Steps}
 use Rattle.widl_idl.specs.declared.callee.Callee.{Callee}
 use Rattle.widl_idl.specs.DefinitionTerms.{DefsTerm, ArgTerm}
 use Rattle.widl_idl.specs.Terms.{TypeTerm, AnyType}
-use Rattle.widl_overload.specs.Entries.{declared_args, entry_for}
-use Rattle.widl_overload.specs.Sets.{TupleTerm}
+use Rattle.widl_overload.specs.sets.Entries.{declared_args, entry_for}
+use Rattle.widl_overload.specs.sets.Sets.{TupleTerm}
 use Rattle.widl_value.specs.declared.value.Value.{Value}
 use Rattle.widl_value.specs.IdlTerms.{IdlTerm}
 use Rattle.widl_trace.specs.declared.code.Code.TheVariants as code

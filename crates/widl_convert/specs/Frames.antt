@@ -7,8 +7,8 @@ use Rattle.widl_idl.specs.DefinitionTerms.{DefsTerm}
 use Rattle.widl_idl.specs.declared.types.IdlType.{IdlType}
 use Rattle.widl_idl.specs.Flattened.{unannotated}
 use Rattle.widl_idl.specs.Terms.{StringType, type_term}
-use Rattle.widl_overload.specs.Entries.{declared_args, entry_for, type_at}
-use Rattle.widl_overload.specs.Sets.{TupleTerm}
+use Rattle.widl_overload.specs.sets.Entries.{declared_args, entry_for, type_at}
+use Rattle.widl_overload.specs.sets.Sets.{TupleTerm}
 use Rattle.widl_value.specs.declared.idl_value.IdlValue.{IdlValue}
 use Rattle.widl_value.specs.declared.number.Number.{Number}
 use Rattle.widl_value.specs.declared.object.ObjRef.{ObjRef}

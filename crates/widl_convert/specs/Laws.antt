@@ -7,8 +7,8 @@ use Rattle.widl_text.specs.Limits.{most_chained_dictionaries}
 use Rattle.widl_idl.specs.DefinitionTerms.{DefsTerm, defs_term}
 use Rattle.widl_idl.specs.MergedSets.{MergedSet}
 use Rattle.widl_idl.specs.Terms.{DictionaryType}
-use Rattle.widl_overload.specs.Dictionaries.{BeginsChain}
-use Rattle.widl_overload.specs.Validity.{IsValid}
+use Rattle.widl_overload.specs.rules.Dictionaries.{BeginsChain}
+use Rattle.widl_overload.specs.rules.Validity.{IsValid}
 use Rattle.widl_value.specs.declared.value.Value.{Value}
 use Rattle.widl_convert.specs.AskTerms.{AskTerm, AnswerTerm, ThrownAnswer, Fits}
 use Rattle.widl_convert.specs.Built.{Built}

@@ -10,8 +10,8 @@ use Rattle.widl_idl.specs.declared.callee.Callee.{Callee}
 use Rattle.widl_idl.specs.declared.literal.Literal.{Literal}
 use Rattle.widl_idl.specs.DefinitionTerms.{DefsTerm, ArgTerm}
 use Rattle.widl_idl.specs.Terms.{TypeTerm}
-use Rattle.widl_overload.specs.Entries.{declared_args, optionality_at, type_at}
-use Rattle.widl_overload.specs.Sets.{TupleTerm}
+use Rattle.widl_overload.specs.sets.Entries.{declared_args, optionality_at, type_at}
+use Rattle.widl_overload.specs.sets.Sets.{TupleTerm}
 use Rattle.widl_value.specs.Classes.{class_of}
 use Rattle.widl_value.specs.declared.object.ObjRef.{ObjRef}
 use Rattle.widl_value.specs.declared.value.Value.{Value}

@@ -4,8 +4,8 @@ use Rattle.std.specs.Prelude.{◌≡◌, ℕ, ◌+◌, suc, if◌then◌else◌,
 use Rattle.widl_dialog.specs.Conversation.{Next}
 use Rattle.widl_idl.specs.declared.callee.Callee.{Callee}
 use Rattle.widl_idl.specs.DefinitionTerms.{DefsTerm, ArgTerm}
-use Rattle.widl_overload.specs.Entries.{declared_args}
-use Rattle.widl_overload.specs.Sets.{is_variadic}
+use Rattle.widl_overload.specs.sets.Entries.{declared_args}
+use Rattle.widl_overload.specs.sets.Sets.{is_variadic}
 use Rattle.widl_value.specs.declared.value.Value.{Value}
 use Rattle.widl_value.specs.IdlTerms.{IdlTerm}
 use Rattle.widl_tables.specs.Kept.{argcount_of}

@@ -7,7 +7,7 @@ use Rattle.widl_idl.specs.declared.callee.Callee.{Callee}
 use Rattle.widl_idl.specs.declared.literal.Literal.{Literal}
 use Rattle.widl_idl.specs.declared.text_kind.TextKind.{TextKind}
 use Rattle.widl_idl.specs.Terms.{TypeTerm}
-use Rattle.widl_overload.specs.Sets.{TupleTerm}
+use Rattle.widl_overload.specs.sets.Sets.{TupleTerm}
 use Rattle.widl_value.specs.declared.object.ObjRef.{ObjRef}
 use Rattle.widl_value.specs.declared.value.Value.{Value}
 use Rattle.widl_value.specs.IdlTerms.{IdlTerm, IdlTerms}

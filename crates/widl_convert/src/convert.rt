@@ -4,7 +4,7 @@ ghost use Rattle.std.specs.Prelude.{◌≡◌, ◌≤◌, IfOk};
 ghost use Rattle.widl_dialog.specs.Dialog.{Steps};
 ghost use Rattle.widl_idl.specs.DefinitionTerms.{DefsTerm, defs_term};
 ghost use Rattle.widl_idl.specs.Terms.{NullableType, type_term};
-ghost use Rattle.widl_overload.specs.Entries.{declared_args, entry_for, type_at};
+ghost use Rattle.widl_overload.specs.sets.Entries.{declared_args, entry_for, type_at};
 ghost use Rattle.widl_scalar.specs.Enumerations.{value_place};
 ghost use Rattle.widl_scalar.specs.Scalars.{integer_of};
 ghost use Rattle.widl_value.specs.IdlTerms.{ObjectValue, StringValue, idl_term};

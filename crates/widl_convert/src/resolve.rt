@@ -6,7 +6,7 @@ ghost use Rattle.widl_idl.specs.DefinitionTerms.{DefsTerm, defs_term};
 ghost use Rattle.widl_idl.specs.Terms.{type_term};
 ghost use Rattle.widl_value.specs.Classes.{class_of};
 ghost use Rattle.widl_value.specs.IdlTerms.{idl_term, idl_terms};
-ghost use Rattle.widl_overload.specs.Entries.{declared_args, entry_for, optionality_at, type_at};
+ghost use Rattle.widl_overload.specs.sets.Entries.{declared_args, entry_for, optionality_at, type_at};
 ghost use Rattle.widl_tables.specs.Kept.{entries_for};
 ghost use Rattle.widl_tables.specs.Picks.{pick_kept, pick_of};
 ghost use Rattle.widl_tables.specs.Tests.{is_optional};

@@ -8,7 +8,7 @@ use Rattle.widl_idl.specs.PlainTrees.{PlainArgument, argument_of, arguments_of}
 use Rattle.widl_idl.specs.declared.tree.arguments.Argument.{Argument}
 use Rattle.widl_idl.proofs.Order.{not_before_same, one_place}
 use Rattle.widl_names.proofs.Pushed.{some_is}
-use Rattle.widl_overload.specs.ArgumentRules.{FollowsOptional, IsArgumentPastLimit, is_optional, is_required}
+use Rattle.widl_overload.specs.rules.ArgumentRules.{FollowsOptional, IsArgumentPastLimit, is_optional, is_required}
 
 both_true : (a b : Bool) → (a && b) ≡ true → (a ≡ true) × (b ≡ true)
 both_true true b e = (refl, e)

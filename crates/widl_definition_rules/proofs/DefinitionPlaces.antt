@@ -14,7 +14,7 @@ use Rattle.widl_idl.specs.PlainTrees.{PlainArgument, PlainDefinition, PlainMembe
 use Rattle.widl_idl.specs.PlainTypes.{PlainAttribute}
 use Rattle.widl_idl.proofs.Order.{first_same}
 use Rattle.widl_idl.proofs.Somewhere.{first_flat, one_item, somewhere_both, somewhere_one}
-use Rattle.widl_overload.specs.DefinitionRules.{AnnotatesNoType, IsAnnotation, attributes_of_no_type, has_early_ellipsis, is_variadic, members_written}
+use Rattle.widl_overload.specs.rules.DefinitionRules.{AnnotatesNoType, IsAnnotation, attributes_of_no_type, has_early_ellipsis, is_variadic, members_written}
 
 abbrev OfMember : PlainMember → Violation → Type 0
 OfMember m s = Somewhere IsAnnotation (attributes_of_no_type m.attributes m.kind) s

@@ -7,7 +7,7 @@ use Rattle.widl_idl.proofs.Order.{Either}
 use Rattle.widl_idl.proofs.Somewhere.{nowhere}
 use Rattle.widl_overload.specs.declared.validity_rule.ValidityRule.{ValidityRule}
 use Rattle.widl_overload.specs.declared.validity_rule.ValidityRule.TheVariants as rule
-use Rattle.widl_overload.specs.ArgumentRules.{FollowsEllipsis, FollowsOptional, InOneList, IsArgumentPastLimit, RepeatsArgument, lists_in_definition}
+use Rattle.widl_overload.specs.rules.ArgumentRules.{FollowsEllipsis, FollowsOptional, InOneList, IsArgumentPastLimit, RepeatsArgument, lists_in_definition}
 use Rattle.widl_definition_rules.specs.DefinitionRefusals.{BreaksDefinition, DefinitionsBreak, InItsLists}
 use Rattle.widl_refusals.proofs.FirstRefusals.{item_pushed, list_pushed}
 

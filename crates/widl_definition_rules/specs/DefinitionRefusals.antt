@@ -5,8 +5,8 @@ use Rattle.widl_idl.specs.First.{AtOne, Somewhere}
 use Rattle.widl_idl.specs.PlainTrees.{PlainArgument, PlainDefinition}
 use Rattle.widl_overload.specs.declared.validity_rule.ValidityRule.{ValidityRule}
 use Rattle.widl_overload.specs.declared.validity_rule.ValidityRule.TheVariants as rule
-use Rattle.widl_overload.specs.ArgumentRules.{FollowsEllipsis, FollowsOptional, InOneList, IsArgumentPastLimit, RepeatsArgument, lists_in_definition}
-use Rattle.widl_overload.specs.DefinitionRules.{AnnotatesNoType, HasMisformed, HasNameless, HasOtherThanOne, HasValueTwice}
+use Rattle.widl_overload.specs.rules.ArgumentRules.{FollowsEllipsis, FollowsOptional, InOneList, IsArgumentPastLimit, RepeatsArgument, lists_in_definition}
+use Rattle.widl_overload.specs.rules.DefinitionRules.{AnnotatesNoType, HasMisformed, HasNameless, HasOtherThanOne, HasValueTwice}
 
 abbrev pub definition_rules : List ValidityRule
 definition_rules =

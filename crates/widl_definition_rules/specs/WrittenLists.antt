@@ -2,7 +2,7 @@
 use Rattle.std.specs.Prelude.{Bool}
 use Rattle.widl_idl.specs.declared.tree.arguments.Argument.{Argument}
 use Rattle.widl_idl.specs.PlainTrees.{argument_kind_of}
-use Rattle.widl_overload.specs.DefinitionRules.{is_variadic}
+use Rattle.widl_overload.specs.rules.DefinitionRules.{is_variadic}
 
 -- whether an argument of a tree has an ellipsis
 abbrev pub has_ellipsis : Argument → Bool

@@ -4,7 +4,7 @@ ghost use Rattle.std.specs.Prelude.{◌≡◌, ◌&&◌, Bool, None, Some, if◌
 ghost use Rattle.std.specs.List.{list_any};
 ghost use Rattle.widl_idl.specs.First.{AtOne, FirstWhere, Somewhere, violation_at};
 ghost use Rattle.widl_idl.specs.PlainTrees.{PlainArgument, argument_kind_of, argument_of, arguments_of};
-ghost use Rattle.widl_overload.specs.ArgumentRules.{AtEllipsis, FollowsEllipsis, FollowsOptional, IsArgumentPastLimit, RepeatsArgument, is_optional, is_required};
+ghost use Rattle.widl_overload.specs.rules.ArgumentRules.{AtEllipsis, FollowsEllipsis, FollowsOptional, IsArgumentPastLimit, RepeatsArgument, is_optional, is_required};
 ghost use Rattle.widl_inheritance.specs.WrittenLists.{listed_arguments};
 
 use crate::known_texts::note_text;

@@ -8,7 +8,7 @@ ghost use Rattle.widl_idl.specs.PlainTrees.{argument_kind_of, arguments_of, defi
 ghost use Rattle.widl_idl.specs.PlainTypes.{attribute_of};
 ghost use Rattle.widl_idl.specs.WrittenTypes.{annotation_of};
 ghost use Rattle.widl_definition_rules.specs.WrittenLists.{has_ellipsis};
-ghost use Rattle.widl_overload.specs.DefinitionRules.{AnnotatesNoType, HasMisformed, HasNameless, HasOtherThanOne, HasValueTwice, IsAnnotation, IsMisformed, IsNameless, RepeatsValue, attributes_of_no_type, has_early_ellipsis, is_variadic, members_written};
+ghost use Rattle.widl_overload.specs.rules.DefinitionRules.{AnnotatesNoType, HasMisformed, HasNameless, HasOtherThanOne, HasValueTwice, IsAnnotation, IsMisformed, IsNameless, RepeatsValue, attributes_of_no_type, has_early_ellipsis, is_variadic, members_written};
 
 use crate::known_texts::note_text;
 use indexmap::IndexSet;

@@ -18,7 +18,7 @@ use Rattle.widl_idl.specs.DefinitionTerms.{DefsTerm}
 use Rattle.widl_idl.specs.PlainTypes.{PlainValue, NullValue, UndefinedValue, BooleanValue, IntegerValue, DecimalValue, InfinityValue, MinusInfinityValue, NotANumberValue, TextValue, EmptySequenceValue, EmptyDictionaryValue}
 use Rattle.widl_idl.specs.Terms.{TypeTerm}
 use Rattle.widl_idl.specs.WrittenLiterals.{value_meant}
-use Rattle.widl_overload.specs.DefaultRules.{Fits}
+use Rattle.widl_overload.specs.rules.DefaultRules.{Fits}
 use Rattle.widl_fits.specs.declared.tables.Tables.{Tables}
 use Rattle.widl_fits.specs.Fitting.{Knows, fits_if, literal_if}
 use Rattle.widl_fits.specs.Literals.{IsMeant, IsOfProgram, LiteralFits}

@@ -6,8 +6,8 @@ use Rattle.widl_idl.specs.DefinitionTerms.{DefsTerm}
 use Rattle.widl_idl.specs.Flattened.{flattened_member, includes_nullable_type}
 use Rattle.widl_idl.specs.PlainTypes.{PlainValue, NullValue, UndefinedValue, BooleanValue, IntegerValue, TextValue, EmptySequenceValue, EmptyDictionaryValue}
 use Rattle.widl_idl.specs.Terms.{TypeTerm, AnyType, BooleanType, IntegerType, StringType, EnumerationType, DictionaryType, SequenceType}
-use Rattle.widl_overload.specs.DefaultRules.{Fits, FitsMember, IsNullOf, IsValueOf}
-use Rattle.widl_overload.specs.Dictionaries.{HasRequired}
+use Rattle.widl_overload.specs.rules.DefaultRules.{Fits, FitsMember, IsNullOf, IsValueOf}
+use Rattle.widl_overload.specs.rules.Dictionaries.{HasRequired}
 use Rattle.widl_fits.specs.declared.tables.Tables.{Tables}
 use Rattle.widl_fits.specs.Fitting.{Knows, KnowsRequired, fits_if, literal_if, null_if, takes, takes_if}
 use Rattle.widl_fits.specs.Required.{is_flagged}

@@ -6,7 +6,7 @@ use Rattle.std.proofs.lemmas.Option.{same_Some}
 use Rattle.widl_graph.specs.Flags.{TellsReached}
 use Rattle.widl_idl.specs.declared.dictionary.Member.{Member}
 use Rattle.widl_idl.specs.DefinitionTerms.{DictTerm, MemberTerm, member_term}
-use Rattle.widl_overload.specs.Dictionaries.{HasRequired, dictionary_parents}
+use Rattle.widl_overload.specs.rules.Dictionaries.{HasRequired, dictionary_parents}
 use Rattle.widl_fits.specs.Required.{has_own}
 
 -- the members of a dictionary and their terms are required alike

@@ -7,7 +7,7 @@ use Rattle.std.proofs.lemmas.Slice.Eq.{bytes_eq-Decides}
 use Rattle.std.specs.List.{list_any}
 use Rattle.indexmap.specs.IndexSet.{IndexSet, contains_by}
 use Rattle.widl_idl.specs.declared.enumeration.Choice.{Choice}
-use Rattle.widl_overload.specs.DefaultRules.{has_value}
+use Rattle.widl_overload.specs.rules.DefaultRules.{has_value}
 use Rattle.widl_fits.specs.ChoiceValues.{KeepValues, has_text, holds, is_kept}
 use Rattle.widl_fits.specs.declared.choice_values.ChoiceValues.{ChoiceValues}
 

@@ -21,7 +21,7 @@ use Rattle.widl_idl.specs.MergingRules.{AtName, ComesBack, HasOtherParent, numbe
 use Rattle.widl_idl.specs.PlainTrees.{PlainDefinition, PlainKind, DictionaryDefinition, InterfaceDefinition}
 use Rattle.widl_idl.specs.PlainTypes.{PlainName}
 use Rattle.widl_idl.specs.WrittenTypes.{is_main_of, number_among}
-use Rattle.widl_overload.specs.Dictionaries.{dictionary_parents, dictionary_terms}
+use Rattle.widl_overload.specs.rules.Dictionaries.{dictionary_parents, dictionary_terms}
 use Rattle.widl_fits.specs.Hierarchies.{IsHierarchy, interface_parents}
 use Rattle.widl_fits.proofs.MainDefinitions.{at_place, count_below, meant_main, place_at, place_of}
 use Rattle.widl_fits.proofs.MergedParents.{none_back}

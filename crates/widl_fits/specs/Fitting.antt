@@ -10,8 +10,8 @@ use Rattle.widl_idl.specs.Flattened.{flattened_member, includes_nullable_type}
 use Rattle.widl_idl.specs.PlainTypes.{PlainValue, DecimalValue, InfinityValue, MinusInfinityValue, NotANumberValue}
 use Rattle.widl_idl.specs.Terms.{TypeTerm, AnyType, BooleanType, IntegerType, StringType, EnumerationType, DictionaryType, SequenceType}
 use Rattle.widl_idl.specs.WrittenLiterals.{value_meant}
-use Rattle.widl_overload.specs.DefaultRules.{has_text}
-use Rattle.widl_overload.specs.Ranges.{is_in_range}
+use Rattle.widl_overload.specs.rules.DefaultRules.{has_text}
+use Rattle.widl_overload.specs.rules.Ranges.{is_in_range}
 use Rattle.widl_fits.specs.declared.tables.Tables.{Tables}
 use Rattle.widl_fits.specs.ChoiceValues.{KeepValues, is_kept}
 use Rattle.widl_fits.specs.Required.{TellsRequired, is_flagged}

@@ -4,7 +4,7 @@ use Rattle.std.specs.Prelude.{ℕ, List, map}
 use Rattle.std.specs.Option.{option_to_list}
 use Rattle.widl_graph.specs.Reaching.{IsForest}
 use Rattle.widl_idl.specs.DefinitionTerms.{DictTerm, IfaceTerm}
-use Rattle.widl_overload.specs.Dictionaries.{dictionary_parents}
+use Rattle.widl_overload.specs.rules.Dictionaries.{dictionary_parents}
 
 -- for each interface that from which it inherits directly, if there is one
 abbrev pub interface_parents : List IfaceTerm → List (List ℕ)

@@ -7,7 +7,7 @@ use Rattle.widl_idl.specs.declared.literal.Literal.TheVariants as the
 use Rattle.widl_idl.specs.DefinitionTerms.{DefsTerm}
 use Rattle.widl_idl.specs.PlainTypes.{PlainValue}
 use Rattle.widl_idl.specs.Terms.{TypeTerm}
-use Rattle.widl_overload.specs.DefaultRules.{Fits}
+use Rattle.widl_overload.specs.rules.DefaultRules.{Fits}
 use Rattle.widl_idl.specs.WrittenLiterals.{value_meant}
 use Rattle.widl_fits.specs.Fitting.{literal_if}
 

@@ -3,7 +3,7 @@ use Rattle.std.specs.Prelude.{◌≡◌, ◌↔◌, ℕ, Bool, true, false, ◌|
 use Rattle.std.specs.List.{list_any}
 use Rattle.widl_fits.specs.declared.required_members.RequiredMembers.{RequiredMembers}
 use Rattle.widl_idl.specs.DefinitionTerms.{DictTerm, MemberTerm}
-use Rattle.widl_overload.specs.Dictionaries.{HasRequired}
+use Rattle.widl_overload.specs.rules.Dictionaries.{HasRequired}
 
 abbrev pub has_own : DictTerm → Bool
 has_own d = list_any (λ (m : MemberTerm). m.needed) d.members

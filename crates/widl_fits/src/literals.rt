@@ -9,7 +9,7 @@ ghost use Rattle.widl_idl.specs.Terms.{packed, type_term, type_terms};
 ghost use Rattle.widl_fits.specs.Fitting.{Knows, fits_if, is_null, is_null_or_undefined, takes};
 ghost use Rattle.widl_fits.specs.Literals.{LiteralFits};
 ghost use Rattle.widl_idl.specs.DefinitionTerms.{DefsTerm};
-ghost use Rattle.widl_overload.specs.DefaultRules.{has_text};
+ghost use Rattle.widl_overload.specs.rules.DefaultRules.{has_text};
 
 use crate::choice_values::has_value;
 use crate::machine::literal_is_of_program;

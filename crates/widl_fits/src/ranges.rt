@@ -1,7 +1,7 @@
 //! The ranges of the integer types.
 
 ghost use Rattle.std.specs.Prelude.{◌≡◌};
-ghost use Rattle.widl_overload.specs.Ranges.{greatest_value, is_in_range, least_value};
+ghost use Rattle.widl_overload.specs.rules.Ranges.{greatest_value, is_in_range, least_value};
 
 use widl_idl::IntKind;
 

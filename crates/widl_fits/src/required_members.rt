@@ -5,7 +5,7 @@ ghost use Rattle.std.specs.List.{list_any};
 ghost use Rattle.widl_idl.specs.DefinitionTerms.{dict_term};
 ghost use Rattle.widl_fits.specs.Hierarchies.{IsHierarchy};
 ghost use Rattle.widl_fits.specs.Required.{TellsRequired, has_own, is_flagged};
-ghost use Rattle.widl_overload.specs.Dictionaries.{dictionary_parents};
+ghost use Rattle.widl_overload.specs.rules.Dictionaries.{dictionary_parents};
 
 use std::alloc::{AllocError, Global};
 use widl_graph::{Graph, Walk, either_flag, flags_reached};

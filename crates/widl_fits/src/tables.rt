@@ -4,7 +4,7 @@ ghost use Rattle.std.specs.Prelude.{IfOk};
 ghost use Rattle.widl_idl.specs.DefinitionTerms.{defs_term};
 ghost use Rattle.widl_fits.specs.Fitting.{Knows, KnowsRequired};
 ghost use Rattle.widl_fits.specs.Hierarchies.{IsHierarchy};
-ghost use Rattle.widl_overload.specs.Dictionaries.{dictionary_terms};
+ghost use Rattle.widl_overload.specs.rules.Dictionaries.{dictionary_terms};
 
 use crate::choice_values::{ChoiceValues, list_values};
 use crate::required_members::RequiredMembers;

@@ -14,7 +14,7 @@ use Rattle.widl_lex.specs.Tokens.{TokenList}
 use Rattle.widl_merge.specs.Refusals.{IsRefusal}
 use Rattle.widl_idl.proofs.Steps.{same_refusal}
 use Rattle.widl_merge.proofs.OneRefusal.{one_refusal}
-use Rattle.widl_overload.specs.Validity.{BreaksRule, validity_number, validity_rules}
+use Rattle.widl_overload.specs.rules.Validity.{BreaksRule, validity_number, validity_rules}
 use Rattle.widl_syntax.specs.OneTree.{EachSpellingHasOneTree}
 use Rattle.widl_syntax.specs.Signs.{UnparsesTo}
 use Rattle.widl_syntax.specs.UnparsedDefinitions.{fragment}

@@ -17,7 +17,7 @@ use Rattle.widl_idl.specs.PlainTrees.{PlainDefinition}
 use Rattle.widl_idl.specs.Profile.{BreaksProfile}
 use Rattle.widl_merge.specs.Countable.{IsCountable}
 use Rattle.widl_merge.specs.Refusals.{IsRefusal}
-use Rattle.widl_overload.specs.Validity.{IsValid}
+use Rattle.widl_overload.specs.rules.Validity.{IsValid}
 use Rattle.widl_valid.specs.Invalidity.{IsInvalidity}
 use Rattle.widl_front.specs.Findings.{IsFoundIn}
 use Rattle.widl_front.specs.Steps.{AcceptsTrees, AddsTree, BreaksEncoding, IsTreeVerdict, TreesUnless}

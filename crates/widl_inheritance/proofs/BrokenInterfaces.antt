@@ -12,7 +12,7 @@ use Rattle.widl_graph.specs.Flags.{TellsReached}
 use Rattle.widl_inheritance.proofs.NumberedMembers.{NamedAt, members_named_at, named_at}
 use Rattle.widl_names.proofs.NamedParts.{meaning_below}
 use Rattle.widl_names.proofs.Pushed.{some_is}
-use Rattle.widl_overload.specs.IterableRules.{AtIterable, HasIterationName, HasSecondIterable, HidesIterationMethod, InheritsFrom, IsInterface, IsSecondIterable, has_iterable, has_iteration_name, members_of_interface}
+use Rattle.widl_overload.specs.rules.IterableRules.{AtIterable, HasIterationName, HasSecondIterable, HidesIterationMethod, InheritsFrom, IsInterface, IsSecondIterable, has_iterable, has_iteration_name, members_of_interface}
 
 -- one number more
 module _ (Breaks : ℕ → Violation → Type 0) where

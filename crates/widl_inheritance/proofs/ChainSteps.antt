@@ -6,7 +6,7 @@ use Rattle.widl_idl.specs.DefinitionTerms.{DictTerm}
 use Rattle.widl_inheritance.specs.ChainLengths.{BeginsAt, begun, inside, nothing}
 use Rattle.widl_inheritance.specs.HoldingGraph.{IsHoldingGraph}
 use Rattle.widl_inheritance.proofs.HoldingSteps.{MemberStep, from_members, holds_above, holds_cases, holds_own, to_above, to_inside}
-use Rattle.widl_overload.specs.Dictionaries.{BeginsChain, HoldsIn, alone, after, dictionaries_of_members}
+use Rattle.widl_overload.specs.rules.Dictionaries.{BeginsChain, HoldsIn, alone, after, dictionaries_of_members}
 
 module _ (dicts : List DictTerm) where
   -- a chain of one, or one with a shorter chain after the first

@@ -11,8 +11,8 @@ use Rattle.widl_idl.specs.PlainTypes.{EmptyDictionaryValue}
 use Rattle.widl_idl.specs.Terms.{TypeTerm, DictionaryType, NullableType}
 use Rattle.widl_idl.specs.WrittenTypes.{meaning_with}
 use Rattle.widl_idl.proofs.Order.{one_place}
-use Rattle.widl_overload.specs.DefaultRules.{Defaulted, Fits, IsOtherDefault, TakesNoMember, members_of_type}
-use Rattle.widl_overload.specs.Dictionaries.{HasRequired}
+use Rattle.widl_overload.specs.rules.DefaultRules.{Defaulted, Fits, IsOtherDefault, TakesNoMember, members_of_type}
+use Rattle.widl_overload.specs.rules.Dictionaries.{HasRequired}
 use Rattle.widl_fits.specs.declared.tables.Tables.{Tables}
 use Rattle.widl_fits.specs.Fitting.{Knows, KnowsRequired, fits_if, literal_if, takes}
 use Rattle.widl_fits.proofs.Fits.{any_item, dictionary_told, fits_told, item_any}

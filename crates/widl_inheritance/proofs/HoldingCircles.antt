@@ -12,8 +12,8 @@ use Rattle.widl_idl.specs.First.{violation_at}
 use Rattle.widl_inheritance.specs.declared.holding.Holdings.{Holdings}
 use Rattle.widl_inheritance.specs.HoldingGraph.{AreHoldings, IsHoldingGraph}
 use Rattle.widl_inheritance.proofs.HoldingSteps.{MemberStep, dictionary_at, from_members, reached_leads}
-use Rattle.widl_overload.specs.Dictionaries.{Inherits}
-use Rattle.widl_overload.specs.DictionaryRules.{HoldsItself}
+use Rattle.widl_overload.specs.rules.Dictionaries.{Inherits}
+use Rattle.widl_overload.specs.rules.DictionaryRules.{HoldsItself}
 
 module _ (dicts : List DictTerm) (graph : List (List ℕ)) (linked : IsHoldingGraph dicts (length dicts) graph) where
   -- a way that leads through the node of a dictionary as a type

@@ -13,7 +13,7 @@ use Rattle.widl_idl.specs.declared.types.IdlType.{IdlType}
 use Rattle.widl_idl.specs.DefinitionTerms.{DictTerm, dict_term, member_term}
 use Rattle.widl_idl.specs.Terms.{type_term, packed}
 use Rattle.widl_inheritance.specs.HoldingGraph.{AreWithin, IsHoldingGraph, IsTypeGraph, IsWithin, member_links}
-use Rattle.widl_overload.specs.Dictionaries.{dictionaries_in, dictionaries_in_all}
+use Rattle.widl_overload.specs.rules.Dictionaries.{dictionaries_in, dictionaries_in_all}
 
 -- the nodes of a graph with one more
 module _ (old new : List (List ℕ)) (links : List ℕ) (added : new ≡ old ++ links ∷ []) where

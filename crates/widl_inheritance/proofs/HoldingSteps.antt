@@ -10,7 +10,7 @@ use Rattle.widl_graph.proofs.Complete.{step_within}
 use Rattle.widl_graph.proofs.Reach.{joined, first_step}
 use Rattle.widl_idl.specs.DefinitionTerms.{DictTerm}
 use Rattle.widl_inheritance.specs.HoldingGraph.{IsHoldingGraph}
-use Rattle.widl_overload.specs.Dictionaries.{HoldsIn, Inherits, LeadsTo, at_once, dictionaries_of_members, dictionary_parents, further}
+use Rattle.widl_overload.specs.rules.Dictionaries.{HoldsIn, Inherits, LeadsTo, at_once, dictionaries_of_members, dictionary_parents, further}
 
 -- the only item of a list of one
 only_item : (x y : ℕ) → Contains (x ∷ []) y → y ≡ x

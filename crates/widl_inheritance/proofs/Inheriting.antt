@@ -16,8 +16,8 @@ use Rattle.widl_idl.specs.declared.violation.Violation.{Violation}
 use Rattle.widl_idl.specs.First.{AtOne, FirstWhere, Upto, earlier}
 use Rattle.widl_idl.proofs.Order.{first_same}
 use Rattle.widl_idl.proofs.Steps.{first_next, first_start}
-use Rattle.widl_overload.specs.Dictionaries.{dictionary_parents}
-use Rattle.widl_overload.specs.DictionaryRules.{HasNameTwice, InheritsMember, RepeatsName, has_member}
+use Rattle.widl_overload.specs.rules.Dictionaries.{dictionary_parents}
+use Rattle.widl_overload.specs.rules.DictionaryRules.{HasNameTwice, InheritsMember, RepeatsName, has_member}
 use Rattle.widl_inheritance.specs.MemberEnds.{RepeatsKept, RepeatsKnown, has_after, members_at, past_at}
 use Rattle.widl_graph.specs.Spans.{AreSpans, AreWhole, parent_graph, span_of}
 use Rattle.widl_graph.specs.declared.spans.Span.{Span}

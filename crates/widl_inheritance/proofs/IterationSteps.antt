@@ -15,7 +15,7 @@ use Rattle.widl_fits.proofs.Fits.{item_any}
 use Rattle.widl_names.proofs.Mapped.{all_somewhere, next_somewhere}
 use Rattle.widl_names.proofs.MappedLoops.{any_push, listed_next}
 use Rattle.widl_names.proofs.Pushed.{at_one_push}
-use Rattle.widl_overload.specs.IterableRules.{AtIterable, has_iterable, is_iterable}
+use Rattle.widl_overload.specs.rules.IterableRules.{AtIterable, has_iterable, is_iterable}
 
 -- whether one of the members passes a test, with one member more
 pub any_next : (test : PlainMember → Bool) (members : List (Bor Member)) (i : ℕ) (m : Bor Member) (old passes now : Bool) → i < length members → m ≡ get_or members i m → passes ≡ test (member_of m.now) → now ≡ (old || passes)

@@ -14,7 +14,7 @@ use Rattle.widl_idl.proofs.Order.{one_place}
 use Rattle.widl_names.proofs.PlainLists.{mapped_more}
 use Rattle.widl_names.proofs.Pushed.{at_one_push}
 use Rattle.widl_names.proofs.MappedLoops.{any_push}
-use Rattle.widl_overload.specs.DictionaryRules.{has_member}
+use Rattle.widl_overload.specs.rules.DictionaryRules.{has_member}
 use Rattle.widl_inheritance.specs.MemberEnds.{RepeatsKnown, end_of}
 
 -- what is kept for a name, after a place was kept for one

@@ -13,8 +13,8 @@ use Rattle.widl_idl.specs.Resolution.{Note, nullable_of}
 use Rattle.widl_idl.specs.Terms.{TypeTerm, NullableType}
 use Rattle.widl_idl.specs.WrittenTypes.{meaning_of_type, meaning_with}
 use Rattle.widl_idl.proofs.Order.{first_either, one_place}
-use Rattle.widl_overload.specs.ArgumentRules.{is_required}
-use Rattle.widl_overload.specs.DefaultRules.{HasNoDefault, LacksEmptyDefault, TakesNoMember, may_be_absent}
+use Rattle.widl_overload.specs.rules.ArgumentRules.{is_required}
+use Rattle.widl_overload.specs.rules.DefaultRules.{HasNoDefault, LacksEmptyDefault, TakesNoMember, may_be_absent}
 use Rattle.widl_fits.specs.declared.tables.Tables.{Tables}
 use Rattle.widl_inheritance.specs.EmptyDefaults.{LacksHere, is_name_or_union, may_take_dictionary, needs_default, takes_no_member}
 use Rattle.widl_fits.specs.Fitting.{KnowsRequired, takes}

@@ -14,8 +14,8 @@ use Rattle.widl_inheritance.specs.declared.holding.Holdings.{Holdings}
 use Rattle.widl_inheritance.specs.HoldingGraph.{AreHoldings, IsAtName}
 use Rattle.widl_inheritance.proofs.ChainSteps.{begins_with, comes_from, goes_on, with_itself, without_itself}
 use Rattle.widl_inheritance.proofs.HoldingSteps.{to_members}
-use Rattle.widl_overload.specs.Dictionaries.{BeginsChain}
-use Rattle.widl_overload.specs.DictionaryRules.{BeginsLongChain, HoldsItself}
+use Rattle.widl_overload.specs.rules.Dictionaries.{BeginsChain}
+use Rattle.widl_overload.specs.rules.DictionaryRules.{BeginsLongChain, HoldsItself}
 
 module _ (lengths : List ℕ) where
   -- the greatest length of nodes and one more

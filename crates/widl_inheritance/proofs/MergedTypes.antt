@@ -26,7 +26,7 @@ use Rattle.widl_idl.specs.PlainTypes.{PlainName, PlainAttribute, PlainForm, Plai
 use Rattle.widl_idl.specs.Resolution.{Note, Typedef, WrittenType, WrittenMembers, WithoutParts, TypedefName, SequenceOf, RecordOf, PromiseOf, NullableOf, UnionOf, no_members, more_members, annotated, is_nullable_twice, nullable_of, resolved, resolved_members, resolved_typedef, typedef_in}
 use Rattle.widl_idl.specs.Terms.{TypeTerm, TypeTerms, IntegerType, NullableType, StringType}
 use Rattle.widl_idl.specs.WrittenTypes.{container_of, meaning_of_type, meaning_with, notes_of, nullable_if, number_among, type_of_meaning, typedef_if, typedef_in_tree, typedefs, written_form, written_members, written_type}
-use Rattle.widl_overload.specs.Dictionaries.{dictionaries_in, dictionaries_in_all, dictionaries_of_members, dictionary_terms}
+use Rattle.widl_overload.specs.rules.Dictionaries.{dictionaries_in, dictionaries_in_all, dictionaries_of_members, dictionary_terms}
 use Rattle.widl_inheritance.specs.HoldingGraph.{AreWithin}
 
 -- each item that is chosen from a list was made of one of its items

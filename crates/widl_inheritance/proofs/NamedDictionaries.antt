@@ -10,7 +10,7 @@ use Rattle.widl_idl.specs.MergingRules.{IsAt}
 use Rattle.widl_idl.proofs.Order.{first_same}
 use Rattle.widl_inheritance.specs.HoldingGraph.{AreHoldings, FlaggedAfter, IsAtName}
 use Rattle.widl_inheritance.proofs.HoldingSteps.{leads_reached, reached_leads}
-use Rattle.widl_overload.specs.DictionaryRules.{HoldsItself}
+use Rattle.widl_overload.specs.rules.DictionaryRules.{HoldsItself}
 use Rattle.widl_inheritance.specs.declared.holding.Holdings.{Holdings}
 
 -- the flags by the numbers of the dictionaries

@@ -16,8 +16,8 @@ use Rattle.widl_names.proofs.KeptMembers.{merged_listed}
 use Rattle.widl_names.proofs.NamedParts.{meaning_named, meant_at}
 use Rattle.widl_names.proofs.PlainLists.{listed_same}
 use Rattle.widl_names.proofs.Pushed.{some_is}
-use Rattle.widl_overload.specs.IterableRules.{IsInterface, members_of_interface}
-use Rattle.widl_overload.specs.MemberRules.{is_interface_kind}
+use Rattle.widl_overload.specs.rules.IterableRules.{IsInterface, members_of_interface}
+use Rattle.widl_overload.specs.rules.MemberRules.{is_interface_kind}
 
 both_true : (a b : Bool) → (a && b) ≡ true → (a ≡ true) × (b ≡ true)
 both_true true b e = (refl, e)

@@ -5,7 +5,7 @@ use Rattle.widl_graph.proofs.ParentSteps.{child_within, step_up, up_step}
 use Rattle.widl_fits.specs.Hierarchies.{interface_parents}
 use Rattle.widl_graph.specs.Reaching.{Reaches, Step, one, more, IsAcyclic}
 use Rattle.widl_idl.specs.DefinitionTerms.{IfaceTerm}
-use Rattle.widl_overload.specs.Inheritance.{inherits, is_among, parent_of}
+use Rattle.widl_overload.specs.sets.Inheritance.{inherits, is_among, parent_of}
 use Rattle.widl_graph.proofs.ParentChains.{Climbs, above, climbs_more, climbs_on, few_above, next, next_is}
 
 module _ (ifaces : List IfaceTerm) where

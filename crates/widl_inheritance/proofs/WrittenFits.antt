@@ -13,7 +13,7 @@ use Rattle.widl_idl.specs.PlainTypes.{PlainAnnotated, PlainAttribute, PlainForm,
 use Rattle.widl_idl.specs.Resolution.{Note, nullable_of}
 use Rattle.widl_idl.specs.Terms.{TypeTerm, NullableType}
 use Rattle.widl_idl.specs.WrittenTypes.{meaning_of_type, meaning_with}
-use Rattle.widl_overload.specs.DefaultRules.{Defaulted, IsOtherDefault}
+use Rattle.widl_overload.specs.rules.DefaultRules.{Defaulted, IsOtherDefault}
 use Rattle.widl_fits.specs.declared.tables.Tables.{Tables}
 use Rattle.widl_fits.specs.Fitting.{Knows, fits_if, literal_if, null_if, takes, takes_if}
 use Rattle.widl_inheritance.specs.WrittenFitting.{fits_as_written, is_value_of_form}

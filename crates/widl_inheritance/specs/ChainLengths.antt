@@ -1,7 +1,7 @@
 -- For proofs alone. The lengths of chains of dictionaries, up to one past the limit.
 use Rattle.std.specs.Prelude.{◌≡◌, ◌↔◌, ℕ, ◌+◌, ◌<◌, ◌≤◌, List, [], ◌∷◌, length, max, min, nat_lt, slice_get, slice_index, Some, if◌then◌else◌}
 use Rattle.widl_idl.specs.DefinitionTerms.{DictTerm}
-use Rattle.widl_overload.specs.Dictionaries.{BeginsChain, HoldsIn}
+use Rattle.widl_overload.specs.rules.Dictionaries.{BeginsChain, HoldsIn}
 
 -- the greatest of the lengths of nodes, 0 where there are none
 abbrev pub greatest_length : List ℕ → List ℕ → ℕ

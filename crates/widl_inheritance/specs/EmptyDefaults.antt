@@ -10,7 +10,7 @@ use Rattle.widl_idl.specs.PlainTypes.{PlainForm, PlainType, PlainNamed, PlainUni
 use Rattle.widl_idl.specs.PlainTrees.{PlainArgument, PlainArgumentKind, RequiredArgument, OptionalArgument, VariadicArgument, PlainDefinition}
 use Rattle.widl_idl.specs.Terms.{TypeTerm, NullableType}
 use Rattle.widl_idl.specs.WrittenTypes.{meaning_with}
-use Rattle.widl_overload.specs.DefaultRules.{TakesNoMember}
+use Rattle.widl_overload.specs.rules.DefaultRules.{TakesNoMember}
 use Rattle.widl_fits.specs.declared.tables.Tables.{Tables}
 use Rattle.widl_fits.specs.Fitting.{takes}
 

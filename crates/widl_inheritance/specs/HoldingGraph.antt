@@ -7,7 +7,7 @@ use Rattle.widl_idl.specs.declared.violation.Violation.{Violation}
 use Rattle.widl_idl.specs.DefinitionTerms.{DictTerm}
 use Rattle.widl_idl.specs.MergingRules.{IsAt}
 use Rattle.widl_inheritance.specs.declared.holding.Holdings.{Holdings}
-use Rattle.widl_overload.specs.Dictionaries.{dictionaries_of_members}
+use Rattle.widl_overload.specs.rules.Dictionaries.{dictionaries_of_members}
 
 -- the nodes that follow that of a dictionary's members: the dictionaries in their types, and the members of its parent
 abbrev pub member_links : ℕ → DictTerm → List ℕ

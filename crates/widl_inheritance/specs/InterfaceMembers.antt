@@ -5,7 +5,7 @@ use Rattle.widl_idl.specs.Meanings.{kind_of, main_name}
 use Rattle.widl_idl.specs.Parts.{merged_members}
 use Rattle.widl_idl.specs.PlainTypes.{PlainName}
 use Rattle.widl_idl.specs.PlainTrees.{PlainDefinition, PlainKind, PlainMember}
-use Rattle.widl_overload.specs.MemberRules.{is_interface_kind}
+use Rattle.widl_overload.specs.rules.MemberRules.{is_interface_kind}
 use Rattle.widl_names.specs.PartTables.{means_itself}
 
 -- whether a definition of this number is an interface that its name means

@@ -5,7 +5,7 @@ use Rattle.widl_idl.specs.declared.violation.Violation.{Violation}
 use Rattle.widl_idl.specs.First.{AtOne, Somewhere, violation_at}
 use Rattle.widl_idl.specs.PlainTrees.{PlainDefinition, PlainMember, PlainMemberKind, IterableMember}
 use Rattle.widl_inheritance.specs.InterfaceMembers.{members_at}
-use Rattle.widl_overload.specs.IterableRules.{AtIterable, has_iterable}
+use Rattle.widl_overload.specs.rules.IterableRules.{AtIterable, has_iterable}
 
 -- where the word `iterable` of an iterable stands
 abbrev pub iterable_place : PlainMemberKind → Option Place

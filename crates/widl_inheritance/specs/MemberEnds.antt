@@ -7,7 +7,7 @@ use Rattle.widl_idl.specs.DefinitionTerms.{DictTerm, MemberTerm}
 use Rattle.widl_idl.specs.declared.violation.Violation.{Violation}
 use Rattle.widl_idl.specs.First.{AtOne}
 use Rattle.widl_idl.specs.MergingRules.{IsAt}
-use Rattle.widl_overload.specs.DictionaryRules.{has_member}
+use Rattle.widl_overload.specs.rules.DictionaryRules.{has_member}
 use Rattle.widl_graph.specs.Spans.{span_of}
 use Rattle.widl_graph.specs.declared.spans.Span.{Span}
 

@@ -2,8 +2,8 @@
 use Rattle.std.specs.Prelude.{List, map}
 use Rattle.widl_idl.specs.PlainTrees.{PlainArgument, PlainDefinition, PlainDictionaryMember}
 use Rattle.widl_idl.specs.PlainTypes.{annotated_of, attribute_of, literal_of}
-use Rattle.widl_overload.specs.DefaultRules as rules
-use Rattle.widl_overload.specs.DefaultRules.{default_of, defaulted, defaults_of_members}
+use Rattle.widl_overload.specs.rules.DefaultRules as rules
+use Rattle.widl_overload.specs.rules.DefaultRules.{default_of, defaulted, defaults_of_members}
 use Rattle.widl_inheritance.specs.declared.defaulted.Defaulted.{Defaulted}
 
 -- a type with its default value, as definitions see it

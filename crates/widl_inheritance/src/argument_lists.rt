@@ -3,7 +3,7 @@
 ghost use Rattle.std.specs.Prelude.{◌≡◌, ◌++◌, ◌∷◌, [], option_map, option_to_list, IfOk, OnOk};
 ghost use Rattle.widl_idl.specs.PlainTrees.{arguments_of, definition_kind_of, member_kind_of, members_of};
 ghost use Rattle.widl_names.specs.Listings.{listed_definitions};
-ghost use Rattle.widl_overload.specs.ArgumentRules.{argument_lists_of, lists_in_definition, lists_in_member, lists_in_members};
+ghost use Rattle.widl_overload.specs.rules.ArgumentRules.{argument_lists_of, lists_in_definition, lists_in_member, lists_in_members};
 ghost use Rattle.widl_inheritance.specs.WrittenLists.{listed_arguments};
 
 use std::alloc::{AllocError, Global};
@@ -109,10 +109,7 @@ fn add_optional_list<'a>(
 }
 
 /// Adds a list.
-fn add_list<'a>(
-    lists: &mut Vec<&'a [Argument]>,
-    arguments: &'a Arguments,
-) -> Result<(), AllocError>
+fn add_list<'a>(lists: &mut Vec<&'a [Argument]>, arguments: &'a Arguments) -> Result<(), AllocError>
     ensures { OnOk result (listed_arguments lists.new.items ≡ listed_arguments lists.old.items ++ arguments_of arguments.now ∷ []) }
 {
     lists.push(arguments.as_slice())?;

@@ -6,7 +6,7 @@ ghost use Rattle.widl_idl.specs.PlainTypes.{annotated_of, attribute_of, written_
 ghost use Rattle.widl_inheritance.specs.WrittenDefaults.{default_of_member, default_of_argument, defaults_in, listed_defaults};
 ghost use Rattle.widl_inheritance.specs.WrittenLists.{listed_arguments};
 ghost use Rattle.widl_names.specs.Listings.{listed_definitions};
-ghost use Rattle.widl_overload.specs.DefaultRules.{defaulted, defaults_of, defaults_of_arguments, defaults_of_members};
+ghost use Rattle.widl_overload.specs.rules.DefaultRules.{defaulted, defaults_of, defaults_of_arguments, defaults_of_members};
 
 use crate::argument_lists::list_arguments;
 use std::alloc::{AllocError, Global};

@@ -8,8 +8,8 @@ ghost use Rattle.widl_fits.specs.Fitting.{Knows};
 ghost use Rattle.widl_fits.specs.Hierarchies.{IsHierarchy};
 ghost use Rattle.widl_inheritance.specs.WrittenDefaults.{defaulted_of, listed_defaults};
 ghost use Rattle.widl_names.specs.Listings.{listed_definitions};
-ghost use Rattle.widl_overload.specs.DefaultRules.{HasOtherDefault, IsOtherDefault};
-ghost use Rattle.widl_overload.specs.Dictionaries.{dictionary_terms};
+ghost use Rattle.widl_overload.specs.rules.DefaultRules.{HasOtherDefault, IsOtherDefault};
+ghost use Rattle.widl_overload.specs.rules.Dictionaries.{dictionary_terms};
 
 use crate::defaulted::{Defaulted, list_defaults};
 use crate::fitting::fits;

@@ -12,9 +12,9 @@ ghost use Rattle.widl_fits.specs.Fitting.{KnowsRequired};
 ghost use Rattle.widl_fits.specs.Hierarchies.{IsHierarchy};
 ghost use Rattle.widl_inheritance.specs.WrittenLists.{listed_arguments};
 ghost use Rattle.widl_names.specs.Listings.{listed_definitions};
-ghost use Rattle.widl_overload.specs.ArgumentRules.{is_required};
-ghost use Rattle.widl_overload.specs.DefaultRules.{HasNoEmptyDefault, LacksEmptyDefault};
-ghost use Rattle.widl_overload.specs.Dictionaries.{dictionary_terms};
+ghost use Rattle.widl_overload.specs.rules.ArgumentRules.{is_required};
+ghost use Rattle.widl_overload.specs.rules.DefaultRules.{HasNoEmptyDefault, LacksEmptyDefault};
+ghost use Rattle.widl_overload.specs.rules.Dictionaries.{dictionary_terms};
 
 use crate::argument_lists::list_arguments;
 use std::alloc::{AllocError, Global};

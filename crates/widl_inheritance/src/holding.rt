@@ -14,8 +14,8 @@ ghost use Rattle.widl_idl.specs.First.{FirstWhere};
 ghost use Rattle.widl_idl.specs.MergingRules.{IsAt};
 ghost use Rattle.widl_idl.specs.Terms.{packed, type_term};
 ghost use Rattle.widl_inheritance.specs.HoldingGraph.{AreHoldings, AreWithin, IsAtName, IsHoldingGraph, IsTypeGraph, IsWithin, member_links};
-ghost use Rattle.widl_overload.specs.Dictionaries.{dictionaries_in, dictionaries_in_all, dictionaries_of_members};
-ghost use Rattle.widl_overload.specs.DictionaryRules.{HoldsItself};
+ghost use Rattle.widl_overload.specs.rules.Dictionaries.{dictionaries_in, dictionaries_in_all, dictionaries_of_members};
+ghost use Rattle.widl_overload.specs.rules.DictionaryRules.{HoldsItself};
 
 use std::alloc::{AllocError, Global};
 use widl_graph::{Graph, Walk, flag_at};

@@ -6,7 +6,7 @@ ghost use Rattle.widl_idl.specs.PlainTrees.{plain_definitions};
 ghost use Rattle.widl_inheritance.specs.Iterations.{TellsMembers};
 ghost use Rattle.widl_graph.specs.Reaching.{IsAcyclic};
 ghost use Rattle.widl_graph.specs.Flags.{TellsReached};
-ghost use Rattle.widl_overload.specs.IterableRules.{has_iterable, has_iteration_name};
+ghost use Rattle.widl_overload.specs.rules.IterableRules.{has_iterable, has_iteration_name};
 
 use crate::interface_members::interface_members;
 use crate::iterations::{has_iterable, has_iteration_name};

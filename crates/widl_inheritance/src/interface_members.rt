@@ -3,7 +3,7 @@
 ghost use Rattle.std.specs.Prelude.{◌≡◌, Some, option_map, slice_get, IfOk};
 ghost use Rattle.widl_idl.specs.PlainTrees.{definition_kind_of, plain_definitions};
 ghost use Rattle.widl_inheritance.specs.InterfaceMembers.{is_meant_interface, members_at};
-ghost use Rattle.widl_overload.specs.MemberRules.{is_interface_kind};
+ghost use Rattle.widl_overload.specs.rules.MemberRules.{is_interface_kind};
 ghost use Rattle.widl_names.specs.Listings.{listed_members};
 
 use std::alloc::{AllocError, Global};

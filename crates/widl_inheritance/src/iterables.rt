@@ -8,7 +8,7 @@ ghost use Rattle.widl_idl.specs.MergingRules.{parent_links};
 ghost use Rattle.widl_idl.specs.PlainTrees.{plain_definitions};
 ghost use Rattle.widl_inheritance.specs.Iterations.{BelowCount, HasSecondAt, HidesAt, TellsMembers};
 ghost use Rattle.widl_graph.specs.Reaching.{IsAcyclic};
-ghost use Rattle.widl_overload.specs.IterableRules.{HasSecondIterable, HidesIterationMethod, has_iterable};
+ghost use Rattle.widl_overload.specs.rules.IterableRules.{HasSecondIterable, HidesIterationMethod, has_iterable};
 
 use crate::interface_lines::{InterfaceFlags, inherited_flags, own_flags};
 use crate::interface_members::interface_members;

@@ -7,8 +7,8 @@ ghost use Rattle.widl_idl.specs.PlainTrees.{member_kind_of};
 ghost use Rattle.widl_idl.specs.PlainTypes.{name_of};
 ghost use Rattle.widl_names.specs.Listings.{listed_members};
 ghost use Rattle.widl_inheritance.specs.Iterations.{FollowsIterable, IsHiding, iterable_place, violation_if};
-ghost use Rattle.widl_overload.specs.IterableRules.{has_iterable, has_iteration_name, is_iterable, is_iteration_method, is_iteration_name};
-ghost use Rattle.widl_overload.specs.MemberRules.{identifier};
+ghost use Rattle.widl_overload.specs.rules.IterableRules.{has_iterable, has_iteration_name, is_iterable, is_iteration_method, is_iteration_name};
+ghost use Rattle.widl_overload.specs.rules.MemberRules.{identifier};
 
 use widl_idl::tree::{Member, MemberKind, Name};
 use widl_idl::{Violation, earlier_violation};

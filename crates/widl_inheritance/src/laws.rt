@@ -4,7 +4,7 @@ ghost use Rattle.std.specs.Prelude.{◌≡◌, ◌↔◌, ℕ, List, true};
 ghost use Rattle.widl_fits.specs.Hierarchies.{interface_parents};
 ghost use Rattle.widl_graph.specs.Reaching.{Reaches, IsAcyclic};
 ghost use Rattle.widl_idl.specs.DefinitionTerms.{IfaceTerm};
-ghost use Rattle.widl_overload.specs.Inheritance.{inherits};
+ghost use Rattle.widl_overload.specs.sets.Inheritance.{inherits};
 
 /// An interface inherits from another one exactly where it reaches it through parents, in each list in which
 /// none inherits from itself.

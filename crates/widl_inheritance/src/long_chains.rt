@@ -7,7 +7,7 @@ ghost use Rattle.widl_idl.specs.DefinitionTerms.{dict_term};
 ghost use Rattle.widl_idl.specs.First.{FirstWhere};
 ghost use Rattle.widl_inheritance.specs.ChainLengths.{TellsLengths, greatest_length, node_length};
 ghost use Rattle.widl_inheritance.specs.HoldingGraph.{AreHoldings};
-ghost use Rattle.widl_overload.specs.DictionaryRules.{BeginsLongChain};
+ghost use Rattle.widl_overload.specs.rules.DictionaryRules.{BeginsLongChain};
 
 use crate::holding::{Holdings, first_flagged, first_holding_itself};
 use std::alloc::{AllocError, Global};

@@ -10,7 +10,7 @@ ghost use Rattle.std.specs.Prelude.{◌≡◌, ◌<◌, ◌&&◌, ◌||◌, ℕ,
 ghost use Rattle.widl_fits.specs.Hierarchies.{IsHierarchy};
 ghost use Rattle.widl_idl.specs.DefinitionTerms.{DictTerm, dict_term, member_term};
 ghost use Rattle.widl_idl.specs.First.{AtOne, FirstWhere, violation_at};
-ghost use Rattle.widl_overload.specs.DictionaryRules.{HasNameTwice, has_member};
+ghost use Rattle.widl_overload.specs.rules.DictionaryRules.{HasNameTwice, has_member};
 ghost use Rattle.widl_inheritance.specs.MemberEnds.{RepeatsKept, RepeatsKnown, end_of, has_after};
 ghost use Rattle.widl_graph.specs.Spans.{AreSpans, AreWhole, span_of};
 ghost use Rattle.widl_graph.specs.declared.spans.Span as declared;

@@ -13,7 +13,7 @@ use Rattle.widl_idl.specs.MergedMembers.{are_overloads, operation_in, operation_
 use Rattle.widl_idl.specs.MergingRules.{AtName}
 use Rattle.widl_idl.specs.PlainTypes.{PlainName}
 use Rattle.widl_idl.specs.PlainTrees.{PlainDefinition, PlainMember, PlainMemberKind, PlainOperation, ConstantMember, AttributeMember, OperationMember, ConstructorMember, member_of}
-use Rattle.widl_overload.specs.MemberRules.{DiffersInPromise, HasOverloadPastLimit, IsOverloadPastLimit, MixesPromises, RepeatsMember, agree_on_promises, constructor_count, constructor_place, excludes, identifier, is_named}
+use Rattle.widl_overload.specs.rules.MemberRules.{DiffersInPromise, HasOverloadPastLimit, IsOverloadPastLimit, MixesPromises, RepeatsMember, agree_on_promises, constructor_count, constructor_place, excludes, identifier, is_named}
 use Rattle.widl_names.specs.Listings.{listed_members}
 use Rattle.widl_names.proofs.MappedLoops.{at_one_step}
 use Rattle.widl_member_rules.specs.ApartMembers.{SharesLabel, any_labeled, has_label, is_label, label}

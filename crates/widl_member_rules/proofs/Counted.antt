@@ -14,7 +14,7 @@ use Rattle.widl_idl.specs.MergingRules.{is_static}
 use Rattle.widl_idl.specs.PlainTypes.{PlainName}
 use Rattle.widl_idl.specs.PlainTrees.{PlainMember, PlainMemberKind, PlainOperation, ConstructorMember, OperationMember, member_of}
 use Rattle.widl_idl.proofs.Order.{one_place}
-use Rattle.widl_overload.specs.MemberRules.{HasOverloadPastLimit, IsOverloadPastLimit, constructor_count, constructor_place}
+use Rattle.widl_overload.specs.rules.MemberRules.{HasOverloadPastLimit, IsOverloadPastLimit, constructor_count, constructor_place}
 use Rattle.widl_member_rules.specs.MemberTables.{count_in, has_overload, is_constructor, is_overload, violation_past_limit}
 use Rattle.widl_names.proofs.MappedLoops.{at_one_end, at_one_step, listed_next, none_at_one}
 use Rattle.widl_member_rules.proofs.NamedViolations.{named_first, nowhere}

@@ -6,7 +6,7 @@ use Rattle.widl_idl.specs.MergingRules.{AtName}
 use Rattle.widl_idl.specs.PlainTypes.{PlainName}
 use Rattle.widl_idl.specs.PlainTrees.{PlainMember}
 use Rattle.widl_idl.proofs.Order.{one_place}
-use Rattle.widl_overload.specs.MemberRules.{HasKeptName, identifier, is_kept_name}
+use Rattle.widl_overload.specs.rules.MemberRules.{HasKeptName, identifier, is_kept_name}
 use Rattle.widl_member_rules.specs.MemberTables.{violation_of_name}
 
 -- nothing breaks where no violation is

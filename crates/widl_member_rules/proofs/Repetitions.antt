@@ -6,7 +6,7 @@ use Rattle.widl_idl.specs.declared.tree.members.Member.{Member}
 use Rattle.widl_idl.specs.First.{AtOne, FirstWhere, earlier}
 use Rattle.widl_idl.specs.PlainTypes.{PlainName}
 use Rattle.widl_idl.specs.PlainTrees.{PlainMember, member_of}
-use Rattle.widl_overload.specs.MemberRules.{RepeatsMember, identifier, is_named, is_operation}
+use Rattle.widl_overload.specs.rules.MemberRules.{RepeatsMember, identifier, is_named, is_operation}
 use Rattle.widl_member_rules.specs.MemberTables.{violation_of_name}
 use Rattle.widl_names.proofs.MappedLoops.{any_push, at_one_end, at_one_step, listed_next, none_at_one}
 use Rattle.widl_member_rules.proofs.NamedViolations.{named_first}

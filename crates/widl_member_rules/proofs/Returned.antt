@@ -9,7 +9,7 @@ use Rattle.widl_idl.specs.MergedMembers.{are_overloads, operation_in, operation_
 use Rattle.widl_idl.specs.MergingRules.{both_or_none, is_static}
 use Rattle.widl_idl.specs.PlainTypes.{PlainName}
 use Rattle.widl_idl.specs.PlainTrees.{PlainDefinition, PlainMember, PlainMemberKind, PlainOperation, OperationMember, member_of}
-use Rattle.widl_overload.specs.MemberRules.{DiffersInPromise, MixesPromises, agree_on_promises, returns_promise}
+use Rattle.widl_overload.specs.rules.MemberRules.{DiffersInPromise, MixesPromises, agree_on_promises, returns_promise}
 use Rattle.widl_member_rules.specs.MemberTables.{gives_promise, has_overload, is_overload, violation_of_other}
 use Rattle.widl_member_rules.proofs.Counted.{operations_push}
 use Rattle.widl_names.proofs.MappedLoops.{any_push, at_one_end, at_one_step, listed_next, none_at_one}

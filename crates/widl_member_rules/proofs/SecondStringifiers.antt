@@ -9,7 +9,7 @@ use Rattle.widl_idl.specs.First.{AtOne, FirstWhere, earlier}
 use Rattle.widl_idl.specs.MergedMembers.{has, is_stringifier, is_stringifier_attribute}
 use Rattle.widl_idl.specs.PlainTrees.{PlainMember, PlainMemberKind, AttributeMember, StringifierMember, member_of}
 use Rattle.widl_idl.proofs.Order.{one_place}
-use Rattle.widl_overload.specs.MemberRules.{AtPlace, IsSecondStringifier, stringifier_place, word_of_attribute}
+use Rattle.widl_overload.specs.rules.MemberRules.{AtPlace, IsSecondStringifier, stringifier_place, word_of_attribute}
 use Rattle.widl_member_rules.specs.MemberTables.{violation_after}
 use Rattle.widl_names.proofs.MappedLoops.{any_push, at_one_end, at_one_step, listed_next, none_at_one}
 use Rattle.widl_member_rules.proofs.NamedViolations.{nowhere}

@@ -5,7 +5,7 @@ use Rattle.widl_idl.specs.Nodes.{nodes_of}
 use Rattle.widl_idl.specs.PlainTrees.{PlainDefinition}
 use Rattle.widl_overload.specs.declared.validity_rule.ValidityRule.{ValidityRule}
 use Rattle.widl_overload.specs.declared.validity_rule.ValidityRule.TheVariants as rule
-use Rattle.widl_overload.specs.MemberRules.{InOneOwner}
+use Rattle.widl_overload.specs.rules.MemberRules.{InOneOwner}
 use Rattle.widl_member_rules.specs.MemberTypes.{NodesBreak}
 use Rattle.widl_member_rules.specs.Owners.{BreaksMember, asks}
 

@@ -12,7 +12,7 @@ use Rattle.widl_idl.specs.PlainTypes.{PlainName}
 use Rattle.widl_idl.specs.PlainTrees.{PlainDefinition, PlainOperation, PlainMemberKind, ConstructorMember, OperationMember}
 use Rattle.widl_names.specs.declared.operation_names.OperationNames.{OperationNames}
 use Rattle.widl_names.specs.KnownTexts.{has_name, has_text}
-use Rattle.widl_overload.specs.MemberRules.{returns_promise}
+use Rattle.widl_overload.specs.rules.MemberRules.{returns_promise}
 
 -- the place of a name whose text passes the test
 abbrev pub violation_of_name : Option PlainName → (List ℕ → Bool) → Option Violation

@@ -6,7 +6,7 @@ use Rattle.widl_idl.specs.PlainTrees.{PlainDefinition, PlainKind, PlainMember, I
 use Rattle.widl_idl.specs.Nodes.{Node, MemberNode}
 use Rattle.widl_overload.specs.declared.validity_rule.ValidityRule.{ValidityRule}
 use Rattle.widl_overload.specs.declared.validity_rule.ValidityRule.TheVariants as rule
-use Rattle.widl_overload.specs.TypeRules.{HasOtherValue, IsOtherStringifier, IsWritablePromise}
+use Rattle.widl_overload.specs.rules.TypeRules.{HasOtherValue, IsOtherStringifier, IsWritablePromise}
 
 -- the members of an interface, a mixin or a namespace
 abbrev pub own_members : PlainKind → List PlainMember

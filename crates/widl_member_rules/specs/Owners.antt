@@ -9,7 +9,7 @@ use Rattle.widl_idl.specs.PlainTypes.{PlainName}
 use Rattle.widl_idl.specs.PlainTrees.{PlainDefinition, PlainKind, PlainMember}
 use Rattle.widl_overload.specs.declared.validity_rule.ValidityRule.{ValidityRule}
 use Rattle.widl_overload.specs.declared.validity_rule.ValidityRule.TheVariants as rule
-use Rattle.widl_overload.specs.MemberRules.{HasKeptName, HasOverloadPastLimit, IsSecondStringifier, MixesPromises, RepeatsMember, has_members_of_its_own, is_interface_kind}
+use Rattle.widl_overload.specs.rules.MemberRules.{HasKeptName, HasOverloadPastLimit, IsSecondStringifier, MixesPromises, RepeatsMember, has_members_of_its_own, is_interface_kind}
 use Rattle.widl_names.specs.PartTables.{means_itself}
 
 -- the kinds of owners that a rule on members asks

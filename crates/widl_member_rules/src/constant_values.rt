@@ -6,7 +6,7 @@ ghost use Rattle.widl_idl.specs.PlainTrees.{ConstantMember, constant_of, plain_d
 ghost use Rattle.widl_idl.specs.PlainTypes.{value_of};
 ghost use Rattle.widl_idl.specs.Terms.{type_term};
 ghost use Rattle.widl_idl.specs.Nodes.{MemberNode};
-ghost use Rattle.widl_overload.specs.TypeRules.{HasOtherValue, takes_value};
+ghost use Rattle.widl_overload.specs.rules.TypeRules.{HasOtherValue, takes_value};
 
 use std::alloc::{AllocError, Global};
 use widl_fits::is_in_range;

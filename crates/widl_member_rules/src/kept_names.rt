@@ -5,7 +5,7 @@ ghost use Rattle.std.specs.Prelude.{◌≡◌};
 ghost use Rattle.widl_idl.specs.First.{AtOne, FirstWhere};
 ghost use Rattle.widl_idl.specs.MergedMembers.{is_static_attribute};
 ghost use Rattle.widl_idl.specs.PlainTrees.{member_kind_of};
-ghost use Rattle.widl_overload.specs.MemberRules.{HasKeptName, identifier, is_constant, is_kept_name, is_static_member};
+ghost use Rattle.widl_overload.specs.rules.MemberRules.{HasKeptName, identifier, is_constant, is_kept_name, is_static_member};
 ghost use Rattle.widl_member_rules.specs.MemberTables.{violation_of_name};
 ghost use Rattle.widl_names.specs.Listings.{listed_members};
 

@@ -4,7 +4,7 @@ ghost use Rattle.std.specs.Prelude.{◌≡◌, ℕ, ◌+◌, ◌-◌, ◌^◌, �
 ghost use Rattle.widl_idl.specs.First.{AtOne, FirstWhere};
 ghost use Rattle.widl_idl.specs.MergingRules.{both_or_none, is_static};
 ghost use Rattle.widl_idl.specs.PlainTrees.{member_kind_of, operation_of};
-ghost use Rattle.widl_overload.specs.MemberRules.{HasOverloadPastLimit};
+ghost use Rattle.widl_overload.specs.rules.MemberRules.{HasOverloadPastLimit};
 ghost use Rattle.widl_member_rules.specs.MemberTables.{count_in, has_overload, is_constructor, is_overload, overload_count, violation_of_name, violation_past_limit};
 ghost use Rattle.widl_names.specs.Listings.{listed_members};
 

@@ -4,7 +4,7 @@ ghost use Rattle.std.specs.Prelude.{◌≡◌, option_map};
 ghost use Rattle.widl_idl.specs.MergedMembers.{operation_text};
 ghost use Rattle.widl_idl.specs.PlainTrees.{member_kind_of, operation_of};
 ghost use Rattle.widl_idl.specs.PlainTypes.{name_of};
-ghost use Rattle.widl_overload.specs.MemberRules.{identifier, is_operation};
+ghost use Rattle.widl_overload.specs.rules.MemberRules.{identifier, is_operation};
 
 use widl_idl::tree::{MemberKind, Name, Operation};
 

@@ -4,7 +4,7 @@ ghost use Rattle.std.specs.Prelude.{◌≡◌, true, List, None, Some, option_ma
 ghost use Rattle.widl_idl.specs.First.{AtOne, FirstWhere};
 ghost use Rattle.widl_idl.specs.Meanings.{kind_of};
 ghost use Rattle.widl_idl.specs.PlainTrees.{PlainDefinition, definition_kind_of, plain_definitions};
-ghost use Rattle.widl_overload.specs.MemberRules.{HasKeptName, IsSecondStringifier, has_members_of_its_own, is_interface_kind};
+ghost use Rattle.widl_overload.specs.rules.MemberRules.{HasKeptName, IsSecondStringifier, has_members_of_its_own, is_interface_kind};
 ghost use Rattle.widl_names.specs.Listings.{listed_members};
 ghost use Rattle.widl_member_rules.specs.ApartMembers.{SharesLabel};
 ghost use Rattle.widl_member_rules.specs.MemberRefusals.{ByOwner, member_rules};

@@ -5,7 +5,7 @@ ghost use Rattle.widl_idl.specs.First.{AtOne, FirstWhere};
 ghost use Rattle.widl_idl.specs.MergingRules.{both_or_none, is_static};
 ghost use Rattle.widl_idl.specs.PlainTrees.{member_kind_of, operation_of, plain_definitions};
 ghost use Rattle.widl_idl.specs.Terms.{type_term};
-ghost use Rattle.widl_overload.specs.MemberRules.{MixesPromises, is_promise, returns_promise};
+ghost use Rattle.widl_overload.specs.rules.MemberRules.{MixesPromises, is_promise, returns_promise};
 ghost use Rattle.widl_member_rules.specs.MemberTables.{gives_promise, has_overload, has_returned, is_overload, violation_of_name, violation_of_other};
 ghost use Rattle.widl_names.specs.Listings.{listed_members};
 

@@ -3,7 +3,7 @@
 ghost use Rattle.std.specs.Prelude.{◌≡◌, ℕ, Bool, false, List, ◌&&◌, ◌||◌, not, bytes_eq, IfOk, OnOk};
 ghost use Rattle.widl_idl.specs.First.{AtOne, FirstWhere};
 ghost use Rattle.widl_idl.specs.PlainTrees.{member_kind_of};
-ghost use Rattle.widl_overload.specs.MemberRules.{RepeatsMember, identifier, is_named, is_operation};
+ghost use Rattle.widl_overload.specs.rules.MemberRules.{RepeatsMember, identifier, is_named, is_operation};
 ghost use Rattle.widl_member_rules.specs.MemberTables.{clashes, violation_of_name};
 ghost use Rattle.widl_names.specs.Listings.{listed_members};
 

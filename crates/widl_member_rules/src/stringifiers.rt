@@ -3,7 +3,7 @@
 ghost use Rattle.std.specs.Prelude.{◌≡◌, ◌||◌, is_some};
 ghost use Rattle.widl_idl.specs.First.{AtOne, FirstWhere};
 ghost use Rattle.widl_idl.specs.PlainTrees.{member_kind_of};
-ghost use Rattle.widl_overload.specs.MemberRules.{IsSecondStringifier, stringifier_place, word_of_attribute};
+ghost use Rattle.widl_overload.specs.rules.MemberRules.{IsSecondStringifier, stringifier_place, word_of_attribute};
 ghost use Rattle.widl_member_rules.specs.MemberTables.{violation_after};
 ghost use Rattle.widl_names.specs.Listings.{listed_members};
 

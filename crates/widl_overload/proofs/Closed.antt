@@ -7,8 +7,8 @@ use Rattle.widl_idl.specs.DefinitionTerms.{IfaceTerm}
 use Rattle.widl_idl.specs.Terms.{TypeTerm, TypeTerms, NullableType, UnionType, no_types, more_types}
 use Rattle.widl_idl.specs.Flattened.{flattened_member, flattened_members, includes_nullable_type, inner_nullable_members, nullable_members, nullable_one, unannotated}
 use Rattle.widl_overload.specs.declared.category.Category.{Category}
-use Rattle.widl_overload.specs.Pairs.{each_apart, flattened_apart, is_apart, second_members}
-use Rattle.widl_overload.specs.Distinct.{HaveMembers, any_nullable_clash, are_apart, categories_apart, category, distinguishable, has_dictionary, has_nullable, innermost, is_dictionary, listed, nullable_clash, single_apart, single_from_each, union_members}
+use Rattle.widl_overload.specs.sets.Pairs.{each_apart, flattened_apart, is_apart, second_members}
+use Rattle.widl_overload.specs.sets.Distinct.{HaveMembers, any_nullable_clash, are_apart, categories_apart, category, distinguishable, has_dictionary, has_nullable, innermost, is_dictionary, listed, nullable_clash, single_apart, single_from_each, union_members}
 use Rattle.widl_overload.proofs.Ruled.{all_same, no_members, ruled_by}
 
 and_true : (b : Bool) → (b && true) ≡ b

@@ -8,9 +8,9 @@ use Rattle.std.proofs.Math.Seq.{take-length, drop-nil}
 use Rattle.widl_idl.specs.declared.argument.Optionality.TheVariants.{Variadic}
 use Rattle.widl_idl.specs.DefinitionTerms.{ArgTerm, SigTerm}
 use Rattle.widl_idl.specs.Terms.{TypeTerm}
-use Rattle.widl_overload.specs.Sets.{TupleTerm, declared_opts, declared_types, effective_tuples, are_free, is_end, is_free, longer, longest, of_length, of_lengths, shorter, tuple_of, variadic_last, with_tuple}
+use Rattle.widl_overload.specs.sets.Sets.{TupleTerm, declared_opts, declared_types, effective_tuples, are_free, is_end, is_free, longer, longest, of_length, of_lengths, shorter, tuple_of, variadic_last, with_tuple}
 use Rattle.widl_overload.proofs.Shorter.{free_from, free_step, is_last}
-use Rattle.widl_overload.specs.Construction.{constructed, cut_to, cuts, declared_tuple, grown, grown_if_variadic, is_free_one, of_overload, of_overloads, with_one_more}
+use Rattle.widl_overload.specs.sets.Construction.{constructed, cut_to, cuts, declared_tuple, grown, grown_if_variadic, is_free_one, of_overload, of_overloads, with_one_more}
 
 -- membership, an item at a time
 abbrev In : List TupleTerm → TupleTerm → Type 0

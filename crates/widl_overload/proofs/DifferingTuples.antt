@@ -5,10 +5,10 @@ use Rattle.std.specs.List.{All}
 use Rattle.std.proofs.lemmas.List.Elements.{All-contains}
 use Rattle.std.proofs.lemmas.Option.{slice_get_within, get_or_from_slice_get}
 use Rattle.widl_idl.specs.DefinitionTerms.{IfaceTerm}
-use Rattle.widl_overload.specs.Index.{IsIndex, of_one_length, distinguishes}
-use Rattle.widl_overload.specs.OverloadRules.{DifferEarly}
-use Rattle.widl_overload.specs.OverloadViolations.{AgreeBefore, DifferBefore, DiffersFromOne, IsSmallest, IsSmallestBelow, TwoDiffer}
-use Rattle.widl_overload.specs.Sets.{TupleTerm}
+use Rattle.widl_overload.specs.sets.Index.{IsIndex, of_one_length, distinguishes}
+use Rattle.widl_overload.specs.rules.OverloadRules.{DifferEarly}
+use Rattle.widl_overload.specs.rules.OverloadViolations.{AgreeBefore, DifferBefore, DiffersFromOne, IsSmallest, IsSmallestBelow, TwoDiffer}
+use Rattle.widl_overload.specs.sets.Sets.{TupleTerm}
 
 pub when_true : (b : Bool) (P Q : Type 0) → b ≡ true → MatchBool b P Q → P
 when_true b P Q e h = subst (λ c. MatchBool c P Q) e h

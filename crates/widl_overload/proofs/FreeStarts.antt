@@ -8,8 +8,8 @@ use Rattle.std.proofs.lemmas.Option.{slice_get-get_or}
 use Rattle.widl_idl.specs.declared.signature.Sig.{Sig}
 use Rattle.widl_idl.specs.DefinitionTerms.{ArgTerm, SigTerm, arg_term, sig_term}
 use Rattle.widl_overload.specs.declared.span.Span.{Span}
-use Rattle.widl_overload.specs.Sets.{are_free, declared_opts, is_free, longer, shorter, variadic_last}
-use Rattle.widl_overload.specs.Spans.{AreSpans, IsFreeStart, has_tuple, holds}
+use Rattle.widl_overload.specs.sets.Sets.{are_free, declared_opts, is_free, longer, shorter, variadic_last}
+use Rattle.widl_overload.specs.sets.Spans.{AreSpans, IsFreeStart, has_tuple, holds}
 use Rattle.widl_overload.proofs.Shorter.{free_from, free_step, is_last}
 
 -- a place in a list has an item

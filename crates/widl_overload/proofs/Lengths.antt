@@ -4,7 +4,7 @@ use Rattle.std.specs.Prelude.{Option, None, Some, is_some}
 use Rattle.std.specs.List.{list_any}
 use Rattle.std.proofs.lemmas.List.{append_assoc, take_more}
 use Rattle.widl_idl.specs.DefinitionTerms.{ArgTerm, SigTerm}
-use Rattle.widl_overload.specs.Sets.{AreNumbered, TupleTerm, effective_tuples, has_variadic, longer, longest, of_length, of_lengths, shorter, tuple_of, variadic_last, with_tuple}
+use Rattle.widl_overload.specs.sets.Sets.{AreNumbered, TupleTerm, effective_tuples, has_variadic, longer, longest, of_length, of_lengths, shorter, tuple_of, variadic_last, with_tuple}
 
 -- the argument list of an overload at a place is short enough to be numbered
 pub args_few : (sigs : List SigTerm) (i : ℕ) (s : SigTerm) → AreNumbered sigs → i < length sigs → s ≡ get_or sigs i s → length s.args < 4294967296

@@ -17,7 +17,7 @@ use Rattle.widl_idl.specs.declared.operation.OpName.{OpName}
 use Rattle.widl_idl.specs.declared.signature.Sig.{Sig}
 use Rattle.widl_idl.specs.Counts.{IsNumbered, IsNumberedList, NumberedInterface, NumberedNamespace, NumberedOp, NumberedSig}
 use Rattle.widl_idl.specs.DefinitionTerms.{OpNameTerm, SigTerm, arg_term, defs_term, iface_term, op_name_term, sig_term, space_term}
-use Rattle.widl_overload.specs.Sets.{AreNumbered, HasFewArgs, interface_overloads, namespace_overloads, overloads_in, overloads_of}
+use Rattle.widl_overload.specs.sets.Sets.{AreNumbered, HasFewArgs, interface_overloads, namespace_overloads, overloads_in, overloads_of}
 
 each_at : {X : Type 0} (P : X → Type 0) (xs : List X) (n : ℕ) (x : X) → All P xs → slice_get xs n ≡ Some x → P x
 each_at P xs n x all e = subst P (get_or_from_slice_get xs n x x e) (all n x (slice_get_within xs n x e))

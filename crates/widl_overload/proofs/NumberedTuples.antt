@@ -8,11 +8,11 @@ use Rattle.std.proofs.lemmas.Option.{none-some, same_Some, slice_get-map, slice_
 use Rattle.widl_idl.specs.declared.argument.Optionality.{Optionality}
 use Rattle.widl_idl.specs.declared.argument.Optionality.TheVariants.{Required, Optional, Variadic}
 use Rattle.widl_idl.specs.DefinitionTerms.{ArgTerm, SigTerm}
-use Rattle.widl_overload.specs.Numbers.{arg_at, arg_or_last, opt_at, or_last, type_at}
-use Rattle.widl_overload.specs.OverloadNames.{number_of}
-use Rattle.widl_overload.specs.Sets.{TupleTerm, are_free, declared_opts, declared_types, if_variadic, is_variadic, longer, of_length, shorter, tuple_of, variadic_last, with_tuple}
+use Rattle.widl_overload.specs.sets.Numbers.{arg_at, arg_or_last, opt_at, or_last, type_at}
+use Rattle.widl_overload.specs.sets.OverloadNames.{number_of}
+use Rattle.widl_overload.specs.sets.Sets.{TupleTerm, are_free, declared_opts, declared_types, if_variadic, is_variadic, longer, of_length, shorter, tuple_of, variadic_last, with_tuple}
 use Rattle.widl_overload.proofs.FreeStarts.{read_some}
-use Rattle.widl_overload.specs.Spans.{have_tuples, true_places}
+use Rattle.widl_overload.specs.sets.Spans.{have_tuples, true_places}
 
 -- which tuples an overload has doesn't depend on its number
 longer_same : (i j : ℕ) (args : List ArgTerm) (count : ℕ) (last : Option ArgTerm) → is_some (longer i args count last) ≡ is_some (longer j args count last)

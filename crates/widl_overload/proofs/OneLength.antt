@@ -5,8 +5,8 @@ use Rattle.std.proofs.lemmas.Option.{same_Some}
 use Rattle.std.proofs.lemmas.List.{length-append, length-map, length-replicate, length-take-le}
 use Rattle.std.proofs.lemmas.List.Elements.{filter-append}
 use Rattle.widl_idl.specs.DefinitionTerms.{ArgTerm, SigTerm}
-use Rattle.widl_overload.specs.Index.{has_length, of_one_length}
-use Rattle.widl_overload.specs.Sets.{TupleTerm, declared_types, effective_tuples, longer, longest, of_length, of_lengths, shorter, tuple_of, variadic_last, with_tuple}
+use Rattle.widl_overload.specs.sets.Index.{has_length, of_one_length}
+use Rattle.widl_overload.specs.sets.Sets.{TupleTerm, declared_types, effective_tuples, longer, longest, of_length, of_lengths, shorter, tuple_of, variadic_last, with_tuple}
 
 none_some : {X : Type 0} (x : X) → None ≡ Some x → ⊥
 none_some x e = cc

@@ -7,13 +7,13 @@ use Rattle.widl_idl.specs.declared.violation.Violation.{Violation}
 use Rattle.widl_idl.specs.DefinitionTerms.{SigTerm}
 use Rattle.widl_idl.specs.First.{FirstWhere}
 use Rattle.widl_idl.proofs.Order.{first_same, one_violation}
-use Rattle.widl_overload.specs.Index.{of_one_length}
+use Rattle.widl_overload.specs.sets.Index.{of_one_length}
 use Rattle.widl_overload.specs.declared.span.Span.{Span}
-use Rattle.widl_overload.specs.OverloadNames.{AreNamedAt, number_of, place_of_number}
-use Rattle.widl_overload.specs.OverloadRules.{AtOverloads, AtSmallestLength, IsLeastNumber, overload_place}
-use Rattle.widl_overload.specs.OverloadViolations.{IsAtNames, IsOnly, IsOnlyViolation, IsSmallest}
-use Rattle.widl_overload.specs.Sets.{TupleTerm, effective_tuples, longest}
-use Rattle.widl_overload.specs.Spans.{AreSpans, spans_hold, true_places}
+use Rattle.widl_overload.specs.sets.OverloadNames.{AreNamedAt, number_of, place_of_number}
+use Rattle.widl_overload.specs.rules.OverloadRules.{AtOverloads, AtSmallestLength, IsLeastNumber, overload_place}
+use Rattle.widl_overload.specs.rules.OverloadViolations.{IsAtNames, IsOnly, IsOnlyViolation, IsSmallest}
+use Rattle.widl_overload.specs.sets.Sets.{TupleTerm, effective_tuples, longest}
+use Rattle.widl_overload.specs.sets.Spans.{AreSpans, spans_hold, true_places}
 use Rattle.widl_overload.proofs.Rows.{row_of}
 
 abbrev pub violation : Place → Option Place → Violation

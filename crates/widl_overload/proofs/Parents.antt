@@ -2,7 +2,7 @@
 use Rattle.std.proofs.Common.{◌≡◌, ◌≢◌, ℕ, ◌+◌, ◌-◌, ◌<◌, Bool, true, false, cond, suc, List, length, nat_eq, arith, sym, ap, ◌∙◌}
 use Rattle.std.specs.Prelude.{Option, Some}
 use Rattle.widl_idl.specs.DefinitionTerms.{IfaceTerm}
-use Rattle.widl_overload.specs.Inheritance.{is_among, parent_of}
+use Rattle.widl_overload.specs.sets.Inheritance.{is_among, parent_of}
 
 pub step_up : (ifaces : List IfaceTerm) (link n node : ℕ) (at next : Option ℕ) (whole : Bool) → link < length ifaces → at ≡ Some node → node ≢ n → next ≡ parent_of ifaces node
     → is_among ifaces (length ifaces - link) n at ≡ whole → is_among ifaces (length ifaces - (link + 1)) n next ≡ whole

@@ -7,13 +7,13 @@ use Rattle.std.proofs.lemmas.List.Elements.{All-cons, All-contains, All-nil}
 use Rattle.std.proofs.lemmas.Option.{slice_get-map}
 use Rattle.widl_idl.specs.DefinitionTerms.{IfaceTerm, SigTerm}
 use Rattle.widl_overload.specs.declared.span.Span.{Span}
-use Rattle.widl_overload.specs.Index.{IsIndex, apart_at, distinguishes, each_two, of_one_length, types_apart}
-use Rattle.widl_overload.specs.Numbers.{AllAgree, FirstDiffers, IsEarly, IsTelling, NoneTells, NumbersAgreeBefore, NumbersDifferAt, numbers_apart, numbers_tell}
-use Rattle.widl_overload.specs.OverloadNames.{number_of}
-use Rattle.widl_overload.specs.OverloadRules.{DifferAt, DifferEarly, LacksIndex}
-use Rattle.widl_overload.specs.OverloadViolations.{AgreeBefore, TwoDiffer}
-use Rattle.widl_overload.specs.Sets.{TupleTerm, effective_tuples, longest}
-use Rattle.widl_overload.specs.Spans.{AreSpans, spans_hold, true_places}
+use Rattle.widl_overload.specs.sets.Index.{IsIndex, apart_at, distinguishes, each_two, of_one_length, types_apart}
+use Rattle.widl_overload.specs.sets.Numbers.{AllAgree, FirstDiffers, IsEarly, IsTelling, NoneTells, NumbersAgreeBefore, NumbersDifferAt, numbers_apart, numbers_tell}
+use Rattle.widl_overload.specs.sets.OverloadNames.{number_of}
+use Rattle.widl_overload.specs.rules.OverloadRules.{DifferAt, DifferEarly, LacksIndex}
+use Rattle.widl_overload.specs.rules.OverloadViolations.{AgreeBefore, TwoDiffer}
+use Rattle.widl_overload.specs.sets.Sets.{TupleTerm, effective_tuples, longest}
+use Rattle.widl_overload.specs.sets.Spans.{AreSpans, spans_hold, true_places}
 use Rattle.widl_overload.proofs.DifferingTuples.{differ_by_first, early_by_index, first_listed, none_differ, not_both}
 use Rattle.widl_overload.proofs.NumberedTuples.{StandsFor, numbers_are, tuples_stand}
 use Rattle.widl_overload.proofs.OneLength.{of_this_length}

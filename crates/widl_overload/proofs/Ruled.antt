@@ -6,8 +6,8 @@ use Rattle.widl_idl.specs.DefinitionTerms.{IfaceTerm}
 use Rattle.widl_idl.specs.Terms.{TypeTerm, TypeTerms, packed, NullableType, UnionType, no_types, more_types}
 use Rattle.widl_idl.specs.Flattened.{unannotated}
 use Rattle.widl_overload.specs.declared.category.Category.{Category}
-use Rattle.widl_overload.specs.Pairs.{apart_from, members_in, second_members}
-use Rattle.widl_overload.specs.Distinct.{are_apart, by_members, categories_apart, category, by_rules, distinguishable, each_from_members, innermost, listed, members_apart, members_or_itself, nullable_clash, single_apart, single_from_each, union_members}
+use Rattle.widl_overload.specs.sets.Pairs.{apart_from, members_in, second_members}
+use Rattle.widl_overload.specs.sets.Distinct.{are_apart, by_members, categories_apart, category, by_rules, distinguishable, each_from_members, innermost, listed, members_apart, members_or_itself, nullable_clash, single_apart, single_from_each, union_members}
 
 and_true : (b : Bool) → (b && true) ≡ b
 and_true true = refl

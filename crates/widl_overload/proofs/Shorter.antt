@@ -4,7 +4,7 @@ use Rattle.std.specs.Prelude.{None, Some, slice_get}
 use Rattle.std.proofs.lemmas.List.{take-map}
 use Rattle.std.proofs.lemmas.Option.{slice_get-get_or}
 use Rattle.widl_idl.specs.DefinitionTerms.{ArgTerm}
-use Rattle.widl_overload.specs.Sets.{TupleTerm, declared_opts, declared_types, are_free, is_end, is_free, shorter}
+use Rattle.widl_overload.specs.sets.Sets.{TupleTerm, declared_opts, declared_types, are_free, is_end, is_free, shorter}
 
 -- a call may leave out each argument from a place on
 abbrev pub free_from : List ArgTerm → ℕ → Bool

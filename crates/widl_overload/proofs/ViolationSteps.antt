@@ -10,11 +10,11 @@ use Rattle.widl_idl.specs.declared.operation.OpName.{OpName}
 use Rattle.widl_idl.specs.DefinitionTerms.{IfaceTerm, SigTerm, OpNameTerm, SpaceTerm, iface_term, op_name_term, space_term}
 use Rattle.widl_idl.proofs.Somewhere.{somewhere_both, somewhere_none, somewhere_one}
 use Rattle.widl_overload.specs.declared.overload_violations.OverloadViolations.{OverloadViolations}
-use Rattle.widl_overload.specs.Index.{of_one_length}
-use Rattle.widl_overload.specs.OverloadLists.{lists_of_interface, lists_of_interfaces, lists_of_namespace, lists_of_namespaces}
-use Rattle.widl_overload.specs.OverloadRules.{AtSmallestLength, DifferEarly, LacksIndex, has_name, operation_lists}
-use Rattle.widl_overload.specs.OverloadViolations.{AreViolationsAt, AreViolationsIn, earlier_violations, no_violations}
-use Rattle.widl_overload.specs.Sets.{effective_tuples, longest}
+use Rattle.widl_overload.specs.sets.Index.{of_one_length}
+use Rattle.widl_overload.specs.sets.OverloadLists.{lists_of_interface, lists_of_interfaces, lists_of_namespace, lists_of_namespaces}
+use Rattle.widl_overload.specs.rules.OverloadRules.{AtSmallestLength, DifferEarly, LacksIndex, has_name, operation_lists}
+use Rattle.widl_overload.specs.rules.OverloadViolations.{AreViolationsAt, AreViolationsIn, earlier_violations, no_violations}
+use Rattle.widl_overload.specs.sets.Sets.{effective_tuples, longest}
 use Rattle.widl_overload.proofs.OneLength.{no_more, none_beyond}
 use Rattle.widl_overload.proofs.OnlyViolations.{never_broken}
 

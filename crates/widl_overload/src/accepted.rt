@@ -15,7 +15,7 @@ impl Model for Accepted {
     ghost use Rattle.widl_idl.specs.contracts.types.IdlType as resolved;
     ghost use Rattle.widl_idl.specs.contracts.tree.types.TypeForm as written;
     ghost use Rattle.widl_idl.specs.MergedSets.{IsMerged, MergedSet};
-    ghost use Rattle.widl_overload.specs.Validity.{IsValid};
+    ghost use Rattle.widl_overload.specs.rules.Validity.{IsValid};
 
     ghost Value = { MergedSet };
 
@@ -29,7 +29,7 @@ impl Model for Accepted {
 impl Accepted {
     ghost use Rattle.std.specs.Prelude.{◌≡◌};
     ghost use Rattle.widl_idl.specs.MergedSets.{IsMerged};
-    ghost use Rattle.widl_overload.specs.Validity.{IsValid};
+    ghost use Rattle.widl_overload.specs.rules.Validity.{IsValid};
 
     /// The files with their merged list, of which the caller has found that they break no rule of
     /// validity.

@@ -3,8 +3,8 @@
 ghost use Rattle.std.specs.Prelude.{◌≡◌, map, slice_get, option_and_then};
 ghost use Rattle.std.specs.Option.{option_copied, option_map};
 ghost use Rattle.widl_idl.specs.DefinitionTerms.{defs_term, sig_term, iface_term, op_name_term, space_term};
-ghost use Rattle.widl_overload.specs.Entries.{overloads_of as overload_terms_of};
-ghost use Rattle.widl_overload.specs.Sets.{interface_overloads, namespace_overloads, overloads_named, overloads_of, sig_terms};
+ghost use Rattle.widl_overload.specs.sets.Entries.{overloads_of as overload_terms_of};
+ghost use Rattle.widl_overload.specs.sets.Sets.{interface_overloads, namespace_overloads, overloads_named, overloads_of, sig_terms};
 
 use widl_idl::{Callee, Defs, Iface, OpName, Owner, Part, Sig, Sigs, Space};
 

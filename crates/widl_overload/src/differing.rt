@@ -3,7 +3,7 @@
 ghost use Rattle.std.specs.Prelude.{MatchBool, map};
 ghost use Rattle.std.specs.List.{All};
 ghost use Rattle.widl_idl.specs.DefinitionTerms.{sig_term};
-ghost use Rattle.widl_overload.specs.Numbers.{AllAgree, FirstDiffers, NumbersAgreeAt, NumbersAgreeBefore, NumbersDifferAt, NumbersDifferBefore, OneDiffers};
+ghost use Rattle.widl_overload.specs.sets.Numbers.{AllAgree, FirstDiffers, NumbersAgreeAt, NumbersAgreeBefore, NumbersDifferAt, NumbersDifferBefore, OneDiffers};
 
 use crate::telling::arg_at;
 use widl_idl::{Sig, same_type};

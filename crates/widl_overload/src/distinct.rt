@@ -6,8 +6,8 @@ ghost use Rattle.std.specs.Option.{option_copied, option_map};
 ghost use Rattle.widl_idl.specs.DefinitionTerms.{IfaceTerm, defs_term, iface_term};
 ghost use Rattle.widl_idl.specs.Flattened.{flattened_member, flattened_members, unannotated};
 ghost use Rattle.widl_idl.specs.Terms.{TypeTerm, packed, type_term, type_terms};
-ghost use Rattle.widl_overload.specs.Distinct.{HaveMembers, any_nullable_clash, are_unrelated, by_rules, categories_apart, category, distinguishable as distinguishable_in, has_dictionary, has_nullable, is_dictionary, is_never, is_same, listed, nullable_clash, overlaps, union_members};
-ghost use Rattle.widl_overload.specs.Pairs.{apart_from, each_apart, flattened_apart as flattened_apart_in, is_apart, listed_terms, members_in, second_members as second_members_of};
+ghost use Rattle.widl_overload.specs.sets.Distinct.{HaveMembers, any_nullable_clash, are_unrelated, by_rules, categories_apart, category, distinguishable as distinguishable_in, has_dictionary, has_nullable, is_dictionary, is_never, is_same, listed, nullable_clash, overlaps, union_members};
+ghost use Rattle.widl_overload.specs.sets.Pairs.{apart_from, each_apart, flattened_apart as flattened_apart_in, is_apart, listed_terms, members_in, second_members as second_members_of};
 
 use crate::category::Category;
 use crate::inheritance::inherits;
@@ -107,7 +107,7 @@ fn members_of(t: &IdlType) -> Option<&[IdlType]>
 
 /// Whether two types, one of which is no union, are distinguishable: none clashes by a `?` in it, and
 /// each two types that they are flattened to are apart.
-#[tactic(auto, unfolding(crate::specs::Pairs::flattened_apart))]
+#[tactic(auto, unfolding(crate::specs::sets::Pairs::flattened_apart))]
 fn flattened_apart(ifaces: &[Iface], a: &IdlType, b: &IdlType) -> bool
     ensures { result ≡ flattened_apart_in (map iface_term ifaces.now) (type_term a.now) (type_term b.now) }
 {
@@ -200,7 +200,7 @@ fn all_members_apart(ifaces: &[Iface], members: &IdlTypes, b: &IdlType) -> bool
     true
 }
 
-#[tactic(auto, unfolding(crate::specs::Pairs::each_apart))]
+#[tactic(auto, unfolding(crate::specs::sets::Pairs::each_apart))]
 fn innermost_apart(ifaces: &[Iface], a: &IdlType, b: &IdlType) -> bool
     ensures { result ≡ each_apart (map iface_term ifaces.now) (flattened_member (type_term b.now)) (unannotated (type_term a.now)) }
 {
@@ -231,7 +231,7 @@ fn apart_from_all_members(ifaces: &[Iface], c: Category, members: &IdlTypes) -> 
     true
 }
 
-#[tactic(auto, unfolding(crate::specs::Pairs::is_apart))]
+#[tactic(auto, unfolding(crate::specs::sets::Pairs::is_apart))]
 fn apart_from_innermost(ifaces: &[Iface], c: Category, t: &IdlType) -> bool
     ensures { result ≡ is_apart (map iface_term ifaces.now) c (unannotated (type_term t.now)) }
 {

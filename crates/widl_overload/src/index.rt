@@ -3,8 +3,8 @@
 ghost use Rattle.std.specs.Prelude.{◌≡◌, ◌<◌, ◌≤◌, ℕ, [], drop, length, nat_le, take, true, false, MatchOption};
 ghost use Rattle.std.specs.List.{list_all};
 ghost use Rattle.widl_idl.specs.DefinitionTerms.{defs_term};
-ghost use Rattle.widl_overload.specs.Index.{IsDistinguishingIndex, apart_at, each_two, has_length as has_length_of, terms_of_length};
-ghost use Rattle.widl_overload.specs.Sets.{tuple_term, tuples_in};
+ghost use Rattle.widl_overload.specs.sets.Index.{IsDistinguishingIndex, apart_at, each_two, has_length as has_length_of, terms_of_length};
+ghost use Rattle.widl_overload.specs.sets.Sets.{tuple_term, tuples_in};
 
 use crate::distinct::distinguishable;
 use crate::tuple::{OverloadSet, Tuple};
@@ -120,7 +120,7 @@ fn is_apart_from_each(defs: &Defs, t: &Tuple, others: &[Tuple], m: usize, place:
 }
 
 /// Whether two tuples have distinguishable types at a place.
-#[tactic(auto, unfolding(crate::specs::Index::apart_at))]
+#[tactic(auto, unfolding(crate::specs::sets::Index::apart_at))]
 fn are_apart_at(defs: &Defs, t: &Tuple, u: &Tuple, place: usize) -> bool
     ensures { result ≡ apart_at (defs_term defs.now).ifaces place (tuple_term t.now) (tuple_term u.now) }
 {

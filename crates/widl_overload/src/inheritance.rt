@@ -2,7 +2,7 @@
 
 ghost use Rattle.std.specs.Prelude.{◌≡◌, map};
 ghost use Rattle.widl_idl.specs.DefinitionTerms.{iface_term};
-ghost use Rattle.widl_overload.specs.Inheritance.{inherits as inherits_in, parent_of};
+ghost use Rattle.widl_overload.specs.sets.Inheritance.{inherits as inherits_in, parent_of};
 
 use widl_idl::Iface;
 

@@ -2,7 +2,7 @@
 
 ghost use Rattle.std.specs.Prelude.{◌≡◌, ◌<◌, IfOk, length, map};
 ghost use Rattle.widl_idl.specs.DefinitionTerms.{sig_term};
-ghost use Rattle.widl_overload.specs.OverloadNames.{AreNamed, AreNamedAt, place_of_number};
+ghost use Rattle.widl_overload.specs.sets.OverloadNames.{AreNamed, AreNamedAt, place_of_number};
 
 use crate::span::{Span, overloads_of_length};
 use std::alloc::{AllocError, Global};

@@ -4,10 +4,10 @@
 ghost use Rattle.std.specs.Prelude.{◌≡◌, IfOk, [], ◌∷◌, map};
 ghost use Rattle.widl_idl.specs.Counts.{IsNumbered, IsNumberedList, NumberedInterface, NumberedNamespace, NumberedOp};
 ghost use Rattle.widl_idl.specs.DefinitionTerms.{defs_term, iface_term, op_name_term, sig_term, space_term};
-ghost use Rattle.widl_overload.specs.OverloadLists.{lists_of_interface, lists_of_interfaces, lists_of_namespaces};
-ghost use Rattle.widl_overload.specs.OverloadRules.{operation_lists, overload_lists};
-ghost use Rattle.widl_overload.specs.OverloadViolations.{AreViolationsAt, AreViolationsIn};
-ghost use Rattle.widl_overload.specs.Sets.{AreNumbered};
+ghost use Rattle.widl_overload.specs.sets.OverloadLists.{lists_of_interface, lists_of_interfaces, lists_of_namespaces};
+ghost use Rattle.widl_overload.specs.rules.OverloadRules.{operation_lists, overload_lists};
+ghost use Rattle.widl_overload.specs.rules.OverloadViolations.{AreViolationsAt, AreViolationsIn};
+ghost use Rattle.widl_overload.specs.sets.Sets.{AreNumbered};
 
 use crate::overload_names::at_names;
 use crate::overload_sizes::breaking_lengths;

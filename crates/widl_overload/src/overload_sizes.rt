@@ -3,10 +3,10 @@
 
 ghost use Rattle.std.specs.Prelude.{◌≡◌, ◌-◌, ◌<◌, IfOk, MatchBool, MatchOption, None, Some, false, length, nat_le, map};
 ghost use Rattle.widl_idl.specs.DefinitionTerms.{defs_term, sig_term};
-ghost use Rattle.widl_overload.specs.Numbers.{IsEarly, IsRow, IsTelling, NoneTells};
-ghost use Rattle.widl_overload.specs.OverloadViolations.{AreSmallest};
-ghost use Rattle.widl_overload.specs.Sets.{AreNumbered, effective_tuples, longest};
-ghost use Rattle.widl_overload.specs.Spans.{AreListed, AreSpans, spans_hold, true_places};
+ghost use Rattle.widl_overload.specs.sets.Numbers.{IsEarly, IsRow, IsTelling, NoneTells};
+ghost use Rattle.widl_overload.specs.rules.OverloadViolations.{AreSmallest};
+ghost use Rattle.widl_overload.specs.sets.Sets.{AreNumbered, effective_tuples, longest};
+ghost use Rattle.widl_overload.specs.sets.Spans.{AreListed, AreSpans, spans_hold, true_places};
 
 use crate::differing::differ_before;
 use crate::span::{Span, end_of_row, overloads_of_length};

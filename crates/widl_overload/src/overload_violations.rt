@@ -14,7 +14,7 @@ pub struct OverloadViolations {
 
 impl OverloadViolations {
     ghost use Rattle.std.specs.Prelude.{◌≡◌};
-    ghost use Rattle.widl_overload.specs.OverloadViolations.{earlier_violations, no_violations};
+    ghost use Rattle.widl_overload.specs.rules.OverloadViolations.{earlier_violations, no_violations};
 
     /// No rule is broken.
     pub(crate) fn none() -> OverloadViolations

@@ -5,8 +5,8 @@ ghost use Rattle.std.specs.List.{list_any};
 ghost use Rattle.std.specs.Option.{ForSome, option_copied, option_map};
 ghost use Rattle.widl_idl.specs.DefinitionTerms.{SigTerm, arg_term, defs_term, sig_term};
 ghost use Rattle.widl_idl.specs.Terms.{type_term, type_terms};
-ghost use Rattle.widl_overload.specs.Construction.{constructed};
-ghost use Rattle.widl_overload.specs.Sets.{AreNumbered, TupleTerm, declared_opts, declared_types, are_free, effective_set_of, effective_tuples, has_variadic, is_free as is_free_in, is_variadic, longer as longer_of, longest, of_length, of_lengths, overloads_of, shorter as shorter_of, tuple_of, tuple_term, tuples_in, variadic_last, with_tuple};
+ghost use Rattle.widl_overload.specs.sets.Construction.{constructed};
+ghost use Rattle.widl_overload.specs.sets.Sets.{AreNumbered, TupleTerm, declared_opts, declared_types, are_free, effective_set_of, effective_tuples, has_variadic, is_free as is_free_in, is_variadic, longer as longer_of, longest, of_length, of_lengths, overloads_of, shorter as shorter_of, tuple_of, tuple_term, tuples_in, variadic_last, with_tuple};
 
 use crate::callees::overloads;
 use crate::tuple::{OverloadSet, Tuple};

@@ -2,7 +2,7 @@
 
 ghost use Rattle.std.specs.Prelude.{◌≡◌, ◌<◌, ◌≤◌, ℕ, IfOk, length, map};
 ghost use Rattle.widl_idl.specs.DefinitionTerms.{arg_term, sig_term};
-ghost use Rattle.widl_overload.specs.Spans.{AreSpans, IsFreeStart, spans_hold, true_places};
+ghost use Rattle.widl_overload.specs.sets.Spans.{AreSpans, IsFreeStart, spans_hold, true_places};
 
 use crate::sets::{is_free, last_variadic};
 use std::alloc::{AllocError, Global};
@@ -21,7 +21,7 @@ pub(crate) struct Span {
 impl Span {
     ghost use Rattle.std.specs.Prelude.{◌≡◌, ◌<◌, ◌≤◌, ℕ, map};
     ghost use Rattle.widl_idl.specs.DefinitionTerms.{arg_term};
-    ghost use Rattle.widl_overload.specs.Spans.{has_tuple, holds};
+    ghost use Rattle.widl_overload.specs.sets.Spans.{has_tuple, holds};
 
     /// The lengths of the tuples of an overload with these arguments.
     fn of(args: &[Arg]) -> Span

@@ -5,8 +5,8 @@ ghost use Rattle.std.specs.Option.{option_map_or};
 ghost use Rattle.widl_idl.specs.declared.argument.Optionality.TheVariants as optionality;
 ghost use Rattle.widl_idl.specs.DefinitionTerms.{arg_term, defs_term, sig_term};
 ghost use Rattle.widl_idl.specs.Terms.{type_term};
-ghost use Rattle.widl_overload.specs.Entries.{declared_args, entry_for, optionality_at};
-ghost use Rattle.widl_overload.specs.Standing.{again, args_in, standing_among as standing_among_of, standing_term};
+ghost use Rattle.widl_overload.specs.sets.Entries.{declared_args, entry_for, optionality_at};
+ghost use Rattle.widl_overload.specs.sets.Standing.{again, args_in, standing_among as standing_among_of, standing_term};
 
 use crate::callees::overload_list;
 use widl_idl::{Arg, Callee, Defs, IdlType, Optionality, Sig};

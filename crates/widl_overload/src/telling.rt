@@ -6,7 +6,7 @@ ghost use Rattle.std.specs.Prelude.{◌≡◌, ◌<◌, ◌≤◌, ℕ, MatchOpt
 ghost use Rattle.std.specs.List.{list_all};
 ghost use Rattle.std.specs.Option.{option_copied};
 ghost use Rattle.widl_idl.specs.DefinitionTerms.{defs_term, arg_term, sig_term};
-ghost use Rattle.widl_overload.specs.Numbers.{arg_at as arg_at_of, arg_or_last as arg_or_last_of, numbers_apart, numbers_tell};
+ghost use Rattle.widl_overload.specs.sets.Numbers.{arg_at as arg_at_of, arg_or_last as arg_or_last_of, numbers_apart, numbers_tell};
 
 use crate::distinct::distinguishable;
 use widl_idl::{Arg, Defs, Sig};
@@ -64,7 +64,7 @@ fn is_apart_from_each(
 }
 
 /// Whether two overloads have distinguishable types at a place.
-#[tactic(auto, unfolding(crate::specs::Numbers::numbers_apart))]
+#[tactic(auto, unfolding(crate::specs::sets::Numbers::numbers_apart))]
 fn are_apart_at(defs: &Defs, sigs: &[Sig], overload: u32, other: u32, place: usize) -> bool
     ensures { result ≡ numbers_apart (defs_term defs.now).ifaces (map sig_term sigs.now) place overload other }
 {

@@ -23,7 +23,7 @@ pub struct OverloadSet {
 
 impl OverloadSet {
     ghost use Rattle.std.specs.Prelude.{◌≡◌, ◌<◌, ◌∷◌, ◌++◌, [], length, slice_get, OnOk, Some};
-    ghost use Rattle.widl_overload.specs.Sets.{tuple_term, tuples_in};
+    ghost use Rattle.widl_overload.specs.sets.Sets.{tuple_term, tuples_in};
 
     /// How many tuples there are.
     pub fn len(&self) -> usize

@@ -1,9 +1,9 @@
 //! The rules of validity.
 
 ghost use Rattle.std.specs.Prelude.{◌≡◌};
-ghost use Rattle.widl_overload.specs.Validity.{validity_number};
+ghost use Rattle.widl_overload.specs.rules.Validity.{validity_number};
 
-/// A rule on sets of files whose definitions are put together. Each is stated as `specs/Validity.antt`
+/// A rule on sets of files whose definitions are put together. Each is stated as `specs/rules/Validity.antt`
 /// tells.
 #[derive(Clone, Copy, Debug, PartialEq, Eq)]
 pub enum ValidityRule {

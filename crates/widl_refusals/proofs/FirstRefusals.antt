@@ -11,7 +11,7 @@ use Rattle.widl_idl.proofs.Somewhere.{one_item, somewhere_cases, somewhere_left,
 use Rattle.widl_idl.proofs.Steps.{earlier_of, earlier_trans, not_earlier}
 use Rattle.widl_names.proofs.PlainLists.{mapped_more}
 use Rattle.widl_overload.specs.declared.validity_rule.ValidityRule.{ValidityRule}
-use Rattle.widl_overload.specs.Validity.{validity_number}
+use Rattle.widl_overload.specs.rules.Validity.{validity_number}
 use Rattle.widl_refusals.specs.Refusals.{IsFirst, earlier_refusal}
 
 abbrev pub Breaking : Type 1

@@ -6,7 +6,7 @@ use Rattle.widl_idl.specs.DefinitionTerms.{DefsTerm}
 use Rattle.widl_idl.specs.FirstRefusal.{FirstBroken, is_earlier}
 use Rattle.widl_idl.specs.PlainTrees.{PlainDefinition}
 use Rattle.widl_overload.specs.declared.validity_rule.ValidityRule.{ValidityRule}
-use Rattle.widl_overload.specs.Validity.{BreaksRule, validity_number}
+use Rattle.widl_overload.specs.rules.Validity.{BreaksRule, validity_number}
 
 -- of what was found now and of what was found before the refusal that comes first
 abbrev pub earlier_refusal : Option Refusal → Option Refusal → Option Refusal

@@ -2,7 +2,7 @@
 
 ghost use Rattle.std.specs.Prelude.{◌≡◌};
 ghost use Rattle.widl_idl.specs.FirstRefusal.{join};
-ghost use Rattle.widl_overload.specs.Validity.{validity_number};
+ghost use Rattle.widl_overload.specs.rules.Validity.{validity_number};
 ghost use Rattle.widl_refusals.specs.Refusals.{earlier_refusal};
 
 use widl_idl::{Refusal, Violation, joined};

@@ -2,7 +2,7 @@
 
 ghost use Rattle.std.specs.Prelude.{◌≡◌};
 ghost use Rattle.widl_idl.specs.Terms.{type_term};
-ghost use Rattle.widl_overload.specs.TypeRules.{is_unit_string};
+ghost use Rattle.widl_overload.specs.rules.TypeRules.{is_unit_string};
 
 use widl_idl::{IdlType, TextKind};
 

@@ -21,8 +21,8 @@ use Rattle.widl_idl.specs.declared.text_kind.TextKind.TheVariants as texts
 use Rattle.widl_idl.specs.DefinitionTerms.{ArgTerm}
 use Rattle.widl_idl.specs.Flattened.{flattened_members, includes_nullable_type}
 use Rattle.widl_idl.specs.Terms.{TypeTerm, TypeTerms, AnyType, UndefinedType, BooleanType, IntegerType, StringType, EnumerationType, InterfaceType, CallbackFunctionType, CallbackInterfaceType, DictionaryType, ObjectType, SequenceType, RecordType, PromiseType, NullableType, UnionType}
-use Rattle.widl_overload.specs.Entries.{declared_args, optionality_at, type_at}
-use Rattle.widl_overload.specs.Sets.{TupleTerm, is_variadic}
+use Rattle.widl_overload.specs.sets.Entries.{declared_args, optionality_at, type_at}
+use Rattle.widl_overload.specs.sets.Sets.{TupleTerm, is_variadic}
 use Rattle.widl_text.specs.declared.key.Key.{Key}
 use Rattle.widl_text.specs.declared.key.Key.TheVariants as keys
 use Rattle.widl_value.specs.Classes.{class_of}

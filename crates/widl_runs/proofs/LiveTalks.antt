@@ -19,8 +19,8 @@ use Rattle.widl_idl.specs.declared.text_kind.TextKind.TheVariants as texts
 use Rattle.widl_idl.specs.DefinitionTerms.{ArgTerm, DefsTerm}
 use Rattle.widl_idl.specs.Flattened.{flattened_member, flattened_members, includes_nullable_type}
 use Rattle.widl_idl.specs.Terms.{AnyType, BooleanType, CallbackFunctionType, CallbackInterfaceType, DictionaryType, EnumerationType, IntegerType, InterfaceType, NullableType, ObjectType, PromiseType, RecordType, SequenceType, StringType, TypeTerm, TypeTerms, UndefinedType, UnionType}
-use Rattle.widl_overload.specs.Entries.{declared_args, optionality_at, type_at}
-use Rattle.widl_overload.specs.Sets.{TupleTerm, is_variadic}
+use Rattle.widl_overload.specs.sets.Entries.{declared_args, optionality_at, type_at}
+use Rattle.widl_overload.specs.sets.Sets.{TupleTerm, is_variadic}
 use Rattle.widl_value.specs.Classes.{class_of}
 use Rattle.widl_value.specs.declared.object.ObjRef.{ObjRef}
 use Rattle.widl_value.specs.declared.value.Value.{Value}

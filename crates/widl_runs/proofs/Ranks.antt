@@ -2,7 +2,7 @@
 use Rattle.std.proofs.Common.{ℕ, suc, ◌+◌, ◌-◌, Bool, true, false, length}
 use Rattle.widl_dialog.specs.Calm.{Ranks}
 use Rattle.widl_idl.specs.DefinitionTerms.{DefsTerm}
-use Rattle.widl_overload.specs.Entries.{declared_args}
+use Rattle.widl_overload.specs.sets.Entries.{declared_args}
 use Rattle.widl_value.specs.declared.value.Value.{Value}
 use Rattle.widl_value.specs.declared.value.Value.TheVariants as values
 use Rattle.widl_value.specs.IdlTerms.{IdlTerm, IdlTerms, EntryTerms, MemberTerms, no_values, more_values, no_entries, more_entries, no_members, more_members, SequenceValue, RecordValue, DictionaryValue}

@@ -6,7 +6,7 @@ ghost use Rattle.widl_idl.specs.Counts.{IsNumberedList};
 ghost use Rattle.widl_idl.specs.DefinitionTerms.{defs_term};
 ghost use Rattle.widl_lines.specs.declared.script_place.ScriptPlace.{ScriptPlace};
 ghost use Rattle.widl_lines.specs.Refusals.{IsErrWith};
-ghost use Rattle.widl_overload.specs.Dictionaries.{dictionary_terms};
+ghost use Rattle.widl_overload.specs.rules.Dictionaries.{dictionary_terms};
 ghost use Rattle.widl_overload.specs.OperationsAlone.{HasOperationsAlone};
 ghost use Rattle.widl_script_tree.specs.Tables.{script_tree};
 ghost use Rattle.widl_script.specs.Outcomes.{IsRefusal};

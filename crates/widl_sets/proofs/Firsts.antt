@@ -3,8 +3,8 @@ use Rattle.std.proofs.Common.{◌≡◌, ℕ, ◌⊎◌, inl, inr, true, false, 
 use Rattle.std.specs.Prelude.{Option, None, Some}
 use Rattle.std.proofs.lemmas.Bool.{cases_Bool, le-leb, leb-true}
 use Rattle.widl_idl.specs.DefinitionTerms.{IfaceTerm}
-use Rattle.widl_overload.specs.Index.{IsDistinguishingIndex, of_one_length, distinguishes}
-use Rattle.widl_overload.specs.Sets.{TupleTerm}
+use Rattle.widl_overload.specs.sets.Index.{IsDistinguishingIndex, of_one_length, distinguishes}
+use Rattle.widl_overload.specs.sets.Sets.{TupleTerm}
 use Rattle.widl_spell.specs.Ids.{first_from}
 use Rattle.widl_spell.proofs.FirstFrom.{first_from_at, first_from_none}
 use Rattle.widl_sets.specs.Lines.{index_of}

@@ -4,7 +4,7 @@ use Rattle.std.specs.Prelude.{Option, Some, slice_get}
 use Rattle.std.proofs.lemmas.List.{append_assoc}
 use Rattle.std.proofs.lemmas.Option.{same_Some}
 use Rattle.widl_idl.specs.DefinitionTerms.{DefsTerm}
-use Rattle.widl_overload.specs.Sets.{TupleTerm}
+use Rattle.widl_overload.specs.sets.Sets.{TupleTerm}
 use Rattle.widl_sets.specs.Lines.{after, lines_from, tuple_line}
 
 drop_suc : (tuples : List TupleTerm) (place : ℕ) (t : TupleTerm) → slice_get tuples place ≡ Some t → drop place tuples ≡ t ∷ drop (suc place) tuples

@@ -11,7 +11,7 @@ use Rattle.widl_idl.specs.declared.callee.Callee.{Callee}
 use Rattle.widl_idl.specs.declared.defs.Defs.{Defs}
 use Rattle.widl_idl.specs.DefinitionTerms.{ArgTerm, SigTerm, defs_term}
 use Rattle.widl_idl.specs.Counts.{IsNumberedList}
-use Rattle.widl_overload.specs.Sets.{AreNumbered, HasFewArgs, TupleTerm, declared_opts, declared_types, effective_or_none, effective_set_of, effective_tuples, are_free, longer, longest, of_length, of_lengths, overloads_of, shorter, tuple_of, variadic_last, with_tuple}
+use Rattle.widl_overload.specs.sets.Sets.{AreNumbered, HasFewArgs, TupleTerm, declared_opts, declared_types, effective_or_none, effective_set_of, effective_tuples, are_free, longer, longest, of_length, of_lengths, overloads_of, shorter, tuple_of, variadic_last, with_tuple}
 use Rattle.widl_overload.proofs.Numbered.{overloads_numbered}
 use Rattle.widl_sets.specs.Lines.{IsTuple}
 

@@ -4,8 +4,8 @@ use Rattle.widl_idl.specs.declared.argument.Optionality.{Optionality}
 use Rattle.widl_idl.specs.declared.argument.Optionality.TheVariants.{Required, Optional, Variadic}
 use Rattle.widl_idl.specs.DefinitionTerms.{DefsTerm, IfaceTerm}
 use Rattle.widl_idl.specs.Terms.{TypeTerm}
-use Rattle.widl_overload.specs.Index.{of_one_length, distinguishes}
-use Rattle.widl_overload.specs.Sets.{TupleTerm}
+use Rattle.widl_overload.specs.sets.Index.{of_one_length, distinguishes}
+use Rattle.widl_overload.specs.sets.Sets.{TupleTerm}
 use Rattle.widl_spell.specs.Ids.{first_from}
 use Rattle.widl_spell.specs.Names.{separated}
 use Rattle.widl_spell.specs.TypeTexts.{type_text}

@@ -2,7 +2,7 @@
 use Rattle.std.specs.Prelude.{ℕ, ◌++◌, List, [], slice_get, Option, None, Some}
 use Rattle.std.specs.List.{flat_map}
 use Rattle.widl_idl.specs.DefinitionTerms.{SigTerm, OpNameTerm, IfaceTerm, SpaceTerm, DefsTerm}
-use Rattle.widl_overload.specs.Sets.{effective_tuples}
+use Rattle.widl_overload.specs.sets.Sets.{effective_tuples}
 use Rattle.widl_spell.specs.Ids.{id_order, parents_of}
 use Rattle.widl_sets.specs.Lines.{lines_of_set}
 use Rattle.widl_trace.specs.CalleeTexts.{constructor_text, operation_text}

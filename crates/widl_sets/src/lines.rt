@@ -4,7 +4,7 @@ ghost use Rattle.std.specs.Prelude.{◌≡◌, ◌++◌, ◌+◌, ◌<◌, All, 
 ghost use Rattle.std.specs.Option.{option_copied, option_map};
 ghost use Rattle.widl_idl.specs.DefinitionTerms.{defs_term};
 ghost use Rattle.widl_idl.specs.Terms.{type_term};
-ghost use Rattle.widl_overload.specs.Sets.{tuple_term, tuples_in};
+ghost use Rattle.widl_overload.specs.sets.Sets.{tuple_term, tuples_in};
 ghost use Rattle.widl_sets.specs.Lines.{IsTuple, argument_text, argument_texts, after, front, index_line, index_of, is_last_of_length, line_of_index, lines_of_set, optionality_text, tuple_line};
 ghost use Rattle.widl_spell.specs.Names.{separated};
 

@@ -5,7 +5,7 @@ ghost use Rattle.std.specs.List.{flat_map};
 ghost use Rattle.widl_idl.specs.Counts.{IsNumberedList};
 ghost use Rattle.widl_idl.specs.declared.callee.Part.TheVariants as parts;
 ghost use Rattle.widl_idl.specs.DefinitionTerms.{defs_term, iface_term, op_name_term, sig_term, space_term};
-ghost use Rattle.widl_overload.specs.Sets.{effective_set_of, overloads_in, overloads_named, overloads_of};
+ghost use Rattle.widl_overload.specs.sets.Sets.{effective_set_of, overloads_in, overloads_named, overloads_of};
 ghost use Rattle.widl_spell.specs.Ids.{id_order, parents_of};
 ghost use Rattle.widl_sets.specs.Lines.{lines_of_set};
 ghost use Rattle.widl_sets.specs.Listing.{all_lines, callee_lines, interface_lines, lines_at, namespace_lines, operation_lines};

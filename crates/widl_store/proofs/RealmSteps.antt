@@ -7,7 +7,7 @@ use Rattle.widl_idl.specs.declared.argument.Arg.{Arg}
 use Rattle.widl_idl.specs.declared.namespace.Space.{Space}
 use Rattle.widl_idl.specs.declared.operation.OpName.{OpName}
 use Rattle.widl_idl.specs.DefinitionTerms.{SpaceTerm, OpNameTerm, arg_term, op_name_term, space_term}
-use Rattle.widl_overload.specs.Sets.{is_end, is_free}
+use Rattle.widl_overload.specs.sets.Sets.{is_end, is_free}
 use Rattle.widl_store.specs.declared.inner.Builtin.{Builtin}
 use Rattle.widl_store.specs.declared.property.Prop.{Prop}
 use Rattle.widl_store.specs.declared.property.Prop.TheVariants.{Plain}

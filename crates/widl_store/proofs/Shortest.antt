@@ -7,7 +7,7 @@ use Rattle.widl_idl.specs.declared.argument.Optionality.TheVariants.{Variadic}
 use Rattle.std.specs.Prelude.{◌&&◌, Contains, fold, min, nat_lt}
 use Rattle.std.proofs.lemmas.List.{length-map, length-replicate}
 use Rattle.widl_idl.specs.DefinitionTerms.{ArgTerm, SigTerm}
-use Rattle.widl_overload.specs.Sets.{TupleTerm, are_free, is_end, is_free, tuple_of, longer, shorter, variadic_last, with_tuple, of_length, of_lengths, effective_tuples, longest, declared_types, declared_opts}
+use Rattle.widl_overload.specs.sets.Sets.{TupleTerm, are_free, is_end, is_free, tuple_of, longer, shorter, variadic_last, with_tuple, of_length, of_lengths, effective_tuples, longest, declared_types, declared_opts}
 use Rattle.widl_store.specs.Realm.{needed, needed_with, shortest}
 
 needed_with_le : (free : Bool) (n : ℕ) → needed_with free n ≤ n + 1

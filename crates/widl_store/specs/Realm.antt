@@ -4,7 +4,7 @@ use Rattle.std.specs.Prelude.{ℕ, ◌+◌, ◌&&◌, Bool, if◌then◌else◌,
 use Rattle.widl_idl.specs.declared.callee.Owner.TheVariants.{Space}
 use Rattle.widl_idl.specs.declared.callee.Part.TheVariants.{Op}
 use Rattle.widl_idl.specs.DefinitionTerms.{DefsTerm, SpaceTerm, OpNameTerm, SigTerm, ArgTerm}
-use Rattle.widl_overload.specs.Sets.{is_end, is_free}
+use Rattle.widl_overload.specs.sets.Sets.{is_end, is_free}
 use Rattle.widl_store.specs.declared.inner.Builtin.TheVariants.{Callee}
 use Rattle.widl_store.specs.Inners.{SpacePart}
 use Rattle.widl_store.specs.Intrinsics.{intrinsics}

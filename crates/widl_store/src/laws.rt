@@ -2,7 +2,7 @@
 
 ghost use Rattle.std.specs.Prelude.{◌≡◌, ◌≤◌, ◌∷◌, ℕ, Contains, List, length, map};
 ghost use Rattle.widl_idl.specs.DefinitionTerms.{DefsTerm, SigTerm, SpaceTerm};
-ghost use Rattle.widl_overload.specs.Sets.{TupleTerm, effective_tuples};
+ghost use Rattle.widl_overload.specs.sets.Sets.{TupleTerm, effective_tuples};
 ghost use Rattle.widl_store.specs.Bounds.{AreFewObjects, AreSharesKept, AreWithinShares};
 ghost use Rattle.widl_store.specs.declared.property.Prop as props;
 ghost use Rattle.widl_store.specs.Effects.{added, defined, deleted, put_in, with_inner};

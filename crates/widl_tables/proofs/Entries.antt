@@ -4,10 +4,10 @@ use Rattle.std.specs.List.{list_any}
 use Rattle.std.specs.Option.{option_map_or}
 use Rattle.std.proofs.lemmas.List.{length-append, length-map, length-replicate, length-take}
 use Rattle.widl_idl.specs.DefinitionTerms.{ArgTerm, DefsTerm, IfaceTerm, SigTerm}
-use Rattle.widl_overload.specs.Entries.{cut, entry_for, entry_of, is_variadic_list, optionalities_of, repeated, types_of}
-use Rattle.widl_overload.specs.Index.{apart_at, each_two}
-use Rattle.widl_overload.specs.Sets.{TupleTerm, are_free, is_variadic, with_tuple}
-use Rattle.widl_overload.specs.Standing.{args_in}
+use Rattle.widl_overload.specs.sets.Entries.{cut, entry_for, entry_of, is_variadic_list, optionalities_of, repeated, types_of}
+use Rattle.widl_overload.specs.sets.Index.{apart_at, each_two}
+use Rattle.widl_overload.specs.sets.Sets.{TupleTerm, are_free, is_variadic, with_tuple}
+use Rattle.widl_overload.specs.sets.Standing.{args_in}
 use Rattle.widl_tables.specs.Kept.{choosing_place, counted_args, entries_of, numbers_of, telling_from}
 use Rattle.widl_tables.specs.EntriesByNumber.{entries_in, has_entry, telling_among}
 

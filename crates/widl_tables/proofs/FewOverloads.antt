@@ -10,9 +10,9 @@ use Rattle.widl_idl.specs.declared.callee.Part.TheVariants as parts
 use Rattle.widl_idl.specs.declared.defs.Defs.{Defs}
 use Rattle.widl_idl.specs.Counts.{IsNumberedList}
 use Rattle.widl_idl.specs.DefinitionTerms.{DefsTerm, IfaceTerm, OpNameTerm, SigTerm, SpaceTerm, defs_term}
-use Rattle.widl_overload.specs.Entries.{interface_overloads, namespace_overloads, overloads_of}
-use Rattle.widl_overload.specs.Sets.{AreNumbered, TupleTerm}
-use Rattle.widl_overload.specs.Sets.{interface_overloads as declared_in_interface, namespace_overloads as declared_in_namespace, overloads_of as declared_overloads}
+use Rattle.widl_overload.specs.sets.Entries.{interface_overloads, namespace_overloads, overloads_of}
+use Rattle.widl_overload.specs.sets.Sets.{AreNumbered, TupleTerm}
+use Rattle.widl_overload.specs.sets.Sets.{interface_overloads as declared_in_interface, namespace_overloads as declared_in_namespace, overloads_of as declared_overloads}
 use Rattle.widl_overload.proofs.Numbered.{overloads_numbered}
 use Rattle.widl_tables.specs.Kept.{choosing_place, telling_from, telling_place}
 

@@ -3,8 +3,8 @@ use Rattle.std.proofs.Common.{◌≡◌, ◌↔◌, ℕ, suc, ◌<◌, ◌++◌,
 use Rattle.widl_idl.specs.DefinitionTerms.{DefsTerm}
 use Rattle.widl_idl.specs.Flattened.{flattened_members}
 use Rattle.widl_idl.specs.Terms.{TypeTerms}
-use Rattle.widl_overload.specs.Entries.{optionality_at, type_at}
-use Rattle.widl_overload.specs.Sets.{TupleTerm}
+use Rattle.widl_overload.specs.sets.Entries.{optionality_at, type_at}
+use Rattle.widl_overload.specs.sets.Sets.{TupleTerm}
 use Rattle.widl_value.specs.declared.class.Class.{Class}
 use Rattle.widl_tables.specs.declared.entry_test.Test.{Test}
 use Rattle.widl_tables.specs.declared.entry_test.Test.TheVariants.{IsOptional, IsNullable, IsImplemented, IsCallback, IsSequence, IsObject, IsBoolean, IsNumeric, TakesText, TakesNumber, TakesTruth, TakesAny}

@@ -1,9 +1,9 @@
 -- For proofs alone. Entries by the numbers of their overloads.
 use Rattle.std.specs.Prelude.{ℕ, Bool, if◌then◌else◌, nat_lt, List, [], ◌∷◌, length, drop, map, Option, None, Some}
 use Rattle.widl_idl.specs.DefinitionTerms.{ArgTerm, SigTerm, IfaceTerm}
-use Rattle.widl_overload.specs.Entries.{entry_for, is_variadic_list, optionalities_of}
-use Rattle.widl_overload.specs.Sets.{TupleTerm, are_free}
-use Rattle.widl_overload.specs.Standing.{args_in}
+use Rattle.widl_overload.specs.sets.Entries.{entry_for, is_variadic_list, optionalities_of}
+use Rattle.widl_overload.specs.sets.Sets.{TupleTerm, are_free}
+use Rattle.widl_overload.specs.sets.Standing.{args_in}
 use Rattle.widl_tables.specs.Kept.{telling_from}
 
 -- the entries of the overloads with these numbers, of those that are listed, for a length

@@ -4,10 +4,10 @@ use Rattle.std.specs.Prelude.{ℕ, ◌+◌, min, max, zero, suc, List, [], ◌�
 use Rattle.std.specs.List.{list_any}
 use Rattle.widl_idl.specs.declared.callee.Callee.{Callee}
 use Rattle.widl_idl.specs.DefinitionTerms.{DefsTerm, SigTerm, IfaceTerm}
-use Rattle.widl_overload.specs.Entries.{declared_args, entry_for, entry_of, is_variadic_list, overloads_of}
-use Rattle.widl_overload.specs.Index.{apart_at, each_two}
-use Rattle.widl_overload.specs.Inheritance.{inherits}
-use Rattle.widl_overload.specs.Sets.{TupleTerm, with_tuple}
+use Rattle.widl_overload.specs.sets.Entries.{declared_args, entry_for, entry_of, is_variadic_list, overloads_of}
+use Rattle.widl_overload.specs.sets.Index.{apart_at, each_two}
+use Rattle.widl_overload.specs.sets.Inheritance.{inherits}
+use Rattle.widl_overload.specs.sets.Sets.{TupleTerm, with_tuple}
 
 -- 1. How many arguments count: as many as the longest type list of the set has, at most. With a variadic overload the set for n
 -- arguments has type lists of length n at least.

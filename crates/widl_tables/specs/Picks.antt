@@ -4,9 +4,9 @@ use Rattle.std.specs.Prelude.{ℕ, ◌+◌, ◌&&◌, Bool, true, false, if◌th
 use Rattle.widl_idl.specs.DefinitionTerms.{DefsTerm}
 use Rattle.widl_idl.specs.Flattened.{flattened_members}
 use Rattle.widl_idl.specs.Terms.{TypeTerm, TypeTerms}
-use Rattle.widl_overload.specs.Distinct.{is_dictionary}
-use Rattle.widl_overload.specs.Entries.{type_at, optionality_at}
-use Rattle.widl_overload.specs.Sets.{TupleTerm}
+use Rattle.widl_overload.specs.sets.Distinct.{is_dictionary}
+use Rattle.widl_overload.specs.sets.Entries.{type_at, optionality_at}
+use Rattle.widl_overload.specs.sets.Sets.{TupleTerm}
 use Rattle.widl_scalar.specs.Enumerations.{told_place}
 use Rattle.widl_value.specs.declared.class.Class.{Class}
 use Rattle.widl_tables.specs.declared.pick.Pick.{Pick}

@@ -7,7 +7,7 @@ use Rattle.widl_idl.specs.declared.argument.Optionality.TheVariants.{Optional}
 use Rattle.widl_idl.specs.DefinitionTerms.{DefsTerm}
 use Rattle.widl_idl.specs.Flattened.{flattened_member, includes_nullable_type}
 use Rattle.widl_idl.specs.Terms.{TypeTerm, AnyType, BooleanType, IntegerType, StringType, EnumerationType, InterfaceType, CallbackFunctionType, CallbackInterfaceType, ObjectType, SequenceType, RecordType}
-use Rattle.widl_overload.specs.Distinct.{has_dictionary, is_dictionary}
+use Rattle.widl_overload.specs.sets.Distinct.{has_dictionary, is_dictionary}
 use Rattle.widl_value.specs.declared.class.Class.{Class}
 use Rattle.widl_value.specs.declared.class.Class.TheVariants as classes
 use Rattle.widl_tables.specs.declared.entry_test.Test.{Test}

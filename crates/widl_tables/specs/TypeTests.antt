@@ -2,7 +2,7 @@
 use Rattle.std.specs.Prelude.{ℕ, ◌+◌, Bool, true, ◌||◌, if◌then◌else◌, List, [], ◌∷◌, Option, option_and_then}
 use Rattle.widl_idl.specs.DefinitionTerms.{DefsTerm}
 use Rattle.widl_idl.specs.Terms.{TypeTerm}
-use Rattle.widl_overload.specs.Distinct.{is_dictionary}
+use Rattle.widl_overload.specs.sets.Distinct.{is_dictionary}
 use Rattle.widl_scalar.specs.Enumerations.{told_place}
 use Rattle.widl_value.specs.declared.class.Class.{Class}
 use Rattle.widl_tables.specs.declared.type_test.TypeTest.{TypeTest}

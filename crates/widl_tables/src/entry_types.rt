@@ -4,8 +4,8 @@ ghost use Rattle.std.specs.Prelude.{◌≡◌, false, map, option_map, slice_get
 ghost use Rattle.std.specs.Option.{option_map_or};
 ghost use Rattle.widl_idl.specs.DefinitionTerms.{sig_term};
 ghost use Rattle.widl_idl.specs.Terms.{type_term};
-ghost use Rattle.widl_overload.specs.Entries.{entry_for, optionality_at};
-ghost use Rattle.widl_overload.specs.Standing.{args_in};
+ghost use Rattle.widl_overload.specs.sets.Entries.{entry_for, optionality_at};
+ghost use Rattle.widl_overload.specs.sets.Standing.{args_in};
 ghost use Rattle.widl_tables.specs.Tests.{is_optional};
 
 use widl_idl::Sig;

@@ -3,8 +3,8 @@
 ghost use Rattle.std.specs.Prelude.{◌≡◌, ◌<◌, ◌≤◌, ◌^◌, ◌++◌, drop, length, map, min, IfOk, IfSome, OnOk};
 ghost use Rattle.std.specs.List.{list_any};
 ghost use Rattle.widl_idl.specs.DefinitionTerms.{arg_term, defs_term, sig_term};
-ghost use Rattle.widl_overload.specs.Entries.{entry_of, is_variadic_list, optionalities_of, overloads_of};
-ghost use Rattle.widl_overload.specs.Sets.{are_free};
+ghost use Rattle.widl_overload.specs.sets.Entries.{entry_of, is_variadic_list, optionalities_of, overloads_of};
+ghost use Rattle.widl_overload.specs.sets.Sets.{are_free};
 ghost use Rattle.widl_tables.specs.Kept.{argcount_of, choosing_place as choosing_place_of, counted_args, entries_for, entries_of, kept_tuples, longest as longest_of, numbers_of};
 ghost use Rattle.widl_tables.specs.EntriesByNumber.{has_entry as has_entry_of};
 

@@ -3,9 +3,9 @@
 ghost use Rattle.std.specs.Prelude.{◌≡◌, map};
 ghost use Rattle.std.specs.List.{list_all};
 ghost use Rattle.widl_idl.specs.DefinitionTerms.{defs_term, sig_term};
-ghost use Rattle.widl_overload.specs.Entries.{entry_for};
-ghost use Rattle.widl_overload.specs.Index.{apart_at, each_two};
-ghost use Rattle.widl_overload.specs.Standing.{args_in};
+ghost use Rattle.widl_overload.specs.sets.Entries.{entry_for};
+ghost use Rattle.widl_overload.specs.sets.Index.{apart_at, each_two};
+ghost use Rattle.widl_overload.specs.sets.Standing.{args_in};
 ghost use Rattle.widl_tables.specs.Kept.{telling_from};
 ghost use Rattle.widl_tables.specs.EntriesByNumber.{entries_in, telling_among};
 

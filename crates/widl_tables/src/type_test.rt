@@ -5,7 +5,7 @@ ghost use Rattle.widl_value.specs.declared.class.Class.TheVariants as classes;
 ghost use Rattle.widl_idl.specs.DefinitionTerms.{defs_term};
 ghost use Rattle.widl_idl.specs.Flattened.{unannotated};
 ghost use Rattle.widl_idl.specs.Terms.{type_term};
-ghost use Rattle.widl_overload.specs.Distinct.{is_dictionary as is_dictionary_of};
+ghost use Rattle.widl_overload.specs.sets.Distinct.{is_dictionary as is_dictionary_of};
 ghost use Rattle.widl_tables.specs.Kept.{implements as implements_of};
 ghost use Rattle.widl_tables.specs.Tests.{is_any_type, is_boolean_type, is_callback_function as is_callback_function_of, is_callback_interface as is_callback_interface_of, is_implemented_by as is_implemented_by_of, is_numeric as is_numeric_of, is_object_type, is_record as is_record_of, is_sequence as is_sequence_of, is_string};
 ghost use Rattle.widl_tables.specs.TypeTests.{suits};

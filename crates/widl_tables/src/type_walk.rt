@@ -8,7 +8,7 @@ ghost use Rattle.std.specs.List.{list_any};
 ghost use Rattle.widl_idl.specs.DefinitionTerms.{defs_term};
 ghost use Rattle.widl_idl.specs.Flattened.{flattened_member, flattened_members, unannotated};
 ghost use Rattle.widl_idl.specs.Terms.{packed, type_term, type_terms};
-ghost use Rattle.widl_overload.specs.Distinct.{has_dictionary as has_dictionary_of};
+ghost use Rattle.widl_overload.specs.sets.Distinct.{has_dictionary as has_dictionary_of};
 ghost use Rattle.widl_tables.specs.TypeTests.{before, suits, told_first};
 
 use crate::type_test::TypeTest;

@@ -2,7 +2,7 @@
 
 ghost use Rattle.std.specs.Prelude.{IsTrue, map};
 ghost use Rattle.widl_idl.specs.DefinitionTerms.{sig_term};
-ghost use Rattle.widl_overload.specs.Sets.{AreNumbered};
+ghost use Rattle.widl_overload.specs.sets.Sets.{AreNumbered};
 
 use crate::shared::numbered::is_numbered_list;
 use crate::shared::{

@@ -7,10 +7,10 @@ use Rattle.widl_idl.specs.Terms.{TypeTerm, NullableType, UnionType}
 use Rattle.widl_idl.specs.Flattened.{includes_nullable_type}
 use Rattle.widl_overload.specs.declared.category.Category.{Category}
 use Rattle.widl_overload.specs.declared.category.Category.TheVariants.{Interface}
-use Rattle.widl_overload.specs.Distinct.{categories_apart, category, distinguishable, has_dictionary, innermost, is_never, is_same, overlaps, union_members}
-use Rattle.widl_overload.specs.Inheritance.{inherits}
+use Rattle.widl_overload.specs.sets.Distinct.{categories_apart, category, distinguishable, has_dictionary, innermost, is_never, is_same, overlaps, union_members}
+use Rattle.widl_overload.specs.sets.Inheritance.{inherits}
 use Rattle.widl_overload.proofs.Ruled.{ruled_by}
-use Rattle.widl_overload.specs.TypeRules.{HaveIndistinguishablePair}
+use Rattle.widl_overload.specs.rules.TypeRules.{HaveIndistinguishablePair}
 use Rattle.widl_type_rules.specs.IndistinguishablePairs.{IsFlat, any_pair, are_related, clash, interface_number}
 use Rattle.widl_type_rules.proofs.AnyPair.{any_pair_either, any_pair_found, any_pair_here}
 

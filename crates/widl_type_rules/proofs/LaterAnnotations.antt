@@ -7,7 +7,7 @@ use Rattle.widl_idl.specs.First.{Before, ComesBefore, is_before, violation_at, F
 use Rattle.widl_idl.specs.Resolution.{Annotation, ClampTo, EnforceRange, Note}
 use Rattle.widl_idl.proofs.Order.{before_alone, before_of, before_trans}
 use Rattle.widl_names.specs.SaidNotes.{NotedAt, StandsFirst}
-use Rattle.widl_overload.specs.TypeRules.{HasBoth, later}
+use Rattle.widl_overload.specs.rules.TypeRules.{HasBoth, later}
 
 -- what stands before p stands before q too, where p doesn't stand before q
 not_after : (p q r : Place) → is_before p q ≡ false → Before p r → Before q r

@@ -4,7 +4,7 @@ use Rattle.std.proofs.lemmas.List.{append_assoc}
 use Rattle.widl_text.specs.declared.place.Place.{Place}
 use Rattle.widl_idl.specs.declared.tree.types.AnnotatedType.{AnnotatedType}
 use Rattle.widl_idl.specs.PlainTypes.{PlainAttribute, PlainForm, PlainType, PlainAnnotated, plain_type, plain_annotated, annotated_of, union_of}
-use Rattle.widl_overload.specs.TypeUses.{TypeUse, uses_in_form, uses_of_annotated, uses_of_union}
+use Rattle.widl_overload.specs.rules.TypeUses.{TypeUse, uses_in_form, uses_of_annotated, uses_of_union}
 use Rattle.widl_overload.specs.declared.type_role.TypeRole.{TypeRole}
 use Rattle.widl_overload.specs.declared.type_role.TypeRole.TheVariants as role
 

@@ -11,7 +11,7 @@ use Rattle.widl_graph.specs.Reaching.{IsForest, Reaches, more, one}
 use Rattle.widl_fits.specs.Hierarchies.{interface_parents}
 use Rattle.widl_idl.specs.DefinitionTerms.{IfaceTerm}
 use Rattle.widl_graph.proofs.Complete.{step_within}
-use Rattle.widl_overload.specs.Inheritance.{inherits}
+use Rattle.widl_overload.specs.sets.Inheritance.{inherits}
 use Rattle.widl_graph.specs.Spans.{AreSpans, AreWhole, parent_graph, span_of}
 use Rattle.widl_graph.specs.declared.spans.Span.{Span}
 use Rattle.widl_inheritance.proofs.ReachedParents.{inherits_reaching}

@@ -5,7 +5,7 @@ use Rattle.widl_idl.specs.PlainTrees.{PlainDefinition}
 use Rattle.widl_idl.specs.PlainTypes.{PlainAttribute}
 use Rattle.widl_idl.specs.Terms.{TypeTerm}
 use Rattle.widl_idl.specs.WrittenTypes.{meaning_of_type, note_of, notes_of}
-use Rattle.widl_overload.specs.TypeUses.{TypeUse}
+use Rattle.widl_overload.specs.rules.TypeUses.{TypeUse}
 use Rattle.widl_type_rules.specs.UsesListed.{UseTerm, with_meaning}
 
 -- a type means what it means after the annotations of the node that it is the type of, and then its own

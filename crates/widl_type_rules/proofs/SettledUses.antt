@@ -18,8 +18,8 @@ use Rattle.widl_idl.specs.WrittenTypes.{meaning_of_type, notes_of, number_among,
 use Rattle.widl_overload.specs.declared.type_role.TypeRole.{TypeRole}
 use Rattle.widl_overload.specs.declared.validity_rule.ValidityRule.{ValidityRule}
 use Rattle.widl_overload.specs.declared.validity_rule.ValidityRule.TheVariants as rule
-use Rattle.widl_overload.specs.TypeRules.{HasClampAndEnforceRange, HasMisplacedAnnotation, HaveIndistinguishableMembers, HaveNullableAndDictionary, HaveSeveralNullable, IsAnnotatedMember, IsCopiedAttribute, IsNullableDictionary, IsOtherConstantType, IsUndefinedInside, IsWronglyNullable, OfUnion, all_notes, has_question, is_annotated, is_attribute_role, is_constant_role, is_copied, is_nullable_dictionary, is_undefined_form, is_undefined_word, is_union_form, is_written_union, is_wrongly_nullable, notes_after, notes_in, takes_undefined}
-use Rattle.widl_overload.specs.TypeUses.{TypeUse, meaning_of_use}
+use Rattle.widl_overload.specs.rules.TypeRules.{HasClampAndEnforceRange, HasMisplacedAnnotation, HaveIndistinguishableMembers, HaveNullableAndDictionary, HaveSeveralNullable, IsAnnotatedMember, IsCopiedAttribute, IsNullableDictionary, IsOtherConstantType, IsUndefinedInside, IsWronglyNullable, OfUnion, all_notes, has_question, is_annotated, is_attribute_role, is_constant_role, is_copied, is_nullable_dictionary, is_undefined_form, is_undefined_word, is_union_form, is_written_union, is_wrongly_nullable, notes_after, notes_in, takes_undefined}
+use Rattle.widl_overload.specs.rules.TypeUses.{TypeUse, meaning_of_use}
 use Rattle.widl_type_rules.specs.SettledUses.{are_none, is_settled, is_settled_form, is_settled_kind, is_settled_type}
 use Rattle.widl_type_rules.specs.TypeRefusals.{BreaksUse}
 

@@ -14,7 +14,7 @@ use Rattle.widl_idl.specs.Resolution.{Note, WrittenType, TypedefName, NullableOf
 use Rattle.widl_idl.specs.WrittenTypes.{container_of, note_of, notes_of, nullable_if, type_of_kind, type_of_meaning, typedef_in_tree, typedefs, written_form, written_type}
 use Rattle.widl_names.specs.TypeUses.{form_in, notes_from, notes_in as own_notes, notes_of_typedef as notes_of_typed, type_in, typedef_notes, typedef_of_form, typedef_type}
 use Rattle.widl_names.proofs.KindNumbers.{typedef_numbered}
-use Rattle.widl_overload.specs.TypeRules.{notes_after, notes_in, notes_of_typedef}
+use Rattle.widl_overload.specs.rules.TypeRules.{notes_after, notes_in, notes_of_typedef}
 
 some_is : {A : Type 0} {a b : A} → Some a ≡ Some b → a ≡ b
 some_is e = (cc)

@@ -5,8 +5,8 @@ use Rattle.widl_idl.specs.DefinitionTerms.{IfaceTerm}
 use Rattle.widl_idl.specs.Terms.{TypeTerm, NullableType, UnionType}
 use Rattle.widl_overload.specs.declared.category.Category.{Category}
 use Rattle.widl_overload.specs.declared.category.Category.TheVariants.{Interface}
-use Rattle.widl_overload.specs.Distinct.{is_never, is_same, overlaps}
-use Rattle.widl_overload.specs.Inheritance.{inherits}
+use Rattle.widl_overload.specs.sets.Distinct.{is_never, is_same, overlaps}
+use Rattle.widl_overload.specs.sets.Inheritance.{inherits}
 
 -- a type is neither nullable nor a union, as each flattened member of a union
 abbrev pub IsFlat : TypeTerm → Type 0

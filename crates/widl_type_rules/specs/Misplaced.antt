@@ -5,7 +5,7 @@ use Rattle.widl_idl.specs.MergingRules.{IsAt}
 use Rattle.widl_idl.specs.PlainTypes.{PlainAttribute}
 use Rattle.widl_idl.specs.Terms.{TypeTerm}
 use Rattle.widl_idl.specs.WrittenTypes.{annotation_of}
-use Rattle.widl_overload.specs.TypeRules.{is_misplaced}
+use Rattle.widl_overload.specs.rules.TypeRules.{is_misplaced}
 
 -- an extended attribute is an annotation that doesn't apply to the type: at its name
 abbrev pub IsMisplacedOn : TypeTerm → PlainAttribute → Violation → Type 0

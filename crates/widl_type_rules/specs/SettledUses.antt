@@ -6,8 +6,8 @@ use Rattle.widl_idl.specs.Meanings.{meant_kind}
 use Rattle.widl_idl.specs.PlainTrees.{PlainDefinition}
 use Rattle.widl_idl.specs.PlainTypes.{PlainAttribute, PlainForm, PlainType, PlainAny, PlainUndefined, PlainBoolean, PlainObject, PlainInteger, PlainText, PlainNamed, plain_type}
 use Rattle.widl_overload.specs.declared.type_role.TypeRole.{TypeRole}
-use Rattle.widl_overload.specs.TypeRules.{is_attribute_role, is_constant_role, takes_undefined}
-use Rattle.widl_overload.specs.TypeUses.{TypeUse}
+use Rattle.widl_overload.specs.rules.TypeRules.{is_attribute_role, is_constant_role, takes_undefined}
+use Rattle.widl_overload.specs.rules.TypeUses.{TypeUse}
 
 -- the name of a definition of this kind; an attribute's type may be no dictionary
 abbrev pub is_settled_kind : TypeRole → Option Kind → Bool

@@ -3,8 +3,8 @@ use Rattle.std.specs.Prelude.{◌≡◌, List, ◌++◌, map}
 use Rattle.widl_idl.specs.PlainTrees.{PlainDefinition}
 use Rattle.widl_idl.specs.PlainTypes.{attribute_of, type_of}
 use Rattle.widl_idl.specs.Terms.{TypeTerm, type_term}
-use Rattle.widl_overload.specs.TypeUses as plain
-use Rattle.widl_overload.specs.TypeUses.{meaning_of_use}
+use Rattle.widl_overload.specs.rules.TypeUses as plain
+use Rattle.widl_overload.specs.rules.TypeUses.{meaning_of_use}
 use Rattle.widl_type_rules.specs.declared.resolved_uses.ResolvedUse.{ResolvedUse}
 use Rattle.widl_type_rules.specs.declared.type_uses.TypeUse.{TypeUse}
 

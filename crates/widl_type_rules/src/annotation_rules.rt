@@ -5,7 +5,7 @@ ghost use Rattle.widl_idl.specs.First.{FirstWhere, Somewhere};
 ghost use Rattle.widl_idl.specs.PlainTypes.{attribute_of};
 ghost use Rattle.widl_idl.specs.Terms.{type_term};
 ghost use Rattle.widl_idl.specs.WrittenTypes.{annotation_of};
-ghost use Rattle.widl_overload.specs.TypeRules.{HasMisplacedAnnotation, IsAnnotatedMember, is_annotated, is_integer, is_member_role, is_misplaced, without_nullable};
+ghost use Rattle.widl_overload.specs.rules.TypeRules.{HasMisplacedAnnotation, IsAnnotatedMember, is_annotated, is_integer, is_member_role, is_misplaced, without_nullable};
 ghost use Rattle.widl_type_rules.specs.Misplaced.{IsMisplacedOn};
 ghost use Rattle.widl_type_rules.specs.UsesListed.{resolved_use};
 

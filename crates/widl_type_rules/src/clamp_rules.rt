@@ -4,7 +4,7 @@
 ghost use Rattle.std.specs.Prelude.{◌≡◌, option_and_then, option_map};
 ghost use Rattle.widl_idl.specs.First.{FirstWhere, violation_at};
 ghost use Rattle.widl_idl.specs.PlainTrees.{plain_definitions};
-ghost use Rattle.widl_overload.specs.TypeRules.{HasClampAndEnforceRange, later};
+ghost use Rattle.widl_overload.specs.rules.TypeRules.{HasClampAndEnforceRange, later};
 ghost use Rattle.widl_type_rules.specs.UsesListed.{resolved_use};
 
 use crate::resolved_uses::ResolvedUse;

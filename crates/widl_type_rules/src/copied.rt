@@ -4,7 +4,7 @@ ghost use Rattle.std.specs.Prelude.{◌≡◌};
 ghost use Rattle.std.specs.List.{list_any};
 ghost use Rattle.widl_idl.specs.Flattened.{flattened_member, flattened_members};
 ghost use Rattle.widl_idl.specs.Terms.{packed, type_term, type_terms};
-ghost use Rattle.widl_overload.specs.TypeRules.{is_copied};
+ghost use Rattle.widl_overload.specs.rules.TypeRules.{is_copied};
 
 use widl_idl::{IdlType, IdlTypes};
 

@@ -4,8 +4,8 @@ ghost use Rattle.std.specs.Prelude.{◌≡◌, ◌++◌, Ok, true, false, IfOk, 
 ghost use Rattle.std.specs.List.{All, filter_map};
 ghost use Rattle.widl_idl.specs.DefinitionTerms.{defs_term};
 ghost use Rattle.widl_idl.specs.Terms.{type_terms};
-ghost use Rattle.widl_overload.specs.Distinct.{category};
-ghost use Rattle.widl_overload.specs.TypeRules.{HaveIndistinguishablePair};
+ghost use Rattle.widl_overload.specs.sets.Distinct.{category};
+ghost use Rattle.widl_overload.specs.rules.TypeRules.{HaveIndistinguishablePair};
 ghost use Rattle.widl_type_rules.specs.Lineages.{TellRelated};
 ghost use Rattle.widl_type_rules.specs.IndistinguishablePairs.{IsFlat, any_pair, are_related, clash, interface_number, listed};
 

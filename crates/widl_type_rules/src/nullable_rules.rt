@@ -6,8 +6,8 @@ ghost use Rattle.widl_idl.specs.Flattened.{flattened_members, nullable_members};
 ghost use Rattle.widl_idl.specs.First.{FirstWhere};
 ghost use Rattle.widl_idl.specs.PlainTypes.{form_term};
 ghost use Rattle.widl_idl.specs.Terms.{type_term};
-ghost use Rattle.widl_overload.specs.Distinct.{is_dictionary};
-ghost use Rattle.widl_overload.specs.TypeRules.{HaveNullableAndDictionary, HaveSeveralNullable, IsNullableDictionary, IsWronglyNullable, OfUnion, is_argument_or_member_role, is_never_nullable, is_nullable_dictionary, is_union_form, is_wrongly_nullable, members_of_union};
+ghost use Rattle.widl_overload.specs.sets.Distinct.{is_dictionary};
+ghost use Rattle.widl_overload.specs.rules.TypeRules.{HaveNullableAndDictionary, HaveSeveralNullable, IsNullableDictionary, IsWronglyNullable, OfUnion, is_argument_or_member_role, is_never_nullable, is_nullable_dictionary, is_union_form, is_wrongly_nullable, members_of_union};
 ghost use Rattle.widl_type_rules.specs.UsesListed.{resolved_use};
 
 use crate::resolved_uses::ResolvedUse;

@@ -5,7 +5,7 @@ ghost use Rattle.std.specs.Prelude.{◌≡◌};
 ghost use Rattle.widl_idl.specs.First.{FirstWhere};
 ghost use Rattle.widl_idl.specs.PlainTypes.{form_term};
 ghost use Rattle.widl_idl.specs.Terms.{type_term};
-ghost use Rattle.widl_overload.specs.TypeRules.{IsCopiedAttribute, IsOtherConstantType, IsUndefinedInside, is_attribute_role, is_constant_role, is_constant_type, is_undefined_form, takes_undefined};
+ghost use Rattle.widl_overload.specs.rules.TypeRules.{IsCopiedAttribute, IsOtherConstantType, IsUndefinedInside, is_attribute_role, is_constant_role, is_constant_type, is_undefined_form, takes_undefined};
 ghost use Rattle.widl_type_rules.specs.UsesListed.{resolved_use};
 
 use crate::copied::any_copied;

@@ -8,7 +8,7 @@ ghost use Rattle.widl_graph.specs.Reaching.{IsForest};
 ghost use Rattle.widl_idl.specs.DefinitionTerms.{defs_term};
 ghost use Rattle.widl_fits.specs.Hierarchies.{interface_parents};
 ghost use Rattle.widl_idl.specs.PlainTrees.{definition_kind_of, plain_definitions};
-ghost use Rattle.widl_overload.specs.TypeUses.{uses_in_definition};
+ghost use Rattle.widl_overload.specs.rules.TypeUses.{uses_in_definition};
 ghost use Rattle.widl_type_rules.specs.Lineages.{TellRelated};
 ghost use Rattle.widl_refusals.specs.Refusals.{IsFirst, IsFirstOver};
 ghost use Rattle.widl_type_rules.specs.TypeRefusals.{BreaksType, BreaksUse, SomeBreaks, type_rules};

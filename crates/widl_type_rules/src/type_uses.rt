@@ -3,7 +3,7 @@
 ghost use Rattle.std.specs.Prelude.{◌≡◌, ◌++◌, List, [], ◌∷◌, map, flat_map, option_map, IfOk, OnOk};
 ghost use Rattle.widl_idl.specs.PlainTypes.{attribute_of, form_term, type_of, annotated_of, union_of};
 ghost use Rattle.widl_idl.specs.PlainTrees.{argument_of, arguments_of, member_kind_of, member_of, members_of, dictionary_member_of, definition_kind_of};
-ghost use Rattle.widl_overload.specs.TypeUses.{uses_in_form, uses_of_plain, uses_of_annotated, uses_of_union, uses_of_optional, uses_of_argument, uses_of_arguments, uses_of_optional_arguments, uses_of_member_kind, uses_of_member, uses_of_dictionary_member, uses_in_definition};
+ghost use Rattle.widl_overload.specs.rules.TypeUses.{uses_in_form, uses_of_plain, uses_of_annotated, uses_of_union, uses_of_optional, uses_of_argument, uses_of_arguments, uses_of_optional_arguments, uses_of_member_kind, uses_of_member, uses_of_dictionary_member, uses_in_definition};
 ghost use Rattle.widl_overload.specs.declared.type_role.TypeRole.TheVariants as role;
 ghost use Rattle.widl_type_rules.specs.UsesListed.{Adds, use_of};
 

@@ -4,7 +4,7 @@ ghost use Rattle.std.specs.Prelude.{◌≡◌, Ok, true, false, IfOk};
 ghost use Rattle.widl_idl.specs.DefinitionTerms.{defs_term};
 ghost use Rattle.widl_idl.specs.First.{FirstWhere};
 ghost use Rattle.widl_idl.specs.Terms.{type_term};
-ghost use Rattle.widl_overload.specs.TypeRules.{HaveIndistinguishableMembers, OfUnion, members_of_union};
+ghost use Rattle.widl_overload.specs.rules.TypeRules.{HaveIndistinguishableMembers, OfUnion, members_of_union};
 ghost use Rattle.widl_type_rules.specs.Lineages.{TellRelated};
 ghost use Rattle.widl_type_rules.specs.UsesListed.{resolved_use};
 

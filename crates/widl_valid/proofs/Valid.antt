@@ -5,7 +5,7 @@ use Rattle.widl_idl.specs.FirstRefusal.{refusal_at}
 use Rattle.widl_idl.specs.MergedSets.{MergedSet}
 use Rattle.widl_overload.specs.declared.validity_rule.ValidityRule.{ValidityRule}
 use Rattle.widl_overload.specs.declared.validity_rule.ValidityRule.TheVariants as rule
-use Rattle.widl_overload.specs.Validity.{IsValid, validity_number, validity_rules}
+use Rattle.widl_overload.specs.rules.Validity.{IsValid, validity_number, validity_rules}
 use Rattle.widl_valid.specs.Invalidity.{IsInvalidity}
 
 -- where the rule with this number stands in a list

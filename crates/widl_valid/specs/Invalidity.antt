@@ -3,7 +3,7 @@ use Rattle.std.specs.Prelude.{Option}
 use Rattle.widl_idl.specs.declared.refusal.Refusal.{Refusal}
 use Rattle.widl_idl.specs.FirstRefusal.{FirstBroken}
 use Rattle.widl_idl.specs.MergedSets.{MergedSet}
-use Rattle.widl_overload.specs.Validity.{BreaksValidity, validity_number, validity_rules}
+use Rattle.widl_overload.specs.rules.Validity.{BreaksValidity, validity_number, validity_rules}
 
 -- the first refusal by these rules, or none where all of them are kept
 abbrev pub IsInvalidity : MergedSet → Option Refusal → Type 0

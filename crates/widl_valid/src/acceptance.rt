@@ -3,7 +3,7 @@
 ghost use Rattle.std.specs.Prelude.{◌≡◌, IfOk, IsErrOf, Some};
 ghost use Rattle.widl_idl.specs.MergedSets.{IsMerged};
 ghost use Rattle.widl_idl.specs.declared.refusal.Refusal.{Refusal as RefusalType};
-ghost use Rattle.widl_overload.specs.Validity.{IsValid};
+ghost use Rattle.widl_overload.specs.rules.Validity.{IsValid};
 ghost use Rattle.widl_valid.specs.Invalidity.{IsInvalidity};
 
 use crate::invalidity::find_invalid;

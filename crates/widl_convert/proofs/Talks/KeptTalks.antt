@@ -8,8 +8,8 @@ use Rattle.widl_idl.specs.declared.callee.Part.TheVariants as parts
 use Rattle.widl_idl.specs.declared.interface.Stringify.TheVariants as stringifiers
 use Rattle.widl_idl.specs.DefinitionTerms.{DefsTerm}
 use Rattle.widl_idl.specs.Terms.{UndefinedType}
-use Rattle.widl_overload.specs.Index.{apart_at}
-use Rattle.widl_overload.specs.Sets.{TupleTerm}
+use Rattle.widl_overload.specs.sets.Index.{apart_at}
+use Rattle.widl_overload.specs.sets.Sets.{TupleTerm}
 use Rattle.widl_tables.specs.Kept.{kept_tuples, telling_place}
 use Rattle.widl_convert.proofs.Worked.{place, argument, overload, f, nothing_defined}
 use Rattle.widl_convert.proofs.Talks.ResolutionTalks.{long, text, optional, two, second_tells, both_tell}

@@ -9,7 +9,7 @@ use Rattle.widl_idl.specs.declared.literal.Literal.TheVariants as literals
 use Rattle.widl_idl.specs.declared.text_kind.TextKind.TheVariants as texts
 use Rattle.widl_idl.specs.DefinitionTerms.{DefsTerm}
 use Rattle.widl_idl.specs.Terms.{TypeTerm, AnyType, UndefinedType, BooleanType, IntegerType, StringType, CallbackFunctionType, ObjectType, SequenceType, RecordType}
-use Rattle.widl_overload.specs.Index.{apart_at}
+use Rattle.widl_overload.specs.sets.Index.{apart_at}
 use Rattle.widl_value.specs.declared.value.Value.{Value}
 use Rattle.widl_value.specs.declared.value.Value.TheVariants as values
 use Rattle.widl_value.specs.IdlTerms.{MissingValue, StringValue, ObjectValue}

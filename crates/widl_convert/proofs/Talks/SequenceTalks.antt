@@ -9,7 +9,7 @@ use Rattle.widl_idl.specs.Terms.{TypeTerm, UndefinedType, StringType, SequenceTy
 use Rattle.widl_value.specs.declared.value.Value.{Value}
 use Rattle.widl_value.specs.declared.value.Value.TheVariants as values
 use Rattle.widl_value.specs.IdlTerms.{SequenceValue, StringValue, packed_values}
-use Rattle.widl_overload.specs.Index.{apart_at}
+use Rattle.widl_overload.specs.sets.Index.{apart_at}
 use Rattle.widl_trace.specs.declared.code.Code.TheVariants as code
 use Rattle.widl_convert.specs.AskTerms.{GetAsk, CallAsk, ThrownAnswer}
 use Rattle.widl_convert.specs.Laws.{Said}

@@ -6,7 +6,7 @@ use Rattle.widl_idl.specs.declared.argument.Optionality.TheVariants.{Required}
 use Rattle.widl_idl.specs.declared.text_kind.TextKind.TheVariants as texts
 use Rattle.widl_idl.specs.DefinitionTerms.{DefsTerm}
 use Rattle.widl_idl.specs.Terms.{TypeTerm, packed, UndefinedType, BooleanType, StringType, CallbackFunctionType, DictionaryType, ObjectType, SequenceType, RecordType, NullableType, UnionType}
-use Rattle.widl_overload.specs.Index.{apart_at}
+use Rattle.widl_overload.specs.sets.Index.{apart_at}
 use Rattle.widl_value.specs.Rounding.{near_of, step_of}
 use Rattle.widl_value.specs.declared.object.ObjRef.{ObjRef}
 use Rattle.widl_value.specs.declared.object.Shape.TheVariants as shapes

@@ -5,7 +5,7 @@ ghost use Rattle.widl_first.specs.First.{IsFirst};
 ghost use Rattle.widl_fits.specs.Hierarchies.{IsHierarchy};
 ghost use Rattle.widl_idl.specs.DefinitionTerms.{defs_term};
 ghost use Rattle.widl_lines.specs.TextBreaks.{TextBreak};
-ghost use Rattle.widl_overload.specs.Dictionaries.{dictionary_terms};
+ghost use Rattle.widl_overload.specs.rules.Dictionaries.{dictionary_terms};
 ghost use Rattle.widl_script.specs.BrokenRules.{BreaksBlocks};
 ghost use Rattle.widl_script.specs.LeastBreak.{place_key};
 ghost use Rattle.widl_script.specs.Standings.{standings};

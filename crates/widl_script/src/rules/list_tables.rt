@@ -3,7 +3,7 @@
 ghost use Rattle.std.specs.Prelude.{◌≡◌, [], IfOk};
 ghost use Rattle.widl_fits.specs.Hierarchies.{IsHierarchy};
 ghost use Rattle.widl_idl.specs.DefinitionTerms.{defs_term};
-ghost use Rattle.widl_overload.specs.Dictionaries.{dictionary_terms};
+ghost use Rattle.widl_overload.specs.rules.Dictionaries.{dictionary_terms};
 ghost use Rattle.widl_script.specs.ListLookups.{AreListTables};
 
 use crate::rules::callbacks_and_pairs::CallbackTakes;

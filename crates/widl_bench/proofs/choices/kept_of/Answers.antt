@@ -1,7 +1,7 @@
 use Rattle.std.proofs.Common.{length, ◌<◌, ◌^◌, sym, subst}
 use Rattle.widl_idl.specs.declared.defs.Defs.{Defs}
 use Rattle.widl_idl.specs.DefinitionTerms.{defs_term}
-use Rattle.widl_overload.specs.Entries.{overloads_of}
+use Rattle.widl_overload.specs.sets.Entries.{overloads_of}
 use Rattle.widl_tables.proofs.FewOverloads.{few_overloads}
 use Rattle.widl_bench.proofs.choices.kept_of.Goals as goal
 

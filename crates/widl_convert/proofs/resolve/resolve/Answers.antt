@@ -4,7 +4,7 @@ use Rattle.widl_idl.specs.declared.defs.Defs.{Defs}
 use Rattle.widl_idl.specs.DefinitionTerms.{DefsTerm, defs_term}
 use Rattle.widl_idl.specs.MergedSets.{MergedSet}
 use Rattle.widl_value.specs.IdlTerms.{idl_terms}
-use Rattle.widl_overload.specs.Entries.{overloads_of}
+use Rattle.widl_overload.specs.sets.Entries.{overloads_of}
 use Rattle.widl_tables.proofs.FewOverloads.{few_overloads}
 use Rattle.widl_convert.specs.Entries.{entries_left, left_from, place_in, sole}
 use Rattle.widl_convert.specs.declared.resolution.Resolution.{Resolution}

@@ -1,7 +1,7 @@
 use Rattle.std.proofs.Common.{◌≡◌, false, List, ap, sym, subst, ◌∙◌}
 use Rattle.std.specs.Prelude.{◌+◌, length, IfOk}
 use Rattle.widl_idl.specs.DefinitionTerms.{defs_term}
-use Rattle.widl_overload.specs.Sets.{TupleTerm}
+use Rattle.widl_overload.specs.sets.Sets.{TupleTerm}
 use Rattle.widl_value.specs.IdlTerms.{idl_terms}
 use Rattle.widl_value.specs.declared.value.Value.TheVariants.{Obj}
 use Rattle.widl_tables.specs.Kept.{entries_for}

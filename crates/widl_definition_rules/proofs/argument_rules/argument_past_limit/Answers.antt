@@ -1,7 +1,7 @@
 use Rattle.std.proofs.Common.{rules, sym, subst}
 use Rattle.widl_idl.specs.First.{AtOne, IsFirst}
 use Rattle.widl_idl.specs.PlainTrees.{arguments_of}
-use Rattle.widl_overload.specs.ArgumentRules.{IsArgumentPastLimit}
+use Rattle.widl_overload.specs.rules.ArgumentRules.{IsArgumentPastLimit}
 use Rattle.widl_definition_rules.proofs.ArgumentPlaces.{found_past_limit}
 use Rattle.widl_definition_rules.proofs.argument_rules.argument_past_limit.Goals as goal
 

@@ -1,7 +1,7 @@
 use Rattle.std.proofs.Common.{arith}
 use Rattle.widl_idl.specs.PlainTrees.{PlainArgument, argument_of}
 use Rattle.widl_idl.proofs.Somewhere.{somewhere_none}
-use Rattle.widl_overload.specs.ArgumentRules.{AtEllipsis, FollowsEllipsis}
+use Rattle.widl_overload.specs.rules.ArgumentRules.{AtEllipsis, FollowsEllipsis}
 use Rattle.widl_names.proofs.MappedLoops.{at_one_end, at_one_step, none_at_one, somewhere_step}
 use Rattle.widl_definition_rules.proofs.argument_rules.ellipsis_in.Goals as goal
 

@@ -1,7 +1,7 @@
 use Rattle.std.proofs.Common.{map, take}
 use Rattle.widl_idl.specs.First.{AtOne, FirstWhere, Somewhere}
 use Rattle.widl_idl.specs.PlainTrees.{PlainArgument, argument_of}
-use Rattle.widl_overload.specs.ArgumentRules.{AtEllipsis, FollowsEllipsis}
+use Rattle.widl_overload.specs.rules.ArgumentRules.{AtEllipsis, FollowsEllipsis}
 use Rattle.widl_definition_rules.proofs.argument_rules.ellipsis_in.Given as goal
 
 abbrev pub invariant-loop-argument : goal.invariant-loop-argument

@@ -1,7 +1,7 @@
 use Rattle.std.proofs.Common.{map, take}
 use Rattle.widl_idl.specs.First.{AtOne, FirstWhere, Somewhere}
 use Rattle.widl_idl.specs.PlainTrees.{arguments_of}
-use Rattle.widl_overload.specs.ArgumentRules.{IsArgumentPastLimit}
+use Rattle.widl_overload.specs.rules.ArgumentRules.{IsArgumentPastLimit}
 use Rattle.widl_definition_rules.proofs.argument_rules.first_argument_past_limit.Given as goal
 
 abbrev pub invariant-loop-list : goal.invariant-loop-list

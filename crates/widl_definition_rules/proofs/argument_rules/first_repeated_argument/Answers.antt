@@ -1,7 +1,7 @@
 use Rattle.std.proofs.Common.{arith}
 use Rattle.widl_idl.specs.First.{AtOne}
 use Rattle.widl_idl.specs.PlainTrees.{arguments_of}
-use Rattle.widl_overload.specs.ArgumentRules.{RepeatsArgument}
+use Rattle.widl_overload.specs.rules.ArgumentRules.{RepeatsArgument}
 use Rattle.widl_names.proofs.MappedLoops.{somewhere_end, somewhere_step}
 use Rattle.widl_definition_rules.proofs.argument_rules.first_repeated_argument.Goals as goal
 

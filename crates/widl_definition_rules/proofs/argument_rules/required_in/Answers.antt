@@ -1,6 +1,6 @@
 use Rattle.std.proofs.Common.{arith, ◌||◌, ap, map, refl, take}
 use Rattle.widl_idl.specs.PlainTrees.{PlainArgument, argument_of}
-use Rattle.widl_overload.specs.ArgumentRules.{FollowsOptional, is_optional}
+use Rattle.widl_overload.specs.rules.ArgumentRules.{FollowsOptional, is_optional}
 use Rattle.widl_definition_rules.proofs.ArgumentPlaces.{required_here}
 use Rattle.widl_names.proofs.MappedLoops.{any_step, at_one_end, at_one_step, none_at_one}
 use Rattle.widl_definition_rules.proofs.argument_rules.required_in.Goals as goal

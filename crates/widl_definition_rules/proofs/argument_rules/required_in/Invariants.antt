@@ -2,7 +2,7 @@ use Rattle.std.proofs.Common.{◌≡◌, map, take}
 use Rattle.std.specs.List.{list_any}
 use Rattle.widl_idl.specs.First.{AtOne, FirstWhere}
 use Rattle.widl_idl.specs.PlainTrees.{PlainArgument, argument_of}
-use Rattle.widl_overload.specs.ArgumentRules.{FollowsOptional, is_optional}
+use Rattle.widl_overload.specs.rules.ArgumentRules.{FollowsOptional, is_optional}
 use Rattle.widl_definition_rules.proofs.argument_rules.required_in.Given as goal
 
 abbrev pub invariant-loop-argument : goal.invariant-loop-argument

@@ -3,8 +3,8 @@ use Rattle.widl_idl.specs.declared.violation.Violation.{Violation}
 use Rattle.widl_idl.specs.First.{AtOne, FirstWhere, Somewhere}
 use Rattle.widl_idl.specs.PlainTrees.{PlainArgument, definition_of}
 use Rattle.widl_idl.proofs.Steps.{first_rule, no_rules}
-use Rattle.widl_overload.specs.ArgumentRules.{FollowsEllipsis, FollowsOptional, IsArgumentPastLimit, RepeatsArgument, lists_in_definition}
-use Rattle.widl_overload.specs.Validity.{validity_number}
+use Rattle.widl_overload.specs.rules.ArgumentRules.{FollowsEllipsis, FollowsOptional, IsArgumentPastLimit, RepeatsArgument, lists_in_definition}
+use Rattle.widl_overload.specs.rules.Validity.{validity_number}
 use Rattle.widl_overload.specs.declared.validity_rule.ValidityRule.TheVariants as rule
 use Rattle.widl_inheritance.specs.WrittenLists.{listed_arguments}
 use Rattle.widl_definition_rules.specs.DefinitionRefusals.{BreaksDefinition, InItsLists}

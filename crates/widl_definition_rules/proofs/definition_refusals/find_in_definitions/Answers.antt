@@ -2,7 +2,7 @@ use Rattle.std.proofs.Common.{arith, refl}
 use Rattle.widl_idl.specs.FirstRefusal.{violation_of}
 use Rattle.widl_idl.specs.PlainTrees.{definition_of}
 use Rattle.widl_names.specs.Listings.{listed_definitions}
-use Rattle.widl_overload.specs.Validity.{BreaksRule}
+use Rattle.widl_overload.specs.rules.Validity.{BreaksRule}
 use Rattle.widl_definition_rules.specs.DefinitionRefusals.{BreaksDefinition, DefinitionsBreak, definition_rules}
 use Rattle.widl_definition_rules.proofs.DefinitionRefusals.{definition_pushed, no_definitions}
 use Rattle.widl_refusals.proofs.FirstRefusals.{all_items, next_item, same_rules}

@@ -1,7 +1,7 @@
 use Rattle.std.proofs.Common.{sym, subst}
 use Rattle.widl_idl.specs.First.{FirstWhere, Somewhere}
 use Rattle.widl_idl.specs.PlainTrees.{PlainMember, definition_kind_of, members_of}
-use Rattle.widl_overload.specs.DefinitionRules.{HasMisformed, IsMisformed}
+use Rattle.widl_overload.specs.rules.DefinitionRules.{HasMisformed, IsMisformed}
 use Rattle.widl_definition_rules.proofs.definition_rules.first_misformed_operation.Goals as goal
 
 pub returns-in-CallbackInterface : goal.returns-in-CallbackInterface

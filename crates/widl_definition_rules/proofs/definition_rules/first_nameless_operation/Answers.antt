@@ -1,7 +1,7 @@
 use Rattle.std.proofs.Common.{subst}
 use Rattle.widl_idl.specs.First.{FirstWhere, Somewhere}
 use Rattle.widl_idl.specs.PlainTrees.{PlainMember}
-use Rattle.widl_overload.specs.DefinitionRules.{IsNameless}
+use Rattle.widl_overload.specs.rules.DefinitionRules.{IsNameless}
 use Rattle.widl_definition_rules.proofs.definition_rules.first_nameless_operation.Goals as goal
 
 pub returns : goal.returns

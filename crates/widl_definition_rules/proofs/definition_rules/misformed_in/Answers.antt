@@ -1,6 +1,6 @@
 use Rattle.std.proofs.Common.{arith}
 use Rattle.widl_idl.specs.PlainTrees.{PlainMember, member_of}
-use Rattle.widl_overload.specs.DefinitionRules.{IsMisformed}
+use Rattle.widl_overload.specs.rules.DefinitionRules.{IsMisformed}
 use Rattle.widl_names.proofs.MappedLoops.{somewhere_end, somewhere_step}
 use Rattle.widl_definition_rules.proofs.definition_rules.misformed_in.Goals as goal
 

@@ -1,6 +1,6 @@
 use Rattle.std.proofs.Common.{◌≡◌, ◌++◌, take}
 use Rattle.widl_idl.specs.PlainTrees.{members_of}
-use Rattle.widl_overload.specs.ArgumentRules.{lists_in_members}
+use Rattle.widl_overload.specs.rules.ArgumentRules.{lists_in_members}
 use Rattle.widl_inheritance.specs.WrittenLists.{listed_arguments}
 use Rattle.widl_inheritance.proofs.argument_lists.add_members.Given as goal
 

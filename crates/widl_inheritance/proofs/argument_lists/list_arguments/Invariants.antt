@@ -1,6 +1,6 @@
 use Rattle.std.proofs.Common.{◌≡◌, take}
 use Rattle.widl_names.specs.Listings.{listed_definitions}
-use Rattle.widl_overload.specs.ArgumentRules.{argument_lists_of}
+use Rattle.widl_overload.specs.rules.ArgumentRules.{argument_lists_of}
 use Rattle.widl_inheritance.specs.WrittenLists.{listed_arguments}
 use Rattle.widl_inheritance.proofs.argument_lists.list_arguments.Given as goal
 

@@ -1,7 +1,7 @@
 use Rattle.std.proofs.Common.{arith, refl}
 use Rattle.widl_idl.specs.PlainTrees.{plain_definitions}
 use Rattle.widl_names.proofs.Mapped.{all_somewhere, next_somewhere}
-use Rattle.widl_overload.specs.DefaultRules.{IsOtherDefault}
+use Rattle.widl_overload.specs.rules.DefaultRules.{IsOtherDefault}
 use Rattle.widl_inheritance.specs.WrittenDefaults.{defaulted_of, listed_defaults}
 use Rattle.widl_inheritance.proofs.defaults.first_other.Goals as goal
 

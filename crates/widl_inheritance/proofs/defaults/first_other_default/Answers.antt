@@ -3,7 +3,7 @@ use Rattle.std.proofs.lemmas.Result.{IfOk-weaker}
 use Rattle.widl_idl.specs.DefinitionTerms.{defs_term}
 use Rattle.widl_idl.specs.First.{FirstWhere, Somewhere}
 use Rattle.widl_idl.specs.PlainTrees.{plain_definitions}
-use Rattle.widl_overload.specs.DefaultRules.{IsOtherDefault, defaults_of}
+use Rattle.widl_overload.specs.rules.DefaultRules.{IsOtherDefault, defaults_of}
 use Rattle.widl_inheritance.specs.WrittenDefaults.{listed_defaults}
 use Rattle.widl_inheritance.proofs.defaults.first_other_default.Goals as goal
 

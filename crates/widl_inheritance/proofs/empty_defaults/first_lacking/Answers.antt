@@ -1,7 +1,7 @@
 use Rattle.std.proofs.Common.{arith, refl}
 use Rattle.widl_idl.specs.PlainTrees.{arguments_of, plain_definitions}
 use Rattle.widl_names.proofs.Mapped.{all_somewhere, next_somewhere}
-use Rattle.widl_overload.specs.DefaultRules.{LacksEmptyDefault}
+use Rattle.widl_overload.specs.rules.DefaultRules.{LacksEmptyDefault}
 use Rattle.widl_inheritance.specs.WrittenLists.{listed_arguments}
 use Rattle.widl_inheritance.proofs.empty_defaults.first_lacking.Goals as goal
 

@@ -2,7 +2,7 @@ use Rattle.std.proofs.Common.{take}
 use Rattle.widl_idl.specs.DefinitionTerms.{DefsTerm}
 use Rattle.widl_idl.specs.First.{FirstWhere, Somewhere}
 use Rattle.widl_idl.specs.PlainTrees.{plain_definitions}
-use Rattle.widl_overload.specs.DefaultRules.{LacksEmptyDefault}
+use Rattle.widl_overload.specs.rules.DefaultRules.{LacksEmptyDefault}
 use Rattle.widl_fits.specs.Fitting.{KnowsRequired}
 use Rattle.widl_inheritance.specs.WrittenLists.{listed_arguments}
 use Rattle.widl_inheritance.proofs.empty_defaults.first_lacking.Given as goal

@@ -3,8 +3,8 @@ use Rattle.std.proofs.lemmas.Result.{IfOk-weaker}
 use Rattle.widl_idl.specs.DefinitionTerms.{defs_term}
 use Rattle.widl_idl.specs.First.{FirstWhere, Somewhere}
 use Rattle.widl_idl.specs.PlainTrees.{plain_definitions}
-use Rattle.widl_overload.specs.ArgumentRules.{argument_lists_of}
-use Rattle.widl_overload.specs.DefaultRules.{LacksEmptyDefault}
+use Rattle.widl_overload.specs.rules.ArgumentRules.{argument_lists_of}
+use Rattle.widl_overload.specs.rules.DefaultRules.{LacksEmptyDefault}
 use Rattle.widl_inheritance.specs.WrittenLists.{listed_arguments}
 use Rattle.widl_inheritance.proofs.empty_defaults.first_without_empty_default.Goals as goal
 

@@ -1,6 +1,6 @@
 use Rattle.std.proofs.Common.{arith}
 use Rattle.widl_idl.specs.Terms.{type_term}
-use Rattle.widl_overload.specs.Dictionaries.{dictionaries_in}
+use Rattle.widl_overload.specs.rules.Dictionaries.{dictionaries_in}
 use Rattle.widl_inheritance.proofs.HoldingNodes.{union_inside}
 use Rattle.widl_names.proofs.Listed.{listed_all}
 use Rattle.widl_inheritance.proofs.holding.+inside.Goals as goal

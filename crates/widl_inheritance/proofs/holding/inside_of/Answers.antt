@@ -1,7 +1,7 @@
 use Rattle.std.proofs.Common.{arith, flat_map, ap, ◌∙◌}
 use Rattle.std.proofs.lemmas.List.{take_all}
 use Rattle.widl_idl.specs.Terms.{type_term}
-use Rattle.widl_overload.specs.Dictionaries.{dictionaries_in}
+use Rattle.widl_overload.specs.rules.Dictionaries.{dictionaries_in}
 use Rattle.widl_inheritance.proofs.HoldingNodes.{members_inside}
 use Rattle.widl_inheritance.proofs.holding.inside_of.Goals as goal
 

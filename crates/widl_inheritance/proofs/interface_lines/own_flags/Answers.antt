@@ -2,7 +2,7 @@ use Rattle.std.proofs.Common.{arith, refl}
 use Rattle.widl_idl.specs.PlainTrees.{plain_definitions}
 use Rattle.widl_inheritance.proofs.MemberFlags.{flags_all}
 use Rattle.widl_inheritance.proofs.NumberedMembers.{all_counted}
-use Rattle.widl_overload.specs.IterableRules.{has_iterable, has_iteration_name}
+use Rattle.widl_overload.specs.rules.IterableRules.{has_iterable, has_iteration_name}
 use Rattle.widl_inheritance.proofs.interface_lines.own_flags.Goals as goal
 
 pub returns-clause-iterable : goal.returns-clause-iterable

@@ -1,6 +1,6 @@
 use Rattle.widl_idl.specs.PlainTrees.{plain_definitions}
 use Rattle.widl_inheritance.proofs.MemberFlags.{TellsFirst}
-use Rattle.widl_overload.specs.IterableRules.{has_iterable, has_iteration_name}
+use Rattle.widl_overload.specs.rules.IterableRules.{has_iterable, has_iteration_name}
 use Rattle.widl_inheritance.proofs.interface_lines.own_flags.Given as goal
 
 abbrev pub invariant-loop-number : goal.invariant-loop-number

@@ -4,7 +4,7 @@ use Rattle.widl_idl.specs.PlainTrees.{plain_definitions}
 use Rattle.widl_inheritance.specs.InterfaceMembers.{members_at}
 use Rattle.widl_inheritance.specs.Iterations.{FollowsIterable, IsHiding}
 use Rattle.widl_inheritance.proofs.IterationSteps.{none_follows, none_hiding}
-use Rattle.widl_overload.specs.IterableRules.{has_iterable}
+use Rattle.widl_overload.specs.rules.IterableRules.{has_iterable}
 use Rattle.widl_inheritance.proofs.iterables.find_in_interface.Goals as goal
 use Rattle.widl_names.specs.Listings.{listed_members}
 

@@ -1,6 +1,6 @@
 use Rattle.std.proofs.Common.{◌≡◌, take}
 use Rattle.widl_names.specs.Listings.{listed_members}
-use Rattle.widl_overload.specs.IterableRules.{has_iterable}
+use Rattle.widl_overload.specs.rules.IterableRules.{has_iterable}
 use Rattle.widl_inheritance.proofs.iterations.has_iterable.Given as goal
 
 abbrev pub invariant-loop-member : goal.invariant-loop-member

@@ -1,7 +1,7 @@
 use Rattle.std.proofs.Common.{arith, take, Bor}
 use Rattle.widl_idl.specs.declared.tree.members.Member.{Member}
 use Rattle.widl_idl.specs.PlainTrees.{member_of}
-use Rattle.widl_overload.specs.MemberRules.{HasKeptName}
+use Rattle.widl_overload.specs.rules.MemberRules.{HasKeptName}
 use Rattle.widl_names.specs.Listings.{listed_members}
 use Rattle.widl_names.proofs.MappedLoops.{at_one_end, at_one_step, none_at_one}
 use Rattle.widl_member_rules.proofs.NamedViolations.{kept_first}

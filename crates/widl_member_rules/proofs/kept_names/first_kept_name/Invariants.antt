@@ -1,6 +1,6 @@
 use Rattle.std.proofs.Common.{take}
 use Rattle.widl_idl.specs.First.{AtOne, FirstWhere}
-use Rattle.widl_overload.specs.MemberRules.{HasKeptName}
+use Rattle.widl_overload.specs.rules.MemberRules.{HasKeptName}
 use Rattle.widl_names.specs.Listings.{listed_members}
 use Rattle.widl_member_rules.proofs.kept_names.first_kept_name.Given as goal
 

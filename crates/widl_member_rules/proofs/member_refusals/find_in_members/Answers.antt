@@ -3,7 +3,7 @@ use Rattle.widl_idl.specs.PlainTrees.{plain_definitions}
 use Rattle.widl_idl.specs.Nodes.{nodes_of}
 use Rattle.widl_names.specs.Listings.{listed_definitions}
 use Rattle.widl_names.proofs.NameMeanings.{all_plain}
-use Rattle.widl_overload.specs.Validity.{BreaksRule}
+use Rattle.widl_overload.specs.rules.Validity.{BreaksRule}
 use Rattle.widl_member_rules.specs.MemberRefusals.{ByEither, ByOwner, ByType, member_rules}
 use Rattle.widl_member_rules.specs.MemberTypes.{NodesBreak}
 use Rattle.widl_refusals.specs.Refusals.{IsFirst}

@@ -2,7 +2,7 @@ use Rattle.std.proofs.Common.{None, refl}
 use Rattle.widl_idl.specs.PlainTrees.{member_kind_of, plain_definitions}
 use Rattle.widl_idl.specs.Nodes.{MemberNode}
 use Rattle.widl_idl.proofs.Steps.{first_rule, no_rules}
-use Rattle.widl_overload.specs.Validity.{validity_number}
+use Rattle.widl_overload.specs.rules.Validity.{validity_number}
 use Rattle.widl_overload.specs.declared.validity_rule.ValidityRule.TheVariants as rule
 use Rattle.widl_member_rules.specs.MemberTypes.{BreaksNode}
 use Rattle.widl_refusals.proofs.FirstRefusals.{Breaking}

@@ -1,7 +1,7 @@
 use Rattle.std.proofs.Common.{None, refl}
 use Rattle.widl_idl.proofs.Steps.{first_rule, no_rules}
-use Rattle.widl_overload.specs.MemberRules.{HasOverloadPastLimit, MixesPromises, RepeatsMember, has_members_of_its_own}
-use Rattle.widl_overload.specs.Validity.{validity_number}
+use Rattle.widl_overload.specs.rules.MemberRules.{HasOverloadPastLimit, MixesPromises, RepeatsMember, has_members_of_its_own}
+use Rattle.widl_overload.specs.rules.Validity.{validity_number}
 use Rattle.widl_overload.specs.declared.validity_rule.ValidityRule.TheVariants as rule
 use Rattle.widl_names.specs.Listings.{listed_members}
 use Rattle.widl_member_rules.specs.Owners.{MembersBreak}

@@ -1,5 +1,5 @@
 use Rattle.std.proofs.Common.{sym, ◌∙◌}
-use Rattle.widl_overload.specs.MemberRules.{HasKeptName, is_interface_kind}
+use Rattle.widl_overload.specs.rules.MemberRules.{HasKeptName, is_interface_kind}
 use Rattle.widl_names.specs.Listings.{listed_members}
 use Rattle.widl_member_rules.proofs.OwnerRefusals.{asked_first}
 use Rattle.widl_member_rules.proofs.owners.find_kept_name.Goals as goal

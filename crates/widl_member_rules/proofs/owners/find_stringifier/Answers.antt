@@ -1,5 +1,5 @@
 use Rattle.std.proofs.Common.{sym, ◌∙◌}
-use Rattle.widl_overload.specs.MemberRules.{IsSecondStringifier, is_interface_kind}
+use Rattle.widl_overload.specs.rules.MemberRules.{IsSecondStringifier, is_interface_kind}
 use Rattle.widl_names.specs.Listings.{listed_members}
 use Rattle.widl_member_rules.proofs.OwnerRefusals.{asked_first}
 use Rattle.widl_member_rules.proofs.owners.find_stringifier.Goals as goal

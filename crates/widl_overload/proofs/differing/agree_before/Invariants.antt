@@ -1,6 +1,6 @@
 use Rattle.std.proofs.Common.{map}
 use Rattle.widl_idl.specs.DefinitionTerms.{sig_term}
-use Rattle.widl_overload.specs.Numbers.{NumbersAgreeBefore}
+use Rattle.widl_overload.specs.sets.Numbers.{NumbersAgreeBefore}
 use Rattle.widl_overload.proofs.differing.agree_before.Given as goal
 
 abbrev pub invariant-loop-place : goal.invariant-loop-place

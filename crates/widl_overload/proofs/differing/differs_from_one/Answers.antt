@@ -3,7 +3,7 @@ use Rattle.std.specs.List.{All}
 use Rattle.std.proofs.lemmas.List.{take_all}
 use Rattle.std.proofs.lemmas.List.Elements.{All-more}
 use Rattle.widl_idl.specs.DefinitionTerms.{sig_term}
-use Rattle.widl_overload.specs.Numbers.{NumbersAgreeBefore}
+use Rattle.widl_overload.specs.sets.Numbers.{NumbersAgreeBefore}
 use Rattle.widl_overload.proofs.DifferingTuples.{when_true}
 use Rattle.widl_overload.proofs.differing.differs_from_one.Goals as goal
 

@@ -1,7 +1,7 @@
 use Rattle.std.proofs.Common.{take, map}
 use Rattle.std.specs.List.{All}
 use Rattle.widl_idl.specs.DefinitionTerms.{sig_term}
-use Rattle.widl_overload.specs.Numbers.{NumbersAgreeBefore}
+use Rattle.widl_overload.specs.sets.Numbers.{NumbersAgreeBefore}
 use Rattle.widl_overload.proofs.differing.differs_from_one.Given as goal
 
 abbrev pub invariant-loop-other : goal.invariant-loop-other

@@ -2,7 +2,7 @@ use Rattle.std.proofs.Common.{◌≡◌, true, false, map, sym, ap, ◌∙◌, a
 use Rattle.std.specs.List.{list_any}
 use Rattle.widl_idl.specs.Flattened.{flattened_member, flattened_members}
 use Rattle.widl_idl.specs.Terms.{packed, type_term}
-use Rattle.widl_overload.specs.Distinct.{is_dictionary}
+use Rattle.widl_overload.specs.sets.Distinct.{is_dictionary}
 use Rattle.widl_overload.proofs.Walks.{found_at, none_more}
 use Rattle.widl_overload.proofs.distinct.+dictionary.Goals as goal
 

@@ -3,7 +3,7 @@ use Rattle.std.specs.List.{list_all}
 use Rattle.widl_idl.specs.DefinitionTerms.{iface_term}
 use Rattle.widl_idl.specs.Flattened.{flattened_member, flattened_members}
 use Rattle.widl_idl.specs.Terms.{packed, type_term}
-use Rattle.widl_overload.specs.Pairs.{each_apart}
+use Rattle.widl_overload.specs.sets.Pairs.{each_apart}
 use Rattle.widl_overload.proofs.distinct.+pairs.Given as goal
 
 abbrev pub invariant-all_members_apart-loop-member : goal.invariant-all_members_apart-loop-member

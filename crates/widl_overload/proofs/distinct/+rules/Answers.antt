@@ -4,8 +4,8 @@ use Rattle.std.specs.Option.{option_copied, option_map}
 use Rattle.std.proofs.lemmas.List.{take_all}
 use Rattle.widl_idl.specs.DefinitionTerms.{iface_term}
 use Rattle.widl_idl.specs.Terms.{type_term, type_terms}
-use Rattle.widl_overload.specs.Distinct.{distinguishable}
-use Rattle.widl_overload.specs.Pairs.{apart_from, listed_terms, second_members}
+use Rattle.widl_overload.specs.sets.Distinct.{distinguishable}
+use Rattle.widl_overload.specs.sets.Pairs.{apart_from, listed_terms, second_members}
 use Rattle.widl_overload.proofs.Closed.{other_told}
 use Rattle.widl_overload.proofs.Ruled.{clash_told, left_told, listed_packed}
 use Rattle.widl_overload.proofs.Walks.{term_fails, term_more}

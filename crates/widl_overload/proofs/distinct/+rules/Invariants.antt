@@ -2,8 +2,8 @@ use Rattle.std.proofs.Common.{◌≡◌, take, map, true}
 use Rattle.std.specs.List.{list_all}
 use Rattle.widl_idl.specs.DefinitionTerms.{iface_term}
 use Rattle.widl_idl.specs.Terms.{type_term}
-use Rattle.widl_overload.specs.Distinct.{distinguishable}
-use Rattle.widl_overload.specs.Pairs.{apart_from}
+use Rattle.widl_overload.specs.sets.Distinct.{distinguishable}
+use Rattle.widl_overload.specs.sets.Pairs.{apart_from}
 use Rattle.widl_overload.proofs.distinct.+rules.Given as goal
 
 abbrev pub invariant-each_apart_from-loop-member : goal.invariant-each_apart_from-loop-member

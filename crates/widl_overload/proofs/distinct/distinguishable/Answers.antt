@@ -2,8 +2,8 @@ use Rattle.std.proofs.Common.{◌≡◌, false, map, Some, sym, ap, ◌∙◌}
 use Rattle.std.specs.Option.{option_copied, option_map}
 use Rattle.widl_idl.specs.DefinitionTerms.{iface_term}
 use Rattle.widl_idl.specs.Terms.{type_term}
-use Rattle.widl_overload.specs.Distinct.{distinguishable}
-use Rattle.widl_overload.specs.Pairs.{listed_terms, second_members}
+use Rattle.widl_overload.specs.sets.Distinct.{distinguishable}
+use Rattle.widl_overload.specs.sets.Pairs.{listed_terms, second_members}
 use Rattle.widl_overload.proofs.Closed.{other_told}
 use Rattle.widl_overload.proofs.Ruled.{left_told, listed_packed}
 use Rattle.widl_overload.proofs.distinct.distinguishable.Goals as goal

@@ -1,5 +1,5 @@
 use Rattle.std.proofs.Common.{◌≡◌, ◌≤◌, take, length}
-use Rattle.widl_overload.specs.Index.{terms_of_length}
+use Rattle.widl_overload.specs.sets.Index.{terms_of_length}
 use Rattle.widl_overload.proofs.index.are_several.Given as goal
 
 abbrev pub invariant-loop-tuple : goal.invariant-loop-tuple

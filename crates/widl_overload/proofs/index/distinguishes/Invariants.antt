@@ -1,6 +1,6 @@
 use Rattle.std.proofs.Common.{◌≡◌, drop}
 use Rattle.widl_idl.specs.DefinitionTerms.{defs_term}
-use Rattle.widl_overload.specs.Index.{apart_at, each_two, terms_of_length}
+use Rattle.widl_overload.specs.sets.Index.{apart_at, each_two, terms_of_length}
 use Rattle.widl_overload.proofs.index.distinguishes.Given as goal
 
 abbrev pub invariant-loop-number : goal.invariant-loop-number

@@ -1,5 +1,5 @@
 use Rattle.std.proofs.Common.{◌≡◌, ◌≤◌, drop, length, []}
-use Rattle.widl_overload.specs.Index.{terms_of_length}
+use Rattle.widl_overload.specs.sets.Index.{terms_of_length}
 use Rattle.widl_overload.proofs.index.end_of_run.Given as goal
 
 abbrev pub invariant-loop-end : goal.invariant-loop-end

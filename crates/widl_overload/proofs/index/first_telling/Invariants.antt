@@ -1,6 +1,6 @@
 use Rattle.std.proofs.Common.{◌≡◌, ℕ, ◌<◌, false}
 use Rattle.widl_idl.specs.DefinitionTerms.{defs_term}
-use Rattle.widl_overload.specs.Index.{apart_at, each_two, terms_of_length}
+use Rattle.widl_overload.specs.sets.Index.{apart_at, each_two, terms_of_length}
 use Rattle.widl_overload.proofs.index.first_telling.Given as goal
 
 abbrev pub invariant-loop-place : goal.invariant-loop-place

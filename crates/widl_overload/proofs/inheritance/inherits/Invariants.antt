@@ -1,6 +1,6 @@
 use Rattle.std.proofs.Common.{◌≡◌, ◌-◌, length, map}
 use Rattle.widl_idl.specs.DefinitionTerms.{iface_term}
-use Rattle.widl_overload.specs.Inheritance.{inherits, is_among}
+use Rattle.widl_overload.specs.sets.Inheritance.{inherits, is_among}
 use Rattle.widl_overload.proofs.inheritance.inherits.Given as goal
 
 abbrev pub invariant-loop-link : goal.invariant-loop-link

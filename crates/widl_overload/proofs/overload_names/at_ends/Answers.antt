@@ -3,9 +3,9 @@ use Rattle.std.specs.Prelude.{Some, option_map, slice_get}
 use Rattle.std.proofs.lemmas.List.{length-map}
 use Rattle.std.proofs.lemmas.Option.{slice_get-map}
 use Rattle.widl_idl.specs.DefinitionTerms.{sig_term}
-use Rattle.widl_overload.specs.OverloadNames.{number_of}
-use Rattle.widl_overload.specs.OverloadRules.{AtOverloads}
-use Rattle.widl_overload.specs.OverloadViolations.{IsOnlyViolation}
+use Rattle.widl_overload.specs.sets.OverloadNames.{number_of}
+use Rattle.widl_overload.specs.rules.OverloadRules.{AtOverloads}
+use Rattle.widl_overload.specs.rules.OverloadViolations.{IsOnlyViolation}
 use Rattle.widl_overload.proofs.OnlyViolations.{names_only, violation}
 use Rattle.widl_overload.proofs.overload_names.at_ends.Goals as goal
 

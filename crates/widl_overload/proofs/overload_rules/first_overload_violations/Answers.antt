@@ -1,7 +1,7 @@
 use Rattle.std.proofs.Common.{subst, map}
 use Rattle.widl_idl.specs.DefinitionTerms.{defs_term, iface_term, space_term}
-use Rattle.widl_overload.specs.OverloadLists.{lists_of_interfaces, lists_of_namespaces}
-use Rattle.widl_overload.specs.OverloadViolations.{AreViolationsIn}
+use Rattle.widl_overload.specs.sets.OverloadLists.{lists_of_interfaces, lists_of_namespaces}
+use Rattle.widl_overload.specs.rules.OverloadViolations.{AreViolationsIn}
 use Rattle.widl_overload.proofs.ViolationSteps.{violations_both}
 use Rattle.widl_overload.proofs.overload_rules.first_overload_violations.Goals as goal
 

@@ -1,8 +1,8 @@
 use Rattle.std.proofs.Common.{subst, map, sym}
 use Rattle.widl_idl.specs.DefinitionTerms.{defs_term, op_name_term, sig_term}
-use Rattle.widl_overload.specs.OverloadRules.{operation_lists}
-use Rattle.widl_overload.specs.OverloadViolations.{AreViolationsAt, AreViolationsIn}
-use Rattle.widl_overload.specs.Sets.{AreNumbered}
+use Rattle.widl_overload.specs.rules.OverloadRules.{operation_lists}
+use Rattle.widl_overload.specs.rules.OverloadViolations.{AreViolationsAt, AreViolationsIn}
+use Rattle.widl_overload.specs.sets.Sets.{AreNumbered}
 use Rattle.widl_overload.proofs.Numbered.{sigs_numbered}
 use Rattle.widl_overload.proofs.ViolationSteps.{violations_before}
 use Rattle.widl_overload.proofs.overload_rules.violations_in_interface.Goals as goal

@@ -1,7 +1,7 @@
 use Rattle.std.proofs.Common.{arith, subst, sym, map}
 use Rattle.widl_idl.specs.DefinitionTerms.{defs_term, iface_term}
-use Rattle.widl_overload.specs.OverloadLists.{lists_of_interfaces}
-use Rattle.widl_overload.specs.OverloadViolations.{AreViolationsIn}
+use Rattle.widl_overload.specs.sets.OverloadLists.{lists_of_interfaces}
+use Rattle.widl_overload.specs.rules.OverloadViolations.{AreViolationsIn}
 use Rattle.widl_overload.proofs.ViolationSteps.{interfaces_joined, one_interface, violations_all, violations_next}
 use Rattle.widl_overload.proofs.overload_rules.violations_in_interfaces.Goals as goal
 

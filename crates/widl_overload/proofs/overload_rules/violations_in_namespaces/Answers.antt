@@ -1,8 +1,8 @@
 use Rattle.std.proofs.Common.{arith, subst, sym, ap, ◌∙◌, map}
 use Rattle.widl_idl.specs.DefinitionTerms.{defs_term, op_name_term, space_term}
-use Rattle.widl_overload.specs.OverloadLists.{lists_of_namespaces}
-use Rattle.widl_overload.specs.OverloadRules.{operation_lists}
-use Rattle.widl_overload.specs.OverloadViolations.{AreViolationsIn}
+use Rattle.widl_overload.specs.sets.OverloadLists.{lists_of_namespaces}
+use Rattle.widl_overload.specs.rules.OverloadRules.{operation_lists}
+use Rattle.widl_overload.specs.rules.OverloadViolations.{AreViolationsIn}
 use Rattle.widl_overload.proofs.ViolationSteps.{namespaces_joined, one_namespace, violations_all, violations_next}
 use Rattle.widl_overload.proofs.overload_rules.violations_in_namespaces.Goals as goal
 

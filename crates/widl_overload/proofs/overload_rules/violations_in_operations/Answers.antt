@@ -1,6 +1,6 @@
 use Rattle.std.proofs.Common.{arith, map}
 use Rattle.widl_idl.specs.DefinitionTerms.{defs_term, op_name_term}
-use Rattle.widl_overload.specs.OverloadRules.{operation_lists}
+use Rattle.widl_overload.specs.rules.OverloadRules.{operation_lists}
 use Rattle.widl_overload.proofs.ViolationSteps.{operations_joined, violations_all, violations_next}
 use Rattle.widl_overload.proofs.overload_rules.violations_in_operations.Goals as goal
 

@@ -2,8 +2,8 @@ use Rattle.std.proofs.Common.{◌≡◌, length, arith, subst, map, sym}
 use Rattle.std.specs.Prelude.{IfOk}
 use Rattle.std.proofs.lemmas.Result.{IfOk-weaker}
 use Rattle.widl_idl.specs.DefinitionTerms.{defs_term, op_name_term, sig_term}
-use Rattle.widl_overload.specs.OverloadViolations.{AreViolationsAt}
-use Rattle.widl_overload.specs.Sets.{AreNumbered}
+use Rattle.widl_overload.specs.rules.OverloadViolations.{AreViolationsAt}
+use Rattle.widl_overload.specs.sets.Sets.{AreNumbered}
 use Rattle.widl_overload.proofs.Numbered.{sigs_numbered}
 use Rattle.widl_overload.proofs.ViolationSteps.{violations_of_named}
 use Rattle.widl_overload.proofs.overload_rules.violations_of_operation.Goals as goal

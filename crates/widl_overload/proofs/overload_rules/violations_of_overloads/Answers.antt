@@ -1,8 +1,8 @@
 use Rattle.std.proofs.Common.{arith, subst, sym, map}
 use Rattle.std.proofs.lemmas.List.{length-map}
 use Rattle.widl_idl.specs.DefinitionTerms.{defs_term, sig_term}
-use Rattle.widl_overload.specs.OverloadRules.{DifferEarly, LacksIndex}
-use Rattle.widl_overload.specs.Spans.{AreSpans}
+use Rattle.widl_overload.specs.rules.OverloadRules.{DifferEarly, LacksIndex}
+use Rattle.widl_overload.specs.sets.Spans.{AreSpans}
 use Rattle.widl_overload.proofs.OnlyViolations.{callee_violation}
 use Rattle.widl_overload.proofs.ViolationSteps.{none_indistinguishable_beyond, none_early_beyond, violations_of_few}
 use Rattle.widl_overload.proofs.overload_rules.violations_of_overloads.Goals as goal

@@ -1,8 +1,8 @@
 use Rattle.std.proofs.Common.{◌≡◌, ◌≤◌, ◌+◌, ◌-◌, arith, subst, map}
 use Rattle.widl_idl.specs.DefinitionTerms.{defs_term, sig_term}
-use Rattle.widl_overload.specs.Numbers.{IsRow}
-use Rattle.widl_overload.specs.OverloadRules.{DifferEarly, LacksIndex}
-use Rattle.widl_overload.specs.Sets.{effective_tuples, longest}
+use Rattle.widl_overload.specs.sets.Numbers.{IsRow}
+use Rattle.widl_overload.specs.rules.OverloadRules.{DifferEarly, LacksIndex}
+use Rattle.widl_overload.specs.sets.Sets.{effective_tuples, longest}
 use Rattle.widl_overload.proofs.DifferingTuples.{smallest_all, smallest_more}
 use Rattle.widl_overload.proofs.Rows.{early, lacks, row_of}
 use Rattle.widl_overload.proofs.overload_sizes.breaking_lengths.Goals as goal

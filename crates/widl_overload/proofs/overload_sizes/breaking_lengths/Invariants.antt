@@ -1,10 +1,10 @@
 use Rattle.std.proofs.Common.{◌-◌, map}
 use Rattle.widl_idl.specs.DefinitionTerms.{defs_term, sig_term}
-use Rattle.widl_overload.specs.Numbers.{IsRow}
-use Rattle.widl_overload.specs.OverloadRules.{DifferEarly, LacksIndex}
-use Rattle.widl_overload.specs.OverloadViolations.{IsSmallestBelow}
-use Rattle.widl_overload.specs.Sets.{effective_tuples}
-use Rattle.widl_overload.specs.Spans.{AreListed}
+use Rattle.widl_overload.specs.sets.Numbers.{IsRow}
+use Rattle.widl_overload.specs.rules.OverloadRules.{DifferEarly, LacksIndex}
+use Rattle.widl_overload.specs.rules.OverloadViolations.{IsSmallestBelow}
+use Rattle.widl_overload.specs.sets.Sets.{effective_tuples}
+use Rattle.widl_overload.specs.sets.Spans.{AreListed}
 use Rattle.widl_overload.proofs.overload_sizes.breaking_lengths.Given as goal
 
 abbrev pub invariant-loop-m : goal.invariant-loop-m

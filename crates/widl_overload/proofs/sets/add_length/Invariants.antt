@@ -1,6 +1,6 @@
 use Rattle.std.proofs.Common.{◌≡◌, ◌++◌, drop, map}
 use Rattle.widl_idl.specs.DefinitionTerms.{sig_term}
-use Rattle.widl_overload.specs.Sets.{of_length, tuples_in}
+use Rattle.widl_overload.specs.sets.Sets.{of_length, tuples_in}
 use Rattle.widl_overload.proofs.sets.add_length.Given as goal
 
 abbrev pub invariant-loop-number : goal.invariant-loop-number

@@ -1,7 +1,7 @@
 use Rattle.std.proofs.Common.{◌≡◌, ◌+◌, map, nat_eq, true, false, arith, sym, ap, ◌∙◌}
 use Rattle.std.proofs.lemmas.List.{length-map}
 use Rattle.widl_idl.specs.DefinitionTerms.{arg_term}
-use Rattle.widl_overload.specs.Sets.{is_free}
+use Rattle.widl_overload.specs.sets.Sets.{is_free}
 use Rattle.widl_overload.proofs.Shorter.{free_more, not_free}
 use Rattle.widl_overload.proofs.Terms.{item_term}
 use Rattle.widl_overload.proofs.sets.all_free.Goals as goal

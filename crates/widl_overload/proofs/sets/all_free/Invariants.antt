@@ -1,6 +1,6 @@
 use Rattle.std.proofs.Common.{◌≡◌, drop, map}
 use Rattle.widl_idl.specs.DefinitionTerms.{arg_term}
-use Rattle.widl_overload.specs.Sets.{are_free, declared_opts}
+use Rattle.widl_overload.specs.sets.Sets.{are_free, declared_opts}
 use Rattle.widl_overload.proofs.sets.all_free.Given as goal
 
 abbrev pub invariant-loop-place : goal.invariant-loop-place

@@ -1,6 +1,6 @@
 use Rattle.std.proofs.Common.{sym, ◌∙◌, map}
 use Rattle.widl_idl.specs.DefinitionTerms.{sig_term}
-use Rattle.widl_overload.specs.Sets.{has_variadic}
+use Rattle.widl_overload.specs.sets.Sets.{has_variadic}
 use Rattle.widl_overload.proofs.Lengths.{all_lengths}
 use Rattle.widl_overload.proofs.Terms.{any_of_terms}
 use Rattle.widl_overload.proofs.sets.greatest_length.Goals as goal

@@ -1,7 +1,7 @@
 use Rattle.std.proofs.Common.{◌≡◌, ℕ, ◌<◌, ◌+◌, length, map, max, take, arith}
 use Rattle.std.proofs.lemmas.List.{length-map}
 use Rattle.widl_idl.specs.DefinitionTerms.{SigTerm, arg_term, sig_term}
-use Rattle.widl_overload.specs.Sets.{longest}
+use Rattle.widl_overload.specs.sets.Sets.{longest}
 use Rattle.widl_overload.proofs.Lengths.{args_few, longest_more}
 use Rattle.widl_overload.proofs.Terms.{item_term}
 use Rattle.widl_overload.proofs.sets.longest_list.Goals as goal

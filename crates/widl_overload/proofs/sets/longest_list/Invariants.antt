@@ -1,6 +1,6 @@
 use Rattle.std.proofs.Common.{◌≡◌, ◌<◌, take, map}
 use Rattle.widl_idl.specs.DefinitionTerms.{sig_term}
-use Rattle.widl_overload.specs.Sets.{longest}
+use Rattle.widl_overload.specs.sets.Sets.{longest}
 use Rattle.widl_overload.proofs.sets.longest_list.Given as goal
 
 abbrev pub invariant-loop-sig : goal.invariant-loop-sig

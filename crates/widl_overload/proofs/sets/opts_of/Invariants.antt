@@ -1,6 +1,6 @@
 use Rattle.std.proofs.Common.{◌≡◌, take, map}
 use Rattle.widl_idl.specs.DefinitionTerms.{arg_term}
-use Rattle.widl_overload.specs.Sets.{declared_opts}
+use Rattle.widl_overload.specs.sets.Sets.{declared_opts}
 use Rattle.widl_overload.proofs.sets.opts_of.Given as goal
 
 abbrev pub invariant-loop-arg : goal.invariant-loop-arg

@@ -1,6 +1,6 @@
 use Rattle.std.proofs.Common.{arith, map}
 use Rattle.widl_idl.specs.DefinitionTerms.{sig_term}
-use Rattle.widl_overload.specs.Sets.{tuples_in}
+use Rattle.widl_overload.specs.sets.Sets.{tuples_in}
 use Rattle.widl_overload.proofs.Lengths.{length_step}
 use Rattle.widl_overload.proofs.sets.set_of.Goals as goal
 

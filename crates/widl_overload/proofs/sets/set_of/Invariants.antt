@@ -1,6 +1,6 @@
 use Rattle.std.proofs.Common.{◌≡◌, ◌+◌, ◌-◌, ◌++◌, map}
 use Rattle.widl_idl.specs.DefinitionTerms.{sig_term}
-use Rattle.widl_overload.specs.Sets.{of_lengths, tuples_in}
+use Rattle.widl_overload.specs.sets.Sets.{of_lengths, tuples_in}
 use Rattle.widl_overload.proofs.sets.set_of.Given as goal
 
 abbrev pub invariant-loop-m : goal.invariant-loop-m

@@ -1,7 +1,7 @@
 use Rattle.std.proofs.Common.{◌≡◌, map, take, sym, ap, ◌∙◌}
 use Rattle.std.proofs.lemmas.List.{drop-map, take-map}
 use Rattle.widl_idl.specs.DefinitionTerms.{arg_term}
-use Rattle.widl_overload.specs.Sets.{are_free, declared_opts, declared_types, tuple_term}
+use Rattle.widl_overload.specs.sets.Sets.{are_free, declared_opts, declared_types, tuple_term}
 use Rattle.widl_overload.proofs.Shorter.{cut_short}
 use Rattle.widl_overload.proofs.sets.shorter.Goals as goal
 

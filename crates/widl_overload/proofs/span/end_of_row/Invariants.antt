@@ -1,5 +1,5 @@
 use Rattle.std.proofs.Common.{◌≡◌, ◌<◌, ◌≤◌, ℕ, take}
-use Rattle.widl_overload.specs.Spans.{spans_hold}
+use Rattle.widl_overload.specs.sets.Spans.{spans_hold}
 use Rattle.widl_overload.proofs.span.end_of_row.Given as goal
 
 abbrev pub invariant-loop-span : goal.invariant-loop-span

@@ -2,7 +2,7 @@ use Rattle.std.proofs.Common.{◌≡◌, true, ◌-◌, ◌∙◌, false, length
 use Rattle.widl_idl.specs.declared.argument.Arg.{Arg}
 use Rattle.widl_idl.specs.DefinitionTerms.{arg_term}
 use Rattle.std.proofs.lemmas.List.{length-map}
-use Rattle.widl_overload.specs.Sets.{is_free}
+use Rattle.widl_overload.specs.sets.Sets.{is_free}
 use Rattle.widl_overload.proofs.Terms.{item_term}
 use Rattle.widl_overload.proofs.FreeStarts.{free_here, start_here}
 use Rattle.widl_overload.proofs.span.least_length.Goals as goal

@@ -1,5 +1,5 @@
 use Rattle.std.proofs.Common.{◌≡◌, ◌++◌, drop}
-use Rattle.widl_overload.specs.Spans.{spans_hold, true_places}
+use Rattle.widl_overload.specs.sets.Spans.{spans_hold, true_places}
 use Rattle.widl_overload.proofs.span.overloads_of_length.Given as goal
 
 abbrev pub invariant-loop-number : goal.invariant-loop-number

@@ -1,6 +1,6 @@
 use Rattle.std.proofs.Common.{◌≡◌, drop, map}
 use Rattle.widl_idl.specs.DefinitionTerms.{defs_term, sig_term}
-use Rattle.widl_overload.specs.Numbers.{numbers_tell}
+use Rattle.widl_overload.specs.sets.Numbers.{numbers_tell}
 use Rattle.widl_overload.proofs.telling.tells.Given as goal
 
 abbrev pub invariant-loop-count : goal.invariant-loop-count

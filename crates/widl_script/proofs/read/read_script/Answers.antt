@@ -4,7 +4,7 @@ use Rattle.widl_idl.specs.declared.defs.Defs.{Defs}
 use Rattle.widl_idl.specs.DefinitionTerms.{defs_term}
 use Rattle.widl_fits.specs.Hierarchies.{IsHierarchy}
 use Rattle.widl_fits.proofs.MergedHierarchies.{merged_hierarchy}
-use Rattle.widl_overload.specs.Dictionaries.{dictionary_terms}
+use Rattle.widl_overload.specs.rules.Dictionaries.{dictionary_terms}
 use Rattle.widl_script.specs.Outcomes.{IsRefusal}
 use Rattle.widl_script.specs.Scripts.{IsReadAs}
 use Rattle.widl_script.proofs.WholeOutcome.{complete_of, exact_of}

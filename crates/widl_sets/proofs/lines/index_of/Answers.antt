@@ -1,5 +1,5 @@
 use Rattle.widl_idl.specs.DefinitionTerms.{defs_term}
-use Rattle.widl_overload.specs.Sets.{tuples_in}
+use Rattle.widl_overload.specs.sets.Sets.{tuples_in}
 use Rattle.widl_sets.proofs.Firsts.{index_is}
 use Rattle.widl_sets.proofs.lines.index_of.Goals as goal
 

@@ -1,7 +1,7 @@
 use Rattle.std.proofs.Common.{◌++◌, codes, arith, ap, ◌∙◌}
 use Rattle.widl_idl.specs.DefinitionTerms.{defs_term}
 use Rattle.widl_idl.specs.Terms.{type_term}
-use Rattle.widl_overload.specs.Sets.{tuple_term}
+use Rattle.widl_overload.specs.sets.Sets.{tuple_term}
 use Rattle.widl_sets.proofs.Joined.{one_more_argument}
 use Rattle.widl_sets.proofs.lines.push_arguments.Goals as goal
 

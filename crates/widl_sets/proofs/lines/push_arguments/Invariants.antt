@@ -1,6 +1,6 @@
 use Rattle.std.proofs.Common.{◌≡◌, ◌++◌, codes, take}
 use Rattle.widl_idl.specs.DefinitionTerms.{defs_term}
-use Rattle.widl_overload.specs.Sets.{tuple_term}
+use Rattle.widl_overload.specs.sets.Sets.{tuple_term}
 use Rattle.widl_sets.specs.Lines.{argument_texts}
 use Rattle.widl_spell.specs.Names.{separated}
 use Rattle.widl_sets.proofs.lines.push_arguments.Given as goal

@@ -1,5 +1,5 @@
 use Rattle.widl_idl.specs.DefinitionTerms.{defs_term}
-use Rattle.widl_overload.specs.Sets.{tuple_term, tuples_in}
+use Rattle.widl_overload.specs.sets.Sets.{tuple_term, tuples_in}
 use Rattle.std.specs.Option.{option_copied, option_map}
 use Rattle.widl_sets.proofs.Stepped.{set_more}
 use Rattle.widl_sets.proofs.lines.push_set.Goals as goal

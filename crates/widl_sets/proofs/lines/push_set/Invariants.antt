@@ -1,6 +1,6 @@
 use Rattle.std.proofs.Common.{◌≡◌, ◌++◌, drop}
 use Rattle.widl_idl.specs.DefinitionTerms.{defs_term}
-use Rattle.widl_overload.specs.Sets.{tuples_in}
+use Rattle.widl_overload.specs.sets.Sets.{tuples_in}
 use Rattle.widl_sets.specs.Lines.{lines_from}
 use Rattle.widl_sets.proofs.lines.push_set.Given as goal
 

@@ -1,4 +1,4 @@
-use Rattle.widl_overload.specs.Sets.{tuples_in}
+use Rattle.widl_overload.specs.sets.Sets.{tuples_in}
 use Rattle.widl_sets.proofs.Tuples.{each_in_set}
 use Rattle.widl_sets.proofs.listing.push_callee.Goals as goal
 

@@ -1,5 +1,5 @@
 use Rattle.std.proofs.Common.{ap, arith, inr, ◌∙◌, sym, ◌<◌, ◌≡◌, length, nat_eq, suc, ◌+◌, ◌-◌}
-use Rattle.widl_overload.specs.Sets.{is_free}
+use Rattle.widl_overload.specs.sets.Sets.{is_free}
 use Rattle.widl_store.proofs.RealmSteps.{needed_more, counted_more, past_end}
 use Rattle.widl_store.proofs.functions.needed.Goals as goal
 use Rattle.widl_store.proofs.functions.needed.Goals.{then-count-gt0-via-then-count-gt0, then-count-gt0-via-else-count-gt0+then-not-is_free}

@@ -1,7 +1,7 @@
 use Rattle.std.proofs.Common.{map, sym, ap, ◌∙◌}
 use Rattle.std.proofs.lemmas.List.{drop-map}
 use Rattle.widl_idl.specs.DefinitionTerms.{arg_term}
-use Rattle.widl_overload.specs.Sets.{are_free, declared_opts}
+use Rattle.widl_overload.specs.sets.Sets.{are_free, declared_opts}
 use Rattle.widl_tables.proofs.kept_overloads.is_free_from.Goals as goal
 
 pub returns : goal.returns

@@ -1,6 +1,6 @@
 use Rattle.std.proofs.Common.{map, ap, ◌∙◌}
 use Rattle.widl_idl.specs.DefinitionTerms.{defs_term, sig_term}
-use Rattle.widl_overload.specs.Entries.{overloads_of}
+use Rattle.widl_overload.specs.sets.Entries.{overloads_of}
 use Rattle.widl_tables.specs.EntriesByNumber.{entries_in, telling_among}
 use Rattle.widl_tables.proofs.Entries.{kept_entries, kept_place}
 use Rattle.widl_tables.proofs.kept_overloads.kept.Goals as goal

@@ -1,6 +1,6 @@
 use Rattle.std.proofs.Common.{◌≤◌, ℕ, length, subst, ◌∙◌}
 use Rattle.widl_idl.specs.DefinitionTerms.{defs_term}
-use Rattle.widl_overload.specs.Entries.{declared_args, entry_for}
+use Rattle.widl_overload.specs.sets.Entries.{declared_args, entry_for}
 use Rattle.widl_tables.proofs.Picking.{of_several}
 use Rattle.widl_tables.proofs.overload_pick.pick_overload.Goals as goal
 

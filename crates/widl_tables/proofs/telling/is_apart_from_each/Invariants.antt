@@ -1,9 +1,9 @@
 use Rattle.std.proofs.Common.{◌≡◌, drop, map}
 use Rattle.std.specs.List.{list_all}
 use Rattle.widl_idl.specs.DefinitionTerms.{defs_term, sig_term}
-use Rattle.widl_overload.specs.Entries.{entry_for}
-use Rattle.widl_overload.specs.Index.{apart_at}
-use Rattle.widl_overload.specs.Standing.{args_in}
+use Rattle.widl_overload.specs.sets.Entries.{entry_for}
+use Rattle.widl_overload.specs.sets.Index.{apart_at}
+use Rattle.widl_overload.specs.sets.Standing.{args_in}
 use Rattle.widl_tables.specs.EntriesByNumber.{entries_in}
 use Rattle.widl_tables.proofs.telling.is_apart_from_each.Given as goal
 

@@ -3,7 +3,7 @@ use Rattle.widl_idl.specs.First.{FirstWhere, Somewhere}
 use Rattle.widl_idl.specs.PlainTypes.{attribute_of}
 use Rattle.widl_idl.specs.Terms.{type_term}
 use Rattle.widl_idl.proofs.Somewhere.{somewhere_both}
-use Rattle.widl_overload.specs.TypeRules.{IsMisplaced}
+use Rattle.widl_overload.specs.rules.TypeRules.{IsMisplaced}
 use Rattle.widl_type_rules.specs.Misplaced.{IsMisplacedOn}
 use Rattle.widl_type_rules.proofs.annotation_rules.misplaced_annotation.Goals as goal
 

@@ -4,7 +4,7 @@ use Rattle.widl_idl.specs.PlainTrees.{plain_definitions}
 use Rattle.widl_idl.specs.PlainTypes.{attribute_of, type_of}
 use Rattle.widl_idl.specs.WrittenTypes.{notes_of}
 use Rattle.widl_names.specs.TypeUses.{typedef_notes}
-use Rattle.widl_overload.specs.TypeRules.{HasBoth}
+use Rattle.widl_overload.specs.rules.TypeRules.{HasBoth}
 use Rattle.widl_type_rules.proofs.LaterAnnotations.{both_first}
 use Rattle.widl_type_rules.proofs.TypedefNotes.{all_written}
 use Rattle.widl_type_rules.proofs.clamp_rules.clamp_and_enforce.Goals as goal

@@ -3,7 +3,7 @@ use Rattle.std.specs.List.{list_any}
 use Rattle.widl_idl.specs.Flattened.{flattened_member, flattened_members}
 use Rattle.widl_idl.specs.Terms.{packed, type_term}
 use Rattle.widl_overload.proofs.Walks.{found_at, none_more}
-use Rattle.widl_overload.specs.TypeRules.{is_copied}
+use Rattle.widl_overload.specs.rules.TypeRules.{is_copied}
 use Rattle.widl_type_rules.proofs.copied.+flattened.Goals as goal
 
 pub any_member_copied-returns-then-any_copied : goal.any_member_copied-returns-then-any_copied

@@ -2,7 +2,7 @@ use Rattle.std.proofs.Common.{◌≡◌, ◌||◌, true, false, IfOk, map, ap, s
 use Rattle.std.specs.List.{filter_map}
 use Rattle.widl_idl.specs.DefinitionTerms.{defs_term, iface_term}
 use Rattle.widl_idl.specs.Terms.{type_terms}
-use Rattle.widl_overload.specs.Distinct.{category}
+use Rattle.widl_overload.specs.sets.Distinct.{category}
 use Rattle.widl_type_rules.specs.IndistinguishablePairs.{any_pair, are_related, clash, interface_number}
 use Rattle.widl_type_rules.proofs.IndistinguishablePairs.{have_none, have_pair}
 use Rattle.widl_type_rules.proofs.indistinguishable_members.have_indistinguishable.Goals as goal

@@ -1,7 +1,7 @@
 use Rattle.widl_idl.specs.DefinitionTerms.{defs_term}
 use Rattle.widl_idl.specs.PlainTrees.{plain_definitions}
 use Rattle.widl_idl.proofs.Steps.{first_rule, no_rules}
-use Rattle.widl_overload.specs.Validity.{validity_number}
+use Rattle.widl_overload.specs.rules.Validity.{validity_number}
 use Rattle.widl_overload.specs.declared.validity_rule.ValidityRule.TheVariants as rule
 use Rattle.widl_type_rules.specs.TypeRefusals.{BreaksType}
 use Rattle.widl_type_rules.specs.UsesListed.{resolved_use}

@@ -4,8 +4,8 @@ use Rattle.widl_idl.specs.FirstRefusal.{violation_of}
 use Rattle.widl_idl.specs.PlainTrees.{PlainDefinition, definition_of, plain_definitions}
 use Rattle.widl_idl.proofs.Somewhere.{nowhere}
 use Rattle.widl_names.proofs.PlainLists.{listed_same}
-use Rattle.widl_overload.specs.TypeUses.{type_uses_of, uses_in_definition}
-use Rattle.widl_overload.specs.Validity.{BreaksRule}
+use Rattle.widl_overload.specs.rules.TypeUses.{type_uses_of, uses_in_definition}
+use Rattle.widl_overload.specs.rules.Validity.{BreaksRule}
 use Rattle.widl_refusals.specs.Refusals.{IsFirst}
 use Rattle.widl_type_rules.specs.TypeRefusals.{BreaksUse, SomeBreaks, type_rules}
 use Rattle.widl_refusals.proofs.FirstRefusals.{all_items, list_pushed, next_item, same_rules}

@@ -2,7 +2,7 @@ use Rattle.std.proofs.Common.{take}
 use Rattle.widl_idl.specs.DefinitionTerms.{defs_term}
 use Rattle.widl_idl.specs.PlainTrees.{plain_definitions}
 use Rattle.widl_names.specs.Listings.{listed_definitions}
-use Rattle.widl_overload.specs.TypeUses.{type_uses_of}
+use Rattle.widl_overload.specs.rules.TypeUses.{type_uses_of}
 use Rattle.widl_type_rules.specs.Lineages.{TellRelated}
 use Rattle.widl_refusals.specs.Refusals.{IsFirst}
 use Rattle.widl_type_rules.specs.TypeRefusals.{SomeBreaks, type_rules}

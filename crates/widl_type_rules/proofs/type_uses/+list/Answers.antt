@@ -2,7 +2,7 @@ use Rattle.std.proofs.Common.{◌≡◌, [], map, rules, arith, ap}
 use Rattle.std.proofs.lemmas.Result.{on_ok_weaker}
 use Rattle.widl_idl.specs.declared.tree.types.TypeForm.{the_lemmas}
 use Rattle.widl_idl.specs.PlainTypes.{annotated_of, attribute_of, form_term, plain_annotated, plain_type, type_of}
-use Rattle.widl_overload.specs.TypeUses.{uses_of_annotated}
+use Rattle.widl_overload.specs.rules.TypeUses.{uses_of_annotated}
 use Rattle.widl_overload.specs.declared.type_role.TypeRole.TheVariants as role
 use Rattle.widl_names.proofs.Listed.{listed_all}
 use Rattle.widl_type_rules.proofs.ListedUses.{annotated_added, union_listed}

@@ -1,6 +1,6 @@
 use Rattle.std.proofs.Common.{◌≡◌, ◌++◌, [], flat_map, take}
 use Rattle.widl_idl.specs.PlainTypes.{annotated_of}
-use Rattle.widl_overload.specs.TypeUses.{uses_of_annotated}
+use Rattle.widl_overload.specs.rules.TypeUses.{uses_of_annotated}
 use Rattle.widl_overload.specs.declared.type_role.TypeRole.TheVariants as role
 use Rattle.widl_type_rules.specs.UsesListed.{uses_listed}
 use Rattle.widl_type_rules.proofs.type_uses.+list.Given as goal

@@ -1,6 +1,6 @@
 use Rattle.std.proofs.Common.{◌≡◌, ◌++◌, flat_map, take}
 use Rattle.widl_idl.specs.PlainTrees.{argument_of}
-use Rattle.widl_overload.specs.TypeUses.{uses_of_argument}
+use Rattle.widl_overload.specs.rules.TypeUses.{uses_of_argument}
 use Rattle.widl_type_rules.specs.UsesListed.{uses_listed}
 use Rattle.widl_type_rules.proofs.type_uses.list_arguments.Given as goal
 

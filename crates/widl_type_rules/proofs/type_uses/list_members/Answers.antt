@@ -1,7 +1,7 @@
 use Rattle.std.proofs.Common.{arith, sym}
 use Rattle.std.proofs.lemmas.List.Folds.{flat_map-map}
 use Rattle.widl_idl.specs.PlainTrees.{member_of}
-use Rattle.widl_overload.specs.TypeUses.{uses_of_member}
+use Rattle.widl_overload.specs.rules.TypeUses.{uses_of_member}
 use Rattle.widl_names.proofs.Listed.{listed_all}
 use Rattle.widl_type_rules.proofs.type_uses.list_members.Goals as goal
 

@@ -5,8 +5,8 @@ use Rattle.widl_idl.specs.First.{FirstWhere}
 use Rattle.widl_idl.specs.PlainTrees.{PlainDefinition, plain_definitions}
 use Rattle.widl_names.proofs.NameMeanings.{all_plain}
 use Rattle.widl_idl.proofs.Steps.{first_rule, no_rules}
-use Rattle.widl_overload.specs.DefaultRules.{HasNoEmptyDefault, HasOtherDefault}
-use Rattle.widl_overload.specs.Validity.{BreaksRule, validity_number}
+use Rattle.widl_overload.specs.rules.DefaultRules.{HasNoEmptyDefault, HasOtherDefault}
+use Rattle.widl_overload.specs.rules.Validity.{BreaksRule, validity_number}
 use Rattle.widl_overload.specs.declared.validity_rule.ValidityRule.TheVariants as rule
 use Rattle.widl_valid.proofs.inherited_refusals.find_in_defaults.Goals as goal
 

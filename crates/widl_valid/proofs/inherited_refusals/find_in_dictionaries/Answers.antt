@@ -5,9 +5,9 @@ use Rattle.widl_idl.specs.First.{FirstWhere}
 use Rattle.widl_idl.proofs.Steps.{first_rule, no_rules}
 use Rattle.widl_fits.specs.Hierarchies.{IsHierarchy}
 use Rattle.widl_inheritance.specs.HoldingGraph.{AreWithin}
-use Rattle.widl_overload.specs.Dictionaries.{dictionary_terms}
-use Rattle.widl_overload.specs.DictionaryRules.{BeginsLongChain, HasNameTwice, HoldsItself}
-use Rattle.widl_overload.specs.Validity.{BreaksRule, validity_number}
+use Rattle.widl_overload.specs.rules.Dictionaries.{dictionary_terms}
+use Rattle.widl_overload.specs.rules.DictionaryRules.{BeginsLongChain, HasNameTwice, HoldsItself}
+use Rattle.widl_overload.specs.rules.Validity.{BreaksRule, validity_number}
 use Rattle.widl_overload.specs.declared.validity_rule.ValidityRule.TheVariants as rule
 use Rattle.widl_valid.proofs.inherited_refusals.find_in_dictionaries.Goals as goal
 

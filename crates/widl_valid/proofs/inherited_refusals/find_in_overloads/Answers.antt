@@ -1,6 +1,6 @@
 use Rattle.widl_idl.specs.DefinitionTerms.{defs_term}
 use Rattle.widl_idl.proofs.Steps.{first_rule, no_rules}
-use Rattle.widl_overload.specs.Validity.{BreaksRule, validity_number}
+use Rattle.widl_overload.specs.rules.Validity.{BreaksRule, validity_number}
 use Rattle.widl_overload.specs.declared.validity_rule.ValidityRule.TheVariants as rule
 use Rattle.widl_valid.proofs.inherited_refusals.find_in_overloads.Goals as goal
 

@@ -14,11 +14,11 @@ use Rattle.widl_fits.proofs.MergedHierarchies.{merged_hierarchy, merged_interfac
 use Rattle.widl_fits.proofs.MergedParents.{none_back}
 use Rattle.widl_inheritance.specs.HoldingGraph.{AreWithin}
 use Rattle.widl_inheritance.proofs.MergedTypes.{merged_within}
-use Rattle.widl_overload.specs.Dictionaries.{dictionary_terms}
+use Rattle.widl_overload.specs.rules.Dictionaries.{dictionary_terms}
 use Rattle.widl_names.specs.Listings.{listed_definitions}
 use Rattle.widl_names.proofs.NameMeanings.{all_plain}
 use Rattle.widl_overload.specs.declared.validity_rule.ValidityRule.{ValidityRule}
-use Rattle.widl_overload.specs.Validity.{BreaksValidity}
+use Rattle.widl_overload.specs.rules.Validity.{BreaksValidity}
 use Rattle.widl_definition_rules.specs.DefinitionRefusals.{definition_rules}
 use Rattle.widl_valid.specs.InheritedRefusals.{default_rules, dictionary_rules, iterable_rules, overload_rules}
 use Rattle.widl_member_rules.specs.MemberRefusals.{member_rules}

@@ -2,7 +2,7 @@ use Rattle.std.proofs.Common.{map, sym, subst}
 use Rattle.widl_graph.specs.Flags.{TellsReached}
 use Rattle.widl_graph.specs.Reaching.{AreNodes, IsAcyclic}
 use Rattle.widl_idl.specs.DefinitionTerms.{dict_term}
-use Rattle.widl_overload.specs.Dictionaries.{dictionary_parents}
+use Rattle.widl_overload.specs.rules.Dictionaries.{dictionary_parents}
 use Rattle.widl_fits.proofs.Inherited.{tells_required}
 use Rattle.widl_fits.proofs.required_members.RequiredMembers.of.Goals as goal
 

@@ -5,8 +5,8 @@ use Rattle.widl_text.specs.declared.place.Place.{Place}
 use Rattle.widl_idl.specs.declared.violation.Violation.{Violation}
 use Rattle.widl_idl.specs.DefinitionTerms.{DefsTerm, IfaceTerm, OpNameTerm, SigTerm, SpaceTerm}
 use Rattle.widl_idl.specs.First.{Somewhere}
-use Rattle.widl_overload.specs.Index.{IsIndex, of_one_length, distinguishes}
-use Rattle.widl_overload.specs.Sets.{TupleTerm, effective_tuples}
+use Rattle.widl_overload.specs.sets.Index.{IsIndex, of_one_length, distinguishes}
+use Rattle.widl_overload.specs.sets.Sets.{TupleTerm, effective_tuples}
 
 -- whether operations have a name; those without one can't be called
 abbrev pub has_name : OpNameTerm → Bool

@@ -10,15 +10,15 @@ use Rattle.widl_idl.specs.Terms.{TypeTerm}
 use Rattle.widl_idl.specs.Nodes.{nodes_of}
 use Rattle.widl_overload.specs.declared.validity_rule.ValidityRule.{ValidityRule}
 use Rattle.widl_overload.specs.declared.validity_rule.ValidityRule.TheVariants as rule
-use Rattle.widl_overload.specs.ArgumentRules.{FollowsEllipsis, FollowsOptional, InOneList, IsArgumentPastLimit, RepeatsArgument}
-use Rattle.widl_overload.specs.DefaultRules.{HasNoEmptyDefault, HasOtherDefault}
-use Rattle.widl_overload.specs.DefinitionRules.{AnnotatesNoType, HasMisformed, HasNameless, HasOtherThanOne, HasValueTwice}
-use Rattle.widl_overload.specs.DictionaryRules.{BeginsLongChain, HasNameTwice, HoldsItself}
-use Rattle.widl_overload.specs.IterableRules.{HasSecondIterable, HidesIterationMethod}
-use Rattle.widl_overload.specs.MemberRules.{HasKeptName, HasOverloadPastLimit, InOneOwner, IsSecondStringifier, MixesPromises, RepeatsMember, has_members_of_its_own, is_interface_kind}
-use Rattle.widl_overload.specs.OverloadRules.{HasIndistinguishableOverloads, HasEarlyDifference}
-use Rattle.widl_overload.specs.TypeRules.{HasClampAndEnforceRange, HasMisplacedAnnotation, HasOtherValue, HaveIndistinguishableMembers, HaveNullableAndDictionary, HaveSeveralNullable, IsAnnotatedMember, IsCopiedAttribute, IsNullableDictionary, IsOtherConstantType, IsOtherStringifier, IsUndefinedInside, IsWritablePromise, IsWronglyNullable, OfUnion}
-use Rattle.widl_overload.specs.TypeUses.{TypeUse, meaning_of_use, type_uses_of}
+use Rattle.widl_overload.specs.rules.ArgumentRules.{FollowsEllipsis, FollowsOptional, InOneList, IsArgumentPastLimit, RepeatsArgument}
+use Rattle.widl_overload.specs.rules.DefaultRules.{HasNoEmptyDefault, HasOtherDefault}
+use Rattle.widl_overload.specs.rules.DefinitionRules.{AnnotatesNoType, HasMisformed, HasNameless, HasOtherThanOne, HasValueTwice}
+use Rattle.widl_overload.specs.rules.DictionaryRules.{BeginsLongChain, HasNameTwice, HoldsItself}
+use Rattle.widl_overload.specs.rules.IterableRules.{HasSecondIterable, HidesIterationMethod}
+use Rattle.widl_overload.specs.rules.MemberRules.{HasKeptName, HasOverloadPastLimit, InOneOwner, IsSecondStringifier, MixesPromises, RepeatsMember, has_members_of_its_own, is_interface_kind}
+use Rattle.widl_overload.specs.rules.OverloadRules.{HasIndistinguishableOverloads, HasEarlyDifference}
+use Rattle.widl_overload.specs.rules.TypeRules.{HasClampAndEnforceRange, HasMisplacedAnnotation, HasOtherValue, HaveIndistinguishableMembers, HaveNullableAndDictionary, HaveSeveralNullable, IsAnnotatedMember, IsCopiedAttribute, IsNullableDictionary, IsOtherConstantType, IsOtherStringifier, IsUndefinedInside, IsWritablePromise, IsWronglyNullable, OfUnion}
+use Rattle.widl_overload.specs.rules.TypeUses.{TypeUse, meaning_of_use, type_uses_of}
 
 -- the number of a rule in a refusal
 abbrev pub validity_number : ValidityRule → ℕ

@@ -11,7 +11,7 @@ use Rattle.widl_idl.specs.MergingRules.{IsAt, parent_links}
 use Rattle.widl_idl.specs.Parts.{merged_members}
 use Rattle.widl_idl.specs.PlainTypes.{PlainName}
 use Rattle.widl_idl.specs.PlainTrees.{PlainMember, PlainMemberKind, IterableMember, PlainDefinition}
-use Rattle.widl_overload.specs.MemberRules.{identifier}
+use Rattle.widl_overload.specs.rules.MemberRules.{identifier}
 
 abbrev pub is_iterable : PlainMemberKind → Bool
 is_iterable (IterableMember i) = true

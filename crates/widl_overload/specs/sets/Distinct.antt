@@ -6,7 +6,7 @@ use Rattle.widl_idl.specs.Terms.{TypeTerm, TypeTerms, AnyType, UndefinedType, Bo
 use Rattle.widl_idl.specs.Flattened.{flattened_members, includes_nullable_type, nullable_members, unannotated}
 use Rattle.widl_overload.specs.declared.category.Category.{Category}
 use Rattle.widl_overload.specs.declared.category.Category.TheVariants.{Never, Undefined, Boolean, Numeric, String, Object, Interface, Function, DictionaryLike, SequenceLike}
-use Rattle.widl_overload.specs.Inheritance.{inherits}
+use Rattle.widl_overload.specs.sets.Inheritance.{inherits}
 
 -- the category of an innermost type; `any` and promises have none
 abbrev pub category : TypeTerm → Category

@@ -1,7 +1,7 @@
 -- For proofs alone. The lists of overloads of one node.
 use Rattle.std.specs.Prelude.{List, ◌∷◌, flat_map}
 use Rattle.widl_idl.specs.DefinitionTerms.{SigTerm, IfaceTerm, SpaceTerm}
-use Rattle.widl_overload.specs.OverloadRules.{operation_lists}
+use Rattle.widl_overload.specs.rules.OverloadRules.{operation_lists}
 
 -- the overloads of an interface: its constructors, and the operations of each name
 abbrev pub lists_of_interface : IfaceTerm → List (List SigTerm)

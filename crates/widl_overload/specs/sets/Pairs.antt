@@ -6,7 +6,7 @@ use Rattle.widl_idl.specs.Terms.{TypeTerm, NullableType, UnionType, packed, type
 use Rattle.widl_idl.specs.declared.types.IdlType.{IdlType}
 use Rattle.widl_idl.specs.Flattened.{flattened_member}
 use Rattle.widl_overload.specs.declared.category.Category.{Category}
-use Rattle.widl_overload.specs.Distinct.{any_nullable_clash, categories_apart, category, distinguishable, listed, union_members}
+use Rattle.widl_overload.specs.sets.Distinct.{any_nullable_clash, categories_apart, category, distinguishable, listed, union_members}
 
 unfoldable pub is_apart : List IfaceTerm → Category → TypeTerm → Bool
 is_apart ifaces c t = categories_apart ifaces c (category t)

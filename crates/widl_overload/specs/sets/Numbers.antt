@@ -5,7 +5,7 @@ use Rattle.widl_idl.specs.declared.argument.Optionality.{Optionality}
 use Rattle.widl_idl.specs.DefinitionTerms.{IfaceTerm, ArgTerm, SigTerm}
 use Rattle.widl_idl.specs.Terms.{TypeTerm}
 use Rattle.widl_overload.specs.declared.overload_sizes.Row.{Row}
-use Rattle.widl_overload.specs.Index.{each_two, types_apart}
+use Rattle.widl_overload.specs.sets.Index.{each_two, types_apart}
 
 abbrev pub or_last : List ArgTerm → Option ArgTerm → Option ArgTerm
 or_last args None = slice_get args (length args - 1)

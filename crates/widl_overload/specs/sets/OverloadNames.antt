@@ -4,10 +4,10 @@ use Rattle.widl_text.specs.declared.place.Place.{Place}
 use Rattle.widl_idl.specs.declared.violation.Violation.{Violation}
 use Rattle.widl_idl.specs.DefinitionTerms.{SigTerm}
 use Rattle.widl_overload.specs.declared.span.Span.{Span}
-use Rattle.widl_overload.specs.OverloadRules.{AtOverloads}
-use Rattle.widl_overload.specs.OverloadViolations.{IsOnly}
-use Rattle.widl_overload.specs.Sets.{TupleTerm}
-use Rattle.widl_overload.specs.Spans.{spans_hold, true_places}
+use Rattle.widl_overload.specs.rules.OverloadRules.{AtOverloads}
+use Rattle.widl_overload.specs.rules.OverloadViolations.{IsOnly}
+use Rattle.widl_overload.specs.sets.Sets.{TupleTerm}
+use Rattle.widl_overload.specs.sets.Spans.{spans_hold, true_places}
 
 -- the number of the overload that a tuple is of
 abbrev pub number_of : TupleTerm → ℕ

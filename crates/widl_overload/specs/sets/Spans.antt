@@ -2,7 +2,7 @@
 use Rattle.std.specs.Prelude.{◌≡◌, ℕ, ◌+◌, ◌<◌, ◌≤◌, Bool, true, false, ◌&&◌, ◌||◌, List, [], ◌∷◌, length, drop, map, nat_le, is_some, if◌then◌else◌}
 use Rattle.widl_idl.specs.DefinitionTerms.{ArgTerm, SigTerm}
 use Rattle.widl_overload.specs.declared.span.Span.{Span}
-use Rattle.widl_overload.specs.Sets.{are_free, declared_opts, tuple_of}
+use Rattle.widl_overload.specs.sets.Sets.{are_free, declared_opts, tuple_of}
 
 -- whether an overload with these arguments has a tuple of a length
 abbrev pub has_tuple : ℕ → List ArgTerm → Bool

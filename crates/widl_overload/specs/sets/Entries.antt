@@ -12,7 +12,7 @@ use Rattle.widl_idl.specs.declared.callee.Part.{Part}
 use Rattle.widl_idl.specs.declared.callee.Part.TheVariants as parts
 use Rattle.widl_idl.specs.DefinitionTerms.{DefsTerm, ArgTerm, SigTerm, OpNameTerm, MembersTerm, IfaceTerm, SpaceTerm}
 use Rattle.widl_idl.specs.Terms.{TypeTerm, AnyType}
-use Rattle.widl_overload.specs.Sets.{TupleTerm, are_free, is_variadic}
+use Rattle.widl_overload.specs.sets.Sets.{TupleTerm, are_free, is_variadic}
 
 -- 1. The overloads of a callee: of an operation name or of constructors. Anything else has none.
 

@@ -7,7 +7,7 @@ use Rattle.widl_idl.specs.declared.violation.Violation.{Violation}
 use Rattle.widl_idl.specs.DefinitionTerms.{DictTerm, MemberTerm}
 use Rattle.widl_idl.specs.First.{AtOne}
 use Rattle.widl_idl.specs.MergingRules.{IsAt}
-use Rattle.widl_overload.specs.Dictionaries.{BeginsChain, Inherits, LeadsTo}
+use Rattle.widl_overload.specs.rules.Dictionaries.{BeginsChain, Inherits, LeadsTo}
 
 -- whether one of these members has the name
 abbrev pub has_member : List ℕ → List MemberTerm → Bool

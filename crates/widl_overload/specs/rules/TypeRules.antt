@@ -21,10 +21,10 @@ use Rattle.widl_text.specs.IntegerTokens.{integer_of}
 use Rattle.widl_idl.specs.WrittenTypes.{annotation_of, meaning_alone, meaning_of_annotated, notes_of, typedefs, written_type}
 use Rattle.widl_overload.specs.declared.type_role.TypeRole.{TypeRole}
 use Rattle.widl_overload.specs.declared.type_role.TypeRole.TheVariants as role
-use Rattle.widl_overload.specs.Distinct.{distinguishable, has_dictionary, is_dictionary}
-use Rattle.widl_overload.specs.MemberRules.{AtPlace, is_promise, word_of_attribute}
-use Rattle.widl_overload.specs.Ranges.{is_in_range}
-use Rattle.widl_overload.specs.TypeUses.{TypeUse, type_place}
+use Rattle.widl_overload.specs.sets.Distinct.{distinguishable, has_dictionary, is_dictionary}
+use Rattle.widl_overload.specs.rules.MemberRules.{AtPlace, is_promise, word_of_attribute}
+use Rattle.widl_overload.specs.rules.Ranges.{is_in_range}
+use Rattle.widl_overload.specs.rules.TypeUses.{TypeUse, type_place}
 
 -- a type without its `?`s
 abbrev pub without_nullable : TypeTerm → TypeTerm

@@ -4,7 +4,7 @@ use Rattle.widl_idl.specs.declared.argument.Optionality.{Optionality}
 use Rattle.widl_idl.specs.declared.argument.Optionality.TheVariants.{Variadic}
 use Rattle.widl_idl.specs.DefinitionTerms.{ArgTerm, SigTerm}
 use Rattle.widl_idl.specs.Terms.{TypeTerm}
-use Rattle.widl_overload.specs.Sets.{TupleTerm, declared_opts, declared_types, is_free, longest, variadic_last}
+use Rattle.widl_overload.specs.sets.Sets.{TupleTerm, declared_opts, declared_types, is_free, longest, variadic_last}
 
 abbrev pub declared_tuple : ℕ → List ArgTerm → TupleTerm
 declared_tuple number args = record { overload = number; types = declared_types args; opts = declared_opts args }

@@ -5,9 +5,9 @@ use Rattle.widl_idl.specs.declared.violation.Violation.{Violation}
 use Rattle.widl_idl.specs.First.{FirstWhere, Somewhere, earlier}
 use Rattle.widl_overload.specs.declared.overload_sizes.BreakingLengths.{BreakingLengths}
 use Rattle.widl_overload.specs.declared.overload_violations.OverloadViolations.{OverloadViolations}
-use Rattle.widl_overload.specs.Index.{of_one_length}
-use Rattle.widl_overload.specs.OverloadRules.{AtOverloads, AtSmallestLength, DifferAt, DifferEarly, IsLeastNumber, LacksIndex}
-use Rattle.widl_overload.specs.Sets.{TupleTerm}
+use Rattle.widl_overload.specs.sets.Index.{of_one_length}
+use Rattle.widl_overload.specs.rules.OverloadRules.{AtOverloads, AtSmallestLength, DifferAt, DifferEarly, IsLeastNumber, LacksIndex}
+use Rattle.widl_overload.specs.sets.Sets.{TupleTerm}
 
 -- the types and the optionality values of two tuples at a place are the same
 pub record AgreeAt (t u : TupleTerm) (place : ℕ) : Type 0 where

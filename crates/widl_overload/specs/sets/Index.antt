@@ -4,8 +4,8 @@ use Rattle.std.specs.List.{list_all}
 use Rattle.widl_idl.specs.DefinitionTerms.{IfaceTerm}
 use Rattle.widl_idl.specs.Terms.{TypeTerm}
 use Rattle.widl_overload.specs.declared.tuple.Tuple.{Tuple}
-use Rattle.widl_overload.specs.Distinct.{distinguishable}
-use Rattle.widl_overload.specs.Sets.{TupleTerm, tuple_term}
+use Rattle.widl_overload.specs.sets.Distinct.{distinguishable}
+use Rattle.widl_overload.specs.sets.Sets.{TupleTerm, tuple_term}
 
 abbrev pub types_apart : List IfaceTerm → Option TypeTerm → Option TypeTerm → Bool
 types_apart ifaces (Some t) (Some u) = distinguishable ifaces t u
