@@ -7,7 +7,6 @@ ghost use Rattle.widl_idl.specs.PlainTrees.{plain_definitions};
 ghost use Rattle.widl_fits.specs.Fitting.{Knows};
 ghost use Rattle.widl_fits.specs.Hierarchies.{IsHierarchy};
 ghost use Rattle.widl_inheritance.specs.WrittenDefaults.{defaulted_of, listed_defaults};
-ghost use Rattle.widl_names.specs.Listings.{listed_definitions};
 ghost use Rattle.widl_overload.specs.rules.DefaultRules.{HasOtherDefault, IsOtherDefault};
 ghost use Rattle.widl_overload.specs.rules.Dictionaries.{dictionary_terms};
 
@@ -16,9 +15,8 @@ use crate::fitting::fits;
 use crate::written_fitting::fits_as_written;
 use std::alloc::{AllocError, Global};
 use widl_fits::Tables;
-use widl_idl::tree::Definition;
 use widl_idl::{Defs, Violation, earlier_violation};
-use widl_names::{MOST_TYPES, Resolver};
+use widl_names::{MOST_TYPES, Resolver, Scope};
 
 /// The first place of a default value that doesn't fit its type.
 ///
@@ -26,26 +24,24 @@ use widl_names::{MOST_TYPES, Resolver};
 ///
 /// `AllocError` where there is no memory, also where typedefs make more types of one that is written than
 /// [`MOST_TYPES`].
-pub fn first_other_default<'a>(
+pub fn first_other_default(
     alloc: Global,
     defs: &Defs,
-    resolver: &Resolver<'_, '_, 'a>,
-    definitions: &[&'a Definition],
+    scope: &Scope<'_, '_>,
 ) -> Result<Option<Violation>, AllocError>
-    requires listed { listed_definitions definitions.now ≡ plain_definitions resolver.now }
-    requires hierarchy { IsHierarchy (dictionary_terms defs.now) }
-    ensures { IfOk result (λ found. FirstWhere (HasOtherDefault (defs_term defs.now) (plain_definitions resolver.now)) found) }
+    requires { IsHierarchy (dictionary_terms defs.now) }
+    ensures { IfOk result (λ found. FirstWhere (HasOtherDefault (defs_term defs.now) (plain_definitions scope.now)) found) }
 {
-    let defaults = list_defaults(alloc, definitions)?;
+    let defaults = list_defaults(alloc, scope.all())?;
     let tables = Tables::of(alloc, defs)?;
-    first_other(alloc, &tables, resolver, defaults.as_slice())
+    first_other(alloc, &tables, scope.resolver(), defaults.as_slice())
 }
 
 /// The first place of one of these default values that doesn't fit its type.
 fn first_other<'a>(
     alloc: Global,
     tables: &Tables<'_>,
-    resolver: &Resolver<'_, '_, 'a>,
+    resolver: &Resolver<'_, 'a>,
     defaults: &[Defaulted<'a>],
 ) -> Result<Option<Violation>, AllocError>
     ensures { IfOk result (λ found. (list : DefsTerm) → Knows list tables.now → FirstWhere (Somewhere (IsOtherDefault list (plain_definitions resolver.now)) (listed_defaults defaults.now)) found) }
@@ -63,7 +59,7 @@ fn first_other<'a>(
 fn other_default<'a>(
     alloc: Global,
     tables: &Tables<'_>,
-    resolver: &Resolver<'_, '_, 'a>,
+    resolver: &Resolver<'_, 'a>,
     defaulted: &Defaulted<'a>,
 ) -> Result<Option<Violation>, AllocError>
     ensures { IfOk result (λ found. (list : DefsTerm) → Knows list tables.now → FirstWhere (IsOtherDefault list (plain_definitions resolver.now) (defaulted_of defaulted.now)) found) }

@@ -11,7 +11,6 @@ ghost use Rattle.widl_inheritance.specs.EmptyDefaults.{LacksHere, is_name_or_uni
 ghost use Rattle.widl_fits.specs.Fitting.{KnowsRequired};
 ghost use Rattle.widl_fits.specs.Hierarchies.{IsHierarchy};
 ghost use Rattle.widl_inheritance.specs.WrittenLists.{listed_arguments};
-ghost use Rattle.widl_names.specs.Listings.{listed_definitions};
 ghost use Rattle.widl_overload.specs.rules.ArgumentRules.{is_required};
 ghost use Rattle.widl_overload.specs.rules.DefaultRules.{HasNoEmptyDefault, LacksEmptyDefault};
 ghost use Rattle.widl_overload.specs.rules.Dictionaries.{dictionary_terms};
@@ -19,9 +18,9 @@ ghost use Rattle.widl_overload.specs.rules.Dictionaries.{dictionary_terms};
 use crate::argument_lists::list_arguments;
 use std::alloc::{AllocError, Global};
 use widl_fits::{Tables, any_takes};
-use widl_idl::tree::{Argument, ArgumentKind, Definition, TypeForm, WrittenType};
+use widl_idl::tree::{Argument, ArgumentKind, TypeForm, WrittenType};
 use widl_idl::{Defs, IdlType, Literal, Violation, earlier_violation};
-use widl_names::{MOST_TYPES, Resolver};
+use widl_names::{MOST_TYPES, Resolver, Scope};
 
 /// The first place of the name of an argument that takes a dictionary without required members and has
 /// no default value where it needs one: it is optional, or it is required though a call may leave out all
@@ -31,26 +30,24 @@ use widl_names::{MOST_TYPES, Resolver};
 ///
 /// `AllocError` where there is no memory, also where typedefs make more types of one that is written than
 /// [`MOST_TYPES`].
-pub fn first_without_empty_default<'a>(
+pub fn first_without_empty_default(
     alloc: Global,
     defs: &Defs,
-    resolver: &Resolver<'_, '_, 'a>,
-    definitions: &[&'a Definition],
+    scope: &Scope<'_, '_>,
 ) -> Result<Option<Violation>, AllocError>
-    requires listed { listed_definitions definitions.now ≡ plain_definitions resolver.now }
-    requires hierarchy { IsHierarchy (dictionary_terms defs.now) }
-    ensures { IfOk result (λ found. FirstWhere (HasNoEmptyDefault (defs_term defs.now) (plain_definitions resolver.now)) found) }
+    requires { IsHierarchy (dictionary_terms defs.now) }
+    ensures { IfOk result (λ found. FirstWhere (HasNoEmptyDefault (defs_term defs.now) (plain_definitions scope.now)) found) }
 {
-    let lists = list_arguments(alloc, definitions, false)?;
+    let lists = list_arguments(alloc, scope.all(), false)?;
     let tables = Tables::of_dictionaries(alloc, defs)?;
-    first_lacking(alloc, &tables, resolver, lists.as_slice())
+    first_lacking(alloc, &tables, scope.resolver(), lists.as_slice())
 }
 
 /// The first place of such a name in these lists of arguments.
 fn first_lacking<'a>(
     alloc: Global,
     tables: &Tables<'_>,
-    resolver: &Resolver<'_, '_, 'a>,
+    resolver: &Resolver<'_, 'a>,
     lists: &[&'a [Argument]],
 ) -> Result<Option<Violation>, AllocError>
     ensures { IfOk result (λ found. (list : DefsTerm) → KnowsRequired list tables.now → FirstWhere (Somewhere (LacksEmptyDefault list (plain_definitions resolver.now)) (listed_arguments lists.now)) found) }
@@ -67,7 +64,7 @@ fn first_lacking<'a>(
 fn lacking_in<'a>(
     alloc: Global,
     tables: &Tables<'_>,
-    resolver: &Resolver<'_, '_, 'a>,
+    resolver: &Resolver<'_, 'a>,
     arguments: &'a [Argument],
 ) -> Result<Option<Violation>, AllocError>
     ensures { IfOk result (λ found. (list : DefsTerm) → KnowsRequired list tables.now → FirstWhere (LacksEmptyDefault list (plain_definitions resolver.now) (arguments_of arguments.now)) found) }
@@ -89,7 +86,7 @@ fn lacking_in<'a>(
 fn lacking<'a>(
     alloc: Global,
     tables: &Tables<'_>,
-    resolver: &Resolver<'_, '_, 'a>,
+    resolver: &Resolver<'_, 'a>,
     absent: bool,
     argument: &'a Argument,
 ) -> Result<Option<Violation>, AllocError>

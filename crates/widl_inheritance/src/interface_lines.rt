@@ -12,7 +12,7 @@ use crate::interface_members::interface_members;
 use crate::iterations::{has_iterable, has_iteration_name};
 use std::alloc::{AllocError, Global};
 use widl_graph::{Walk, flags_reached};
-use widl_names::{Meanings, Parts, parent_graph};
+use widl_names::{Meanings, Scope, parent_graph};
 
 /// Flags of interfaces, by the numbers of their definitions.
 #[derive(Drop)]
@@ -28,19 +28,14 @@ pub struct InterfaceFlags {
 /// # Errors
 ///
 /// `AllocError` where there is no memory.
-pub fn own_flags<'a>(
-    alloc: Global,
-    meanings: &Meanings<'_, 'a>,
-    parts: &Parts<'_, 'a>,
-) -> Result<InterfaceFlags, AllocError>
-    requires { parts.now ≡ meanings.now }
-    ensures iterable { IfOk result (λ own. TellsMembers has_iterable (plain_definitions meanings.now) own.iterable.items) }
-    ensures named { IfOk result (λ own. TellsMembers has_iteration_name (plain_definitions meanings.now) own.named.items) }
+pub fn own_flags(alloc: Global, scope: &Scope<'_, '_>) -> Result<InterfaceFlags, AllocError>
+    ensures iterable { IfOk result (λ own. TellsMembers has_iterable (plain_definitions scope.now) own.iterable.items) }
+    ensures named { IfOk result (λ own. TellsMembers has_iteration_name (plain_definitions scope.now) own.named.items) }
 {
     let mut iterable = Vec::new(alloc);
     let mut named = Vec::new(alloc);
-    for number in 0..meanings.all().len() {
-        let members = interface_members(alloc, meanings, parts, number)?;
+    for number in 0..scope.all().len() {
+        let members = interface_members(alloc, scope, number)?;
         iterable.push(has_iterable(&members))?;
         named.push(has_iteration_name(&members))?;
     }

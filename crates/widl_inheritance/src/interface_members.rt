@@ -9,7 +9,7 @@ ghost use Rattle.widl_names.specs.Listings.{listed_members};
 use std::alloc::{AllocError, Global};
 use widl_idl::Kind;
 use widl_idl::tree::{DefinitionKind, Member};
-use widl_names::{Meanings, Parts, kind_at, kind_of, list_members, means_itself};
+use widl_names::{Meanings, Scope, kind_at, kind_of, list_members, means_itself};
 
 /// The members in merged order of the interface of this number; none where the definition of the number
 /// is no interface, or its name means another.
@@ -19,33 +19,29 @@ use widl_names::{Meanings, Parts, kind_at, kind_of, list_members, means_itself};
 /// `AllocError` where there is no memory.
 pub fn interface_members<'a>(
     alloc: Global,
-    meanings: &Meanings<'_, 'a>,
-    parts: &Parts<'_, 'a>,
+    scope: &Scope<'_, 'a>,
     number: usize,
 ) -> Result<Vec<&'a Member>, AllocError>
-    requires { parts.now ≡ meanings.now }
-    ensures { IfOk result (λ list. listed_members list.items ≡ members_at (plain_definitions meanings.now) number) }
+    ensures { IfOk result (λ list. listed_members list.items ≡ members_at (plain_definitions scope.now) number) }
 {
-    match kind_at(meanings.all(), number) {
+    match kind_at(scope.all(), number) {
         None => Ok(Vec::new(alloc)),
-        Some(kind) => members_of_kind(alloc, meanings, parts, number, kind),
+        Some(kind) => members_of_kind(alloc, scope, number, kind),
     }
 }
 
 /// The same of a definition that is at hand.
 fn members_of_kind<'a>(
     alloc: Global,
-    meanings: &Meanings<'_, 'a>,
-    parts: &Parts<'_, 'a>,
+    scope: &Scope<'_, 'a>,
     number: usize,
     kind: &DefinitionKind,
 ) -> Result<Vec<&'a Member>, AllocError>
-    requires same { parts.now ≡ meanings.now }
-    requires there { option_map (λ d. d.kind) (slice_get (plain_definitions meanings.now) number) ≡ Some (definition_kind_of kind.now) }
-    ensures { IfOk result (λ list. listed_members list.items ≡ members_at (plain_definitions meanings.now) number) }
+    requires { option_map (λ d. d.kind) (slice_get (plain_definitions scope.now) number) ≡ Some (definition_kind_of kind.now) }
+    ensures { IfOk result (λ list. listed_members list.items ≡ members_at (plain_definitions scope.now) number) }
 {
-    if is_meant_interface(meanings, number, kind) {
-        let list = parts.list(alloc, number)?;
+    if is_meant_interface(scope.meanings(), number, kind) {
+        let list = scope.parts().list(alloc, number)?;
         list_members(alloc, &list)
     } else {
         Ok(Vec::new(alloc))

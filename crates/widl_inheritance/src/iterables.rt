@@ -16,7 +16,7 @@ use crate::iterations::{first_hiding_iterable, first_second_iterable};
 use std::alloc::{AllocError, Global};
 use widl_graph::{either_flag, flag_at};
 use widl_idl::{Violation, earlier_violation};
-use widl_names::{Meanings, Parts};
+use widl_names::Scope;
 
 /// Where the rules on iterables are broken first.
 #[derive(Clone, Copy)]
@@ -33,40 +33,36 @@ pub struct IterableViolations {
 /// # Errors
 ///
 /// `AllocError` where there is no memory.
-pub fn find_iterables<'a>(
+pub fn find_iterables(
     alloc: Global,
-    meanings: &Meanings<'_, 'a>,
-    parts: &Parts<'_, 'a>,
+    scope: &Scope<'_, '_>,
 ) -> Result<IterableViolations, AllocError>
-    requires same { parts.now ≡ meanings.now }
-    requires acyclic { IsAcyclic (parent_links (plain_definitions meanings.now)) }
-    ensures second { IfOk result (λ violations. FirstWhere (HasSecondIterable (plain_definitions meanings.now)) violations.second) }
-    ensures hidden { IfOk result (λ violations. FirstWhere (HidesIterationMethod (plain_definitions meanings.now)) violations.hidden) }
+    requires { IsAcyclic (parent_links (plain_definitions scope.now)) }
+    ensures second { IfOk result (λ violations. FirstWhere (HasSecondIterable (plain_definitions scope.now)) violations.second) }
+    ensures hidden { IfOk result (λ violations. FirstWhere (HidesIterationMethod (plain_definitions scope.now)) violations.hidden) }
 {
-    let own = own_flags(alloc, meanings, parts)?;
-    let inherited = inherited_flags(alloc, meanings, &own)?;
-    find_in_interfaces(alloc, meanings, parts, &own, &inherited)
+    let own = own_flags(alloc, scope)?;
+    let inherited = inherited_flags(alloc, scope.meanings(), &own)?;
+    find_in_interfaces(alloc, scope, &own, &inherited)
 }
 
 /// The first places in all interfaces, where the flags tell what each has and inherits.
-fn find_in_interfaces<'a>(
+fn find_in_interfaces(
     alloc: Global,
-    meanings: &Meanings<'_, 'a>,
-    parts: &Parts<'_, 'a>,
+    scope: &Scope<'_, '_>,
     own: &InterfaceFlags,
     inherited: &InterfaceFlags,
 ) -> Result<IterableViolations, AllocError>
-    requires same { parts.now ≡ meanings.now }
-    requires told { TellsMembers has_iterable (plain_definitions meanings.now) own.now.iterable.items }
-    ensures second { IfOk result (λ violations. FirstWhere (BelowCount (HasSecondAt (plain_definitions meanings.now) inherited.now.iterable.items) (length (plain_definitions meanings.now))) violations.second) }
-    ensures hidden { IfOk result (λ violations. FirstWhere (BelowCount (HidesAt (plain_definitions meanings.now) own.now.named.items inherited.now.named.items) (length (plain_definitions meanings.now))) violations.hidden) }
+    requires { TellsMembers has_iterable (plain_definitions scope.now) own.now.iterable.items }
+    ensures second { IfOk result (λ violations. FirstWhere (BelowCount (HasSecondAt (plain_definitions scope.now) inherited.now.iterable.items) (length (plain_definitions scope.now))) violations.second) }
+    ensures hidden { IfOk result (λ violations. FirstWhere (BelowCount (HidesAt (plain_definitions scope.now) own.now.named.items inherited.now.named.items) (length (plain_definitions scope.now))) violations.hidden) }
 {
     let mut best = IterableViolations {
         second: None,
         hidden: None,
     };
-    for number in 0..meanings.all().len() {
-        let found = find_in_interface(alloc, meanings, parts, own, inherited, number)?;
+    for number in 0..scope.all().len() {
+        let found = find_in_interface(alloc, scope, own, inherited, number)?;
         best = earlier_violations(best, found);
     }
     Ok(best)
@@ -74,18 +70,16 @@ fn find_in_interfaces<'a>(
 
 /// The first places in the interface of this number. Few interfaces have an iterable, so the members of
 /// the others aren't listed again.
-fn find_in_interface<'a>(
+fn find_in_interface(
     alloc: Global,
-    meanings: &Meanings<'_, 'a>,
-    parts: &Parts<'_, 'a>,
+    scope: &Scope<'_, '_>,
     own: &InterfaceFlags,
     inherited: &InterfaceFlags,
     number: usize,
 ) -> Result<IterableViolations, AllocError>
-    requires same { parts.now ≡ meanings.now }
-    requires told { TellsMembers has_iterable (plain_definitions meanings.now) own.now.iterable.items }
-    ensures second { IfOk result (λ violations. FirstWhere (HasSecondAt (plain_definitions meanings.now) inherited.now.iterable.items number) violations.second) }
-    ensures hidden { IfOk result (λ violations. FirstWhere (HidesAt (plain_definitions meanings.now) own.now.named.items inherited.now.named.items number) violations.hidden) }
+    requires { TellsMembers has_iterable (plain_definitions scope.now) own.now.iterable.items }
+    ensures second { IfOk result (λ violations. FirstWhere (HasSecondAt (plain_definitions scope.now) inherited.now.iterable.items number) violations.second) }
+    ensures hidden { IfOk result (λ violations. FirstWhere (HidesAt (plain_definitions scope.now) own.now.named.items inherited.now.named.items number) violations.hidden) }
 {
     if !flag_at(own.iterable.as_slice(), number) {
         return Ok(IterableViolations {
@@ -93,7 +87,7 @@ fn find_in_interface<'a>(
             hidden: None,
         });
     }
-    let members = interface_members(alloc, meanings, parts, number)?;
+    let members = interface_members(alloc, scope, number)?;
     let inherits = flag_at(inherited.iterable.as_slice(), number);
     let named = either_flag(own.named.as_slice(), inherited.named.as_slice(), number);
     Ok(IterableViolations {

@@ -20,7 +20,7 @@ use widl_text::integer_of;
 /// Its errors are those of `Resolver::resolve`.
 pub fn other_constant_value<'a>(
     alloc: Global,
-    resolver: &Resolver<'_, '_, 'a>,
+    resolver: &Resolver<'_, 'a>,
     constant: &'a Constant,
 ) -> Result<Option<Violation>, AllocError>
     ensures { IfOk result (λ found. FirstWhere (HasOtherValue (plain_definitions resolver.now) (MemberNode (ConstantMember (constant_of constant.now)))) found) }

@@ -10,25 +10,18 @@ use crate::member_types::find_in_member_types;
 use crate::owners::find_in_owners;
 use std::alloc::{AllocError, Global};
 use widl_idl::Refusal;
-use widl_names::{Meanings, Parts, Resolver};
+use widl_names::Scope;
 use widl_refusals::earlier_refusal;
 
 /// The first refusal by the rules on members, among those of their owner and with what their types mean.
 ///
 /// # Errors
 ///
-/// `AllocError` where there is no memory, and the errors of [`Resolver::resolve`].
-pub fn find_in_members<'a>(
-    alloc: Global,
-    meanings: &Meanings<'_, 'a>,
-    parts: &Parts<'_, 'a>,
-    resolver: &Resolver<'_, '_, 'a>,
-) -> Result<Option<Refusal>, AllocError>
-    requires same { parts.now ≡ meanings.now }
-    requires resolved { resolver.now ≡ meanings.now }
-    ensures { IfOk result (λ found. (list : DefsTerm) → IsFirstOver list (plain_definitions meanings.now) member_rules found) }
+/// `AllocError` where there is no memory, and the errors of [`widl_names::Resolver::resolve`].
+pub fn find_in_members(alloc: Global, scope: &Scope<'_, '_>) -> Result<Option<Refusal>, AllocError>
+    ensures { IfOk result (λ found. (list : DefsTerm) → IsFirstOver list (plain_definitions scope.now) member_rules found) }
 {
-    let owners = find_in_owners(alloc, meanings, parts, resolver)?;
-    let types = find_in_member_types(alloc, resolver, meanings.all())?;
+    let owners = find_in_owners(alloc, scope)?;
+    let types = find_in_member_types(alloc, scope.resolver(), scope.all())?;
     Ok(earlier_refusal(owners, types))
 }

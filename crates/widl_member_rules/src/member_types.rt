@@ -29,7 +29,7 @@ use widl_refusals::{earlier_refusal, first, is_unit_string};
 /// Those of [`Resolver::resolve`] for at most [`MOST_TYPES`].
 pub fn find_in_member_types<'a>(
     alloc: Global,
-    resolver: &Resolver<'_, '_, 'a>,
+    resolver: &Resolver<'_, 'a>,
     definitions: &[&'a Definition],
 ) -> Result<Option<Refusal>, AllocError>
     ensures { IfOk result (λ found. IsFirst (NodesBreak (plain_definitions resolver.now) (nodes_of (listed_definitions definitions.now))) member_rules found) }
@@ -58,7 +58,7 @@ fn own_members(kind: &DefinitionKind) -> &[Member]
 /// The first refusal among members.
 fn find_in_members<'a>(
     alloc: Global,
-    resolver: &Resolver<'_, '_, 'a>,
+    resolver: &Resolver<'_, 'a>,
     members: &'a [Member],
 ) -> Result<Option<Refusal>, AllocError>
     ensures { IfOk result (λ found. IsFirst (NodesBreak (plain_definitions resolver.now) (member_nodes (members_of members.now))) member_rules found) }
@@ -74,7 +74,7 @@ fn find_in_members<'a>(
 /// The first refusal by one member.
 fn find_in_member<'a>(
     alloc: Global,
-    resolver: &Resolver<'_, '_, 'a>,
+    resolver: &Resolver<'_, 'a>,
     member: &'a MemberKind,
 ) -> Result<Option<Refusal>, AllocError>
     ensures { IfOk result (λ found. IsFirst (λ which. BreaksNode (plain_definitions resolver.now) which (MemberNode (member_kind_of member.now))) member_rules found) }
@@ -90,7 +90,7 @@ fn find_in_member<'a>(
 /// The place of a constant's value that is not of its type, or not in its range.
 fn other_value<'a>(
     alloc: Global,
-    resolver: &Resolver<'_, '_, 'a>,
+    resolver: &Resolver<'_, 'a>,
     member: &'a MemberKind,
 ) -> Result<Option<Violation>, AllocError>
     ensures { IfOk result (λ found. FirstWhere (HasOtherValue (plain_definitions resolver.now) (MemberNode (member_kind_of member.now))) found) }
@@ -111,7 +111,7 @@ fn other_value<'a>(
 /// The place of an attribute's name whose type is a promise and that isn't read only.
 fn writable_promise<'a>(
     alloc: Global,
-    resolver: &Resolver<'_, '_, 'a>,
+    resolver: &Resolver<'_, 'a>,
     member: &'a MemberKind,
 ) -> Result<Option<Violation>, AllocError>
     ensures { IfOk result (λ found. FirstWhere (IsWritablePromise (plain_definitions resolver.now) (MemberNode (member_kind_of member.now))) found) }
@@ -132,7 +132,7 @@ fn writable_promise<'a>(
 /// The place of the name of an attribute, if its type is a promise and it isn't read only.
 fn promise_place<'a>(
     alloc: Global,
-    resolver: &Resolver<'_, '_, 'a>,
+    resolver: &Resolver<'_, 'a>,
     attribute: &'a Attribute,
 ) -> Result<Option<Violation>, AllocError>
     ensures { IfOk result (λ found. FirstWhere (IsWritablePromise (plain_definitions resolver.now) (MemberNode (AttributeMember (attribute_member_of attribute.now)))) found) }
@@ -157,7 +157,7 @@ fn is_promise(t: &IdlType) -> bool
 /// The place of the word `stringifier` before an attribute that is neither a DOMString nor a USVString.
 fn other_stringifier<'a>(
     alloc: Global,
-    resolver: &Resolver<'_, '_, 'a>,
+    resolver: &Resolver<'_, 'a>,
     member: &'a MemberKind,
 ) -> Result<Option<Violation>, AllocError>
     ensures { IfOk result (λ found. FirstWhere (IsOtherStringifier (plain_definitions resolver.now) (MemberNode (member_kind_of member.now))) found) }
@@ -178,7 +178,7 @@ fn other_stringifier<'a>(
 /// The place of the word `stringifier` before an attribute, if that is of another type.
 fn stringifier_place<'a>(
     alloc: Global,
-    resolver: &Resolver<'_, '_, 'a>,
+    resolver: &Resolver<'_, 'a>,
     attribute: &'a Attribute,
 ) -> Result<Option<Violation>, AllocError>
     ensures { IfOk result (λ found. FirstWhere (IsOtherStringifier (plain_definitions resolver.now) (MemberNode (AttributeMember (attribute_member_of attribute.now)))) found) }
@@ -197,7 +197,7 @@ fn stringifier_place<'a>(
 /// What an attribute's type means after its own annotations alone.
 fn own_type<'a>(
     alloc: Global,
-    resolver: &Resolver<'_, '_, 'a>,
+    resolver: &Resolver<'_, 'a>,
     attribute: &'a Attribute,
 ) -> Result<IdlType, AllocError>
     ensures { IfOk result (λ t. type_term t ≡ meaning_of_annotated (plain_definitions resolver.now) [] (annotated_of attribute.now.ty)) }

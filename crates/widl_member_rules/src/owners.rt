@@ -20,7 +20,7 @@ use crate::stringifiers::first_second_stringifier;
 use std::alloc::{AllocError, Global};
 use widl_idl::tree::{DefinitionKind, Member};
 use widl_idl::{Kind, Refusal, Violation};
-use widl_names::{Meanings, Parts, Resolver, kind_of, list_members, means_itself};
+use widl_names::{Meanings, Resolver, Scope, kind_of, list_members, means_itself};
 use widl_overload::ValidityRule;
 use widl_refusals::{earlier_refusal, first};
 
@@ -29,21 +29,13 @@ use widl_refusals::{earlier_refusal, first};
 /// # Errors
 ///
 /// `AllocError` where there is no memory, and the errors of [`Resolver::resolve`].
-pub fn find_in_owners<'a>(
-    alloc: Global,
-    meanings: &Meanings<'_, 'a>,
-    parts: &Parts<'_, 'a>,
-    resolver: &Resolver<'_, '_, 'a>,
-) -> Result<Option<Refusal>, AllocError>
-    requires same { parts.now ≡ meanings.now }
-    requires resolved { resolver.now ≡ meanings.now }
-    ensures { IfOk result (λ found. IsFirst (ByOwner (plain_definitions meanings.now)) member_rules found) }
+pub fn find_in_owners(alloc: Global, scope: &Scope<'_, '_>) -> Result<Option<Refusal>, AllocError>
+    ensures { IfOk result (λ found. IsFirst (ByOwner (plain_definitions scope.now)) member_rules found) }
 {
     let mut best = None;
-    let definitions = meanings.all();
+    let definitions = scope.all();
     for (number, definition) in definitions.iter().enumerate() {
-        let kind = &definition.kind;
-        let found = find_in_owner(alloc, meanings, parts, resolver, number, kind)?;
+        let found = find_in_owner(alloc, scope, number, &definition.kind)?;
         best = earlier_refusal(best, found);
     }
     Ok(best)
@@ -51,23 +43,19 @@ pub fn find_in_owners<'a>(
 
 /// The first refusal in the definition of this number, if it is an interface or a namespace that its name
 /// means.
-fn find_in_owner<'a>(
+fn find_in_owner(
     alloc: Global,
-    meanings: &Meanings<'_, 'a>,
-    parts: &Parts<'_, 'a>,
-    resolver: &Resolver<'_, '_, 'a>,
+    scope: &Scope<'_, '_>,
     number: usize,
     kind: &DefinitionKind,
 ) -> Result<Option<Refusal>, AllocError>
-    requires same { parts.now ≡ meanings.now }
-    requires resolved { resolver.now ≡ meanings.now }
-    requires there { option_map (λ d. d.kind) (slice_get (plain_definitions meanings.now) number) ≡ Some (definition_kind_of kind.now) }
-    ensures { IfOk result (λ found. IsFirst (OwnerBreaks (plain_definitions meanings.now) number (definition_kind_of kind.now)) member_rules found) }
+    requires { option_map (λ d. d.kind) (slice_get (plain_definitions scope.now) number) ≡ Some (definition_kind_of kind.now) }
+    ensures { IfOk result (λ found. IsFirst (OwnerBreaks (plain_definitions scope.now) number (definition_kind_of kind.now)) member_rules found) }
 {
-    if is_owner(meanings, number, kind) {
-        let list = parts.list(alloc, number)?;
+    if is_owner(scope.meanings(), number, kind) {
+        let list = scope.parts().list(alloc, number)?;
         let members = list_members(alloc, &list)?;
-        find_in_members(alloc, resolver, kind_of(kind), &members)
+        find_in_members(alloc, scope.resolver(), kind_of(kind), &members)
     } else {
         Ok(None)
     }
@@ -101,7 +89,7 @@ fn is_interface(kind: Kind) -> bool
 /// The first refusal among these members of an interface or a namespace; each rule asks its kinds alone.
 fn find_in_members<'a>(
     alloc: Global,
-    resolver: &Resolver<'_, '_, 'a>,
+    resolver: &Resolver<'_, 'a>,
     kind: Kind,
     members: &[&'a Member],
 ) -> Result<Option<Refusal>, AllocError>

@@ -32,7 +32,7 @@ struct ReturnedKinds<'a> {
 /// Those of [`Resolver::resolve`].
 pub fn first_mixing_promises<'a>(
     alloc: Global,
-    resolver: &Resolver<'_, '_, 'a>,
+    resolver: &Resolver<'_, 'a>,
     members: &[&'a Member],
 ) -> Result<Option<Violation>, AllocError>
     ensures { IfOk result (λ found. FirstWhere (AtOne (MixesPromises (plain_definitions resolver.now)) (listed_members members.now)) found) }
@@ -51,7 +51,7 @@ pub fn first_mixing_promises<'a>(
 /// Whether a member is an operation that returns a promise.
 fn gives_promise<'a>(
     alloc: Global,
-    resolver: &Resolver<'_, '_, 'a>,
+    resolver: &Resolver<'_, 'a>,
     kind: &'a MemberKind,
 ) -> Result<bool, AllocError>
     ensures { IfOk result (λ promise. promise ≡ gives_promise (plain_definitions resolver.now) (member_kind_of kind.now)) }
@@ -64,7 +64,7 @@ fn gives_promise<'a>(
 
 fn returns_promise<'a>(
     alloc: Global,
-    resolver: &Resolver<'_, '_, 'a>,
+    resolver: &Resolver<'_, 'a>,
     operation: &'a Operation,
 ) -> Result<bool, AllocError>
     ensures { IfOk result (λ promise. promise ≡ returns_promise (plain_definitions resolver.now) (operation_of operation.now)) }

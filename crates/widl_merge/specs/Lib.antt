@@ -11,5 +11,6 @@ pub mod PutTogether
 pub mod PlainMain
 pub mod GrownLists
 pub mod MergedDefs
+pub mod MergedLists
 pub mod NodeRules
 pub mod Countable

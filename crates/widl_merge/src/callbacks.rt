@@ -23,7 +23,7 @@ use widl_text::Units;
 /// `AllocError` where there is no memory or there are no more steps.
 pub fn callback_meant<'a>(
     alloc: Global,
-    resolver: &Resolver<'_, '_, 'a>,
+    resolver: &Resolver<'_, 'a>,
     steps: &mut usize,
     texts: &mut LongTexts<'a>,
     callback: &'a tree::Callback,
@@ -49,7 +49,7 @@ pub fn callback_meant<'a>(
 /// Those of [`callback_meant`].
 pub fn callback_interface_meant<'a>(
     alloc: Global,
-    resolver: &Resolver<'_, '_, 'a>,
+    resolver: &Resolver<'_, 'a>,
     steps: &mut usize,
     texts: &mut LongTexts<'a>,
     callback: &'a CallbackInterface,
@@ -95,7 +95,7 @@ fn callback_without_operation(alloc: Global, name: &Name) -> Result<Callback, Al
 /// A callback interface of this name with this operation.
 fn callback_by<'a>(
     alloc: Global,
-    resolver: &Resolver<'_, '_, 'a>,
+    resolver: &Resolver<'_, 'a>,
     steps: &mut usize,
     texts: &mut LongTexts<'a>,
     name: &Name,

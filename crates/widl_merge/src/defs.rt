@@ -1,6 +1,6 @@
 //! The merged list of definitions.
 
-ghost use Rattle.std.specs.Prelude.{◌<◌, ◌^◌, List, [], length, IfOk, OnOk};
+ghost use Rattle.std.specs.Prelude.{List, [], IfOk, OnOk};
 ghost use Rattle.widl_idl.specs.DefinitionTerms.{dict_term, iface_term, space_term};
 ghost use Rattle.widl_idl.specs.MergedList.{dictionary_if, interface_if, namespace_if};
 ghost use Rattle.widl_idl.specs.PlainTrees.{PlainDefinition, DictionaryDefinition, InterfaceDefinition, NamespaceDefinition, definition_kind_of, plain_definitions};
@@ -16,7 +16,7 @@ use crate::sources::Sources;
 use std::alloc::{AllocError, Global};
 use widl_idl::tree::{DefinitionKind, Dictionary, Interface, Namespace};
 use widl_idl::{Defs, Dicts, Ifaces, Spaces};
-use widl_names::Meanings;
+use widl_names::Scope;
 use widl_text::Items;
 
 /// The merged list of definitions that break no rule of merging.
@@ -28,17 +28,16 @@ use widl_text::Items;
 /// `AllocError` where there is no memory, also where no steps are left.
 pub fn merge_definitions(
     alloc: Global,
-    meanings: &Meanings<'_, '_>,
+    scope: &Scope<'_, '_>,
     steps: &mut usize,
 ) -> Result<Defs, AllocError>
-    requires kept { AreKept (plain_definitions meanings.now) }
-    requires few { length meanings.now < 2 ^ 32 }
-    ensures { IfOk result (λ defs. AreListed (plain_definitions meanings.now) (plain_definitions meanings.now) defs) }
+    requires { AreKept (plain_definitions scope.now) }
+    ensures { IfOk result (λ defs. AreListed (plain_definitions scope.now) (plain_definitions scope.now) defs) }
 {
-    let sources = Sources::of(alloc, meanings)?;
+    let sources = Sources::of(alloc, scope)?;
     let mut texts = LongTexts::new(alloc);
     let mut defs = no_definitions(alloc);
-    let definitions = meanings.all();
+    let definitions = scope.all();
     for (number, definition) in definitions.iter().enumerate() {
         add_definition(
             alloc,

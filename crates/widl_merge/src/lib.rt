@@ -2,7 +2,7 @@
 //! definitions that the files declare. It stands on the trees, the predicates and the violations of
 //! `widl_idl`, on the walk of `widl_graph`, and on the names of `widl_names`. The contract that is used above:
 //! [`merge`] answers the merged list of files that break none of these rules, or exactly the first
-//! refusal.
+//! refusal; [`merge_scope`] is the same where the tables of the files' names are at hand.
 #![tactic(auto)]
 
 mod callbacks;
@@ -33,4 +33,4 @@ mod sources;
 mod sums;
 mod typedefs;
 
-pub use merged_set::{MergeFault, merge};
+pub use merged_set::{MergeFault, merge, merge_scope};

@@ -24,7 +24,7 @@ use widl_names::{Resolver, default_meant, value_meant};
 /// `AllocError` where there is no memory or there are no more steps.
 pub fn attribute_meant<'a>(
     alloc: Global,
-    resolver: &Resolver<'_, '_, 'a>,
+    resolver: &Resolver<'_, 'a>,
     steps: &mut usize,
     texts: &mut LongTexts<'a>,
     attributes: &'a [ExtendedAttribute],
@@ -61,7 +61,7 @@ fn is_static_attribute(kind: AttributeKind) -> bool
 /// Those of [`attribute_meant`].
 pub fn constant_meant<'a>(
     alloc: Global,
-    resolver: &Resolver<'_, '_, 'a>,
+    resolver: &Resolver<'_, 'a>,
     steps: &mut usize,
     texts: &mut LongTexts<'a>,
     constant: &'a tree::Constant,
@@ -86,7 +86,7 @@ pub fn constant_meant<'a>(
 /// Those of [`attribute_meant`].
 pub fn pair_meant<'a>(
     alloc: Global,
-    resolver: &Resolver<'_, '_, 'a>,
+    resolver: &Resolver<'_, 'a>,
     steps: &mut usize,
     iterable: &'a Iterable,
 ) -> Result<Option<Pair>, AllocError>
@@ -109,7 +109,7 @@ pub fn pair_meant<'a>(
 /// Those of [`attribute_meant`].
 pub fn dictionary_member_meant<'a>(
     alloc: Global,
-    resolver: &Resolver<'_, '_, 'a>,
+    resolver: &Resolver<'_, 'a>,
     steps: &mut usize,
     member: &'a DictionaryMember,
 ) -> Result<Member, AllocError>

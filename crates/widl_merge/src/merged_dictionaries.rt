@@ -49,7 +49,7 @@ pub fn dictionary_meant(
 /// What these members mean.
 fn members_meant<'a>(
     alloc: Global,
-    resolver: &Resolver<'_, '_, 'a>,
+    resolver: &Resolver<'_, 'a>,
     steps: &mut usize,
     list: &[&'a DictionaryMember],
 ) -> Result<Members, AllocError>

@@ -86,7 +86,7 @@ impl MemberCounts {
 /// left.
 pub fn put_together<'a>(
     alloc: Global,
-    resolver: &Resolver<'_, '_, 'a>,
+    resolver: &Resolver<'_, 'a>,
     steps: &mut usize,
     texts: &mut LongTexts<'a>,
     members: &[&'a Member],
@@ -122,7 +122,7 @@ impl MergedMembers {
     fn add<'a>(
         &mut self,
         alloc: Global,
-        resolver: &Resolver<'_, '_, 'a>,
+        resolver: &Resolver<'_, 'a>,
         steps: &mut usize,
         texts: &mut LongTexts<'a>,
         numbers: &mut OperationNumbers<'a>,
@@ -160,7 +160,7 @@ impl MergedMembers {
     fn add_constructor<'a>(
         &mut self,
         alloc: Global,
-        resolver: &Resolver<'_, '_, 'a>,
+        resolver: &Resolver<'_, 'a>,
         steps: &mut usize,
         texts: &mut LongTexts<'a>,
         constructor: &'a Constructor,
@@ -174,7 +174,7 @@ impl MergedMembers {
     fn add_constant<'a>(
         &mut self,
         alloc: Global,
-        resolver: &Resolver<'_, '_, 'a>,
+        resolver: &Resolver<'_, 'a>,
         steps: &mut usize,
         texts: &mut LongTexts<'a>,
         constant: &'a Constant,
@@ -190,7 +190,7 @@ impl MergedMembers {
     fn add_attribute<'a>(
         &mut self,
         alloc: Global,
-        resolver: &Resolver<'_, '_, 'a>,
+        resolver: &Resolver<'_, 'a>,
         steps: &mut usize,
         texts: &mut LongTexts<'a>,
         attributes: &'a [ExtendedAttribute],
@@ -226,7 +226,7 @@ impl MergedMembers {
     fn add_iterable<'a>(
         &mut self,
         alloc: Global,
-        resolver: &Resolver<'_, '_, 'a>,
+        resolver: &Resolver<'_, 'a>,
         steps: &mut usize,
         iterable: &'a Iterable,
     ) -> Result<(), AllocError>
@@ -247,7 +247,7 @@ impl MergedMembers {
     fn add_operation<'a>(
         &mut self,
         alloc: Global,
-        resolver: &Resolver<'_, '_, 'a>,
+        resolver: &Resolver<'_, 'a>,
         steps: &mut usize,
         texts: &mut LongTexts<'a>,
         numbers: &mut OperationNumbers<'a>,

@@ -1,21 +1,20 @@
 //! Merging: from the trees of a set of files to its merged list, or to its refusal.
 
-ghost use Rattle.std.specs.Prelude.{◌≡◌, ◌<◌, ◌^◌, IfOk, IsErrOf, None, Some, length};
+ghost use Rattle.std.specs.Prelude.{◌≡◌, IfOk, IsErrOf, None, Some};
 ghost use Rattle.widl_idl.specs.declared.refusal.Refusal.{Refusal as RefusalType};
 ghost use Rattle.widl_idl.specs.MergedSets.{AreFiles, IsMerged};
 ghost use Rattle.widl_idl.specs.Meanings.{definitions_of};
-ghost use Rattle.widl_names.specs.Listings.{listed_definitions};
+ghost use Rattle.widl_idl.specs.PlainTrees.{plain_definitions};
 ghost use Rattle.widl_merge.specs.Countable.{IsCountable};
-ghost use Rattle.widl_merge.specs.MergedDefs.{AreMerged};
+ghost use Rattle.widl_merge.specs.MergedLists.{IsListOf};
 ghost use Rattle.widl_merge.specs.Refusals.{IsRefusal};
 
 use crate::defs::merge_definitions;
-use crate::refusals::find_in_definitions;
+use crate::refusals::find_refusal;
 use std::alloc::{AllocError, Global};
 use thiserror::Error;
-use widl_idl::tree::Definition;
 use widl_idl::{Defs, Fragment, Fragments, Merged, Refusal};
-use widl_names::{MOST_TYPES, Meanings, list_definitions};
+use widl_names::{MOST_TYPES, Scope, list_definitions};
 
 /// Why a set of files has no merged list.
 #[derive(Clone, Copy, Debug, PartialEq, Eq, Error)]
@@ -45,9 +44,7 @@ impl From<AllocError> for MergeFault {
 ///
 /// # Errors
 ///
-/// `Refused` with the first refusal: by the rules of the profile, or, where none of these is broken, by
-/// the rules of merging. `Memory` where there is no memory, also where more than [`MOST_TYPES`] types
-/// stand in the types of its typedefs.
+/// Those of [`merge_scope`].
 pub fn merge(alloc: Global, fragments: Fragments) -> Result<Merged, MergeFault>
     requires files { AreFiles fragments }
     requires countable { IsCountable (definitions_of fragments) }
@@ -61,34 +58,40 @@ pub fn merge(alloc: Global, fragments: Fragments) -> Result<Merged, MergeFault>
 
 /// The merged list alone.
 fn merge_files(alloc: Global, fragments: &[Fragment]) -> Result<Defs, MergeFault>
-    requires { length (definitions_of fragments.now) < 2 ^ 32 }
-    ensures merged { IfOk result (λ defs. AreMerged (definitions_of fragments.now) defs) }
+    requires files { AreFiles fragments.now }
+    requires countable { IsCountable (definitions_of fragments.now) }
+    ensures merged { IfOk result (λ defs. IsMerged defs fragments.now) }
     ensures refused { (refusal : RefusalType) → IsErrOf result (MergeFault.Refused refusal) → IsRefusal (definitions_of fragments.now) (Some refusal) }
 {
     let definitions = list_definitions(alloc, fragments)?;
-    merge_listed(alloc, &definitions)
+    let scope = Scope::of(alloc, &definitions)?;
+    merge_scope(alloc, &scope)
 }
 
-/// The same, where the definitions are listed.
-fn merge_listed(alloc: Global, definitions: &[&Definition]) -> Result<Defs, MergeFault>
-    requires { length definitions.now < 2 ^ 32 }
-    ensures merged { IfOk result (λ defs. AreMerged (listed_definitions definitions.now) defs) }
-    ensures refused { (refusal : RefusalType) → IsErrOf result (MergeFault.Refused refusal) → IsRefusal (listed_definitions definitions.now) (Some refusal) }
+/// The merged list of files whose definitions are in scope.
+///
+/// # Errors
+///
+/// `Refused` with the first refusal: by the rules of the profile, or, where none of these is broken, by
+/// the rules of merging. `Memory` where there is no memory, also where more than [`MOST_TYPES`] types
+/// stand in the types of its typedefs.
+pub fn merge_scope(alloc: Global, scope: &Scope<'_, '_>) -> Result<Defs, MergeFault>
+    requires { IsCountable (plain_definitions scope.now) }
+    ensures merged { IfOk result (IsListOf (plain_definitions scope.now)) }
+    ensures refused { (refusal : RefusalType) → IsErrOf result (MergeFault.Refused refusal) → IsRefusal (plain_definitions scope.now) (Some refusal) }
 {
-    let found = find_in_definitions(alloc, definitions)?;
-    match found {
+    match find_refusal(alloc, scope)? {
         Some(refusal) => Err(MergeFault::Refused(refusal)),
-        None => Ok(merge_unbroken(alloc, definitions)?),
+        None => Ok(merge_unbroken(alloc, scope)?),
     }
 }
 
 /// The merged list of definitions that break no rule.
-fn merge_unbroken(alloc: Global, definitions: &[&Definition]) -> Result<Defs, AllocError>
-    requires unbroken { IsRefusal (listed_definitions definitions.now) None }
-    requires few { length definitions.now < 2 ^ 32 }
-    ensures { IfOk result (λ defs. AreMerged (listed_definitions definitions.now) defs) }
+fn merge_unbroken(alloc: Global, scope: &Scope<'_, '_>) -> Result<Defs, AllocError>
+    requires countable { IsCountable (plain_definitions scope.now) }
+    requires unbroken { IsRefusal (plain_definitions scope.now) None }
+    ensures { IfOk result (IsListOf (plain_definitions scope.now)) }
 {
     let mut left = MOST_TYPES;
-    let meanings = Meanings::of(alloc, definitions)?;
-    merge_definitions(alloc, &meanings, &mut left)
+    merge_definitions(alloc, scope, &mut left)
 }

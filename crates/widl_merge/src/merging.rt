@@ -8,7 +8,7 @@ ghost use Rattle.widl_idl.specs.PlainTrees.{plain_definitions};
 ghost use Rattle.widl_idl.specs.Nodes.{nodes_of};
 ghost use Rattle.widl_idl.specs.declared.merging_rule.MergingRule as rules;
 ghost use Rattle.widl_idl.specs.declared.merging_rule.MergingRule.TheVariants as rule;
-ghost use Rattle.widl_names.specs.Listings.{listed_definitions, nodes_listed};
+ghost use Rattle.widl_names.specs.Listings.{nodes_listed};
 ghost use Rattle.widl_graph.specs.Walks.{IsWalkOver};
 ghost use Rattle.widl_merge.specs.Refusals.{IsMergingRefusal};
 ghost use Rattle.widl_merge.specs.NodeRules.{AreFirst};
@@ -26,37 +26,35 @@ use crate::sums::first_past_limit;
 use crate::typedefs::{first_typedef_reaching_itself, walk_typedefs};
 use std::alloc::{AllocError, Global};
 use widl_graph::Walk;
-use widl_idl::tree::Definition;
 use widl_idl::{MergingRule, Refusal, joined};
-use widl_names::{Meanings, Node, Parts};
+use widl_names::{Meanings, Node, Scope};
 
 /// The first refusal by a rule of merging, or none where all of them are kept. The nodes are everything
 /// that is written in the definitions.
 pub fn first_unmerged(
     alloc: Global,
-    definitions: &[&Definition],
+    scope: &Scope<'_, '_>,
     nodes: &[Node<'_>],
 ) -> Result<Option<Refusal>, AllocError>
-    requires { nodes_listed nodes.now ≡ nodes_of (listed_definitions definitions.now) }
-    ensures { IfOk result (λ refusal. IsMergingRefusal (listed_definitions definitions.now) refusal) }
+    requires { nodes_listed nodes.now ≡ nodes_of (plain_definitions scope.now) }
+    ensures { IfOk result (λ refusal. IsMergingRefusal (plain_definitions scope.now) refusal) }
 {
-    let meanings = Meanings::of(alloc, definitions)?;
-    let walk = walk_typedefs(alloc, &meanings)?;
-    let depths = definition_depths(alloc, &meanings, &walk)?;
-    let violations = first_in_nodes(&meanings, &depths, nodes);
-    let best = join_members(alloc, &meanings)?;
-    let best = join_links(alloc, &meanings, &walk, violations, best)?;
-    Ok(join_names(&meanings, violations, best))
+    let meanings = scope.meanings();
+    let walk = walk_typedefs(alloc, meanings)?;
+    let depths = definition_depths(alloc, meanings, &walk)?;
+    let violations = first_in_nodes(meanings, &depths, nodes);
+    let best = join_members(alloc, scope)?;
+    let best = join_links(alloc, meanings, &walk, violations, best)?;
+    Ok(join_names(meanings, violations, best))
 }
 
 /// The rules on the parts of definitions.
-fn join_members(alloc: Global, meanings: &Meanings<'_, '_>) -> Result<Option<Refusal>, AllocError>
-    ensures { IfOk result (λ best. FirstBroken merging_number (BreaksMerging (plain_definitions meanings.now)) (rule.OperationInTwoParts ∷ rule.TooManyMembers ∷ []) best) }
+fn join_members(alloc: Global, scope: &Scope<'_, '_>) -> Result<Option<Refusal>, AllocError>
+    ensures { IfOk result (λ best. FirstBroken merging_number (BreaksMerging (plain_definitions scope.now)) (rule.OperationInTwoParts ∷ rule.TooManyMembers ∷ []) best) }
 {
-    let found = first_past_limit(alloc, meanings)?;
+    let found = first_past_limit(alloc, scope.meanings())?;
     let best = joined(MergingRule::TooManyMembers.number(), found, None);
-    let parts = Parts::of(alloc, meanings)?;
-    let found = first_in_two_parts(alloc, meanings, &parts)?;
+    let found = first_in_two_parts(alloc, scope)?;
     Ok(joined(MergingRule::OperationInTwoParts.number(), found, best))
 }
 

@@ -14,7 +14,7 @@ ghost use Rattle.widl_names.specs.KnownTexts.{has_name};
 use std::alloc::{AllocError, Global};
 use widl_idl::tree::{DefinitionKind, Member, MemberKind, Operation};
 use widl_idl::{Kind, Violation, earlier_violation};
-use widl_names::{Meanings, OperationNames, Parts, is_static, kind_of, means_itself, members_in};
+use widl_names::{Meanings, OperationNames, Scope, is_static, kind_of, means_itself, members_in};
 
 /// The first place of the name of an operation that an earlier part of the same definition has too.
 ///
@@ -23,16 +23,14 @@ use widl_names::{Meanings, OperationNames, Parts, is_static, kind_of, means_itse
 /// `AllocError` where there is no memory.
 pub fn first_in_two_parts(
     alloc: Global,
-    meanings: &Meanings,
-    parts: &Parts,
+    scope: &Scope<'_, '_>,
 ) -> Result<Option<Violation>, AllocError>
-    requires { parts.now ≡ meanings.now }
-    ensures { IfOk result (λ found. FirstWhere (BreaksMerging (plain_definitions meanings.now) rule.OperationInTwoParts) found) }
+    ensures { IfOk result (λ found. FirstWhere (BreaksMerging (plain_definitions scope.now) rule.OperationInTwoParts) found) }
 {
     let mut best = None;
-    let definitions = meanings.all();
+    let definitions = scope.all();
     for (number, definition) in definitions.iter().enumerate() {
-        let found = first_of_owner(alloc, meanings, parts, number, &definition.kind)?;
+        let found = first_of_owner(alloc, scope, number, &definition.kind)?;
         best = earlier_violation(best, found);
     }
     Ok(best)
@@ -41,17 +39,15 @@ pub fn first_in_two_parts(
 /// The same in the parts of the definition of this number, if its name means it.
 fn first_of_owner(
     alloc: Global,
-    meanings: &Meanings,
-    parts: &Parts,
+    scope: &Scope<'_, '_>,
     number: usize,
     kind: &DefinitionKind,
 ) -> Result<Option<Violation>, AllocError>
-    requires same { parts.now ≡ meanings.now }
-    requires there { option_map (λ d. d.kind) (slice_get (plain_definitions meanings.now) number) ≡ Some (definition_kind_of kind.now) }
-    ensures { IfOk result (λ found. FirstWhere (RepeatsInOwner (plain_definitions meanings.now) number (definition_kind_of kind.now)) found) }
+    requires { option_map (λ d. d.kind) (slice_get (plain_definitions scope.now) number) ≡ Some (definition_kind_of kind.now) }
+    ensures { IfOk result (λ found. FirstWhere (RepeatsInOwner (plain_definitions scope.now) number (definition_kind_of kind.now)) found) }
 {
-    if is_owner(meanings, number, kind) {
-        let list = parts.list(alloc, number)?;
+    if is_owner(scope.meanings(), number, kind) {
+        let list = scope.parts().list(alloc, number)?;
         first_repeated(alloc, &list)
     } else {
         Ok(None)

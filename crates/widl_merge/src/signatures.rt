@@ -20,7 +20,7 @@ use widl_text::Place;
 /// `AllocError` where there is no memory or there are no more steps.
 pub fn operation_sig<'a>(
     alloc: Global,
-    resolver: &Resolver<'_, '_, 'a>,
+    resolver: &Resolver<'_, 'a>,
     steps: &mut usize,
     texts: &mut LongTexts<'a>,
     operation: &'a Operation,
@@ -59,7 +59,7 @@ fn operation_place(operation: &Operation) -> Place
 /// Those of [`operation_sig`].
 pub fn constructor_sig<'a>(
     alloc: Global,
-    resolver: &Resolver<'_, '_, 'a>,
+    resolver: &Resolver<'_, 'a>,
     steps: &mut usize,
     texts: &mut LongTexts<'a>,
     constructor: &'a Constructor,
@@ -87,7 +87,7 @@ pub fn constructor_sig<'a>(
 /// Those of [`operation_sig`].
 pub fn args_meant<'a>(
     alloc: Global,
-    resolver: &Resolver<'_, '_, 'a>,
+    resolver: &Resolver<'_, 'a>,
     steps: &mut usize,
     texts: &mut LongTexts<'a>,
     arguments: &'a [Argument],
@@ -104,7 +104,7 @@ pub fn args_meant<'a>(
 
 fn arg_meant<'a>(
     alloc: Global,
-    resolver: &Resolver<'_, '_, 'a>,
+    resolver: &Resolver<'_, 'a>,
     steps: &mut usize,
     texts: &mut LongTexts<'a>,
     argument: &'a Argument,

@@ -1,6 +1,6 @@
 //! What the merged list is made from.
 
-ghost use Rattle.std.specs.Prelude.{◌≡◌, ℕ, ◌<◌, ◌^◌, List, length, map, option_map, IfOk, true};
+ghost use Rattle.std.specs.Prelude.{◌≡◌, ℕ, List, map, option_map, IfOk, true};
 ghost use Rattle.widl_idl.specs.declared.kind.Kind.{Kind as KindType};
 ghost use Rattle.widl_idl.specs.declared.kind.Kind.TheVariants as kinds;
 ghost use Rattle.widl_idl.specs.MergedList.{parent_number};
@@ -16,17 +16,16 @@ use std::alloc::{AllocError, Global};
 use std::marker::Model;
 use widl_idl::Kind;
 use widl_idl::tree::{DictionaryMember, Member, Name};
-use widl_names::{Meanings, Parts, Resolver, list_members};
+use widl_names::{Resolver, Scope, list_members};
 
-/// The definitions of a set of files with what their types mean, and with their parts.
+/// The definitions of a set of files, and the parts of dictionaries.
 #[derive(Drop)]
-pub struct Sources<'m, 'd, 'a> {
-    resolver: Resolver<'m, 'd, 'a>,
-    parts: Parts<'d, 'a>,
+pub struct Sources<'s, 'd, 'a> {
+    scope: &'s Scope<'d, 'a>,
     dictionaries: DictionaryParts<'d, 'a>,
 }
 
-impl<'m, 'd, 'a> Model for Sources<'m, 'd, 'a> {
+impl<'s, 'd, 'a> Model for Sources<'s, 'd, 'a> {
     ghost use Rattle.std.specs.Prelude.{◌≡◌, List};
     ghost use Rattle.std.specs.Coded.{codes};
     ghost use Rattle.widl_idl.specs.contracts.tree.types.TypeForm as written;
@@ -36,39 +35,32 @@ impl<'m, 'd, 'a> Model for Sources<'m, 'd, 'a> {
 
     ghost coded = { Prim.hlevel (codes, written.the_row.coded) };
 
-    ghost view = { λ s. s.resolver };
+    ghost view = { λ s. s.scope.now };
 
-    ghost invariant = { λ s. (s.parts ≡ s.resolver) × (s.dictionaries ≡ s.resolver) };
+    ghost invariant = { λ s. s.dictionaries ≡ s.scope.now };
 }
 
-impl<'m, 'd, 'a> Sources<'m, 'd, 'a> {
+impl<'s, 'd, 'a> Sources<'s, 'd, 'a> {
     /// What the merged list of these definitions is made from.
     ///
     /// # Errors
     ///
     /// `AllocError` where there is no memory.
-    pub fn of(
-        alloc: Global,
-        meanings: &'m Meanings<'d, 'a>,
-    ) -> Result<Sources<'m, 'd, 'a>, AllocError>
-        requires { length meanings.now < 2 ^ 32 }
-        ensures { IfOk result (λ sources. sources ≡ meanings.now) }
+    pub fn of(alloc: Global, scope: &'s Scope<'d, 'a>) -> Result<Sources<'s, 'd, 'a>, AllocError>
+        ensures { IfOk result (λ sources. sources ≡ scope.now) }
     {
-        let resolver = Resolver::of(alloc, meanings)?;
-        let parts = Parts::of(alloc, meanings)?;
-        let dictionaries = DictionaryParts::of(alloc, meanings)?;
+        let dictionaries = DictionaryParts::of(alloc, scope.meanings())?;
         Ok(Sources {
-            resolver,
-            parts,
+            scope,
             dictionaries,
         })
     }
 
     /// What types mean.
-    pub fn resolver(&self) -> &Resolver<'m, 'd, 'a>
+    pub fn resolver(&self) -> &Resolver<'d, 'a>
         ensures { result.now ≡ self.now }
     {
-        &self.resolver
+        self.scope.resolver()
     }
 
     /// The number of the parent, among the definitions of its kind, that a definition of this kind has.
@@ -78,7 +70,7 @@ impl<'m, 'd, 'a> Sources<'m, 'd, 'a> {
     {
         match parent {
             None => None,
-            Some(name) => self.resolver.kind_number(name.text.as_str(), kind),
+            Some(name) => self.resolver().kind_number(name.text.as_str(), kind),
         }
     }
 
@@ -90,7 +82,7 @@ impl<'m, 'd, 'a> Sources<'m, 'd, 'a> {
     pub fn members(&self, alloc: Global, number: usize) -> Result<Vec<&'a Member>, AllocError>
         ensures { IfOk result (λ list. (text : List ℕ) (kind : KindType) → Means (plain_definitions self.now) text number kind → has_parts kind ≡ true → listed_members list.items ≡ merged_members (plain_definitions self.now) kind text) }
     {
-        let parts = self.parts.list(alloc, number)?;
+        let parts = self.scope.parts().list(alloc, number)?;
         list_members(alloc, &parts)
     }
 

@@ -52,7 +52,7 @@ impl<'d, 'a> Meanings<'d, 'a> {
     ) -> Result<Meanings<'d, 'a>, AllocError>
         ensures { IfOk result (λ m. m ≡ map (λ d. d.now) definitions.now) }
     {
-        let mut numbers = IndexMap::new(alloc);
+        let mut numbers = IndexMap::with_capacity(alloc, definitions.len())?;
         for (number, definition) in definitions.iter().enumerate() {
             add_definition(&mut numbers, definition, number)?;
         }

@@ -32,14 +32,14 @@ use widl_idl::{IdlType, IdlTypes, Kind};
 
 /// The definitions of a set of files with their numbers, by which types are resolved.
 #[derive(Drop)]
-pub struct Resolver<'m, 'd, 'a> {
-    meanings: &'m Meanings<'d, 'a>,
+pub struct Resolver<'d, 'a> {
+    meanings: Meanings<'d, 'a>,
     kinds: KindNumbers,
     /// For each definition the end of its chain, if it is a typedef.
     ends: Vec<Option<ChainEnd<'a>>>,
 }
 
-impl<'m, 'd, 'a> Model for Resolver<'m, 'd, 'a> {
+impl<'d, 'a> Model for Resolver<'d, 'a> {
     ghost use Rattle.std.specs.Prelude.{List};
     ghost use Rattle.std.specs.Coded.{codes};
     ghost use Rattle.widl_idl.specs.contracts.tree.types.TypeForm as written;
@@ -52,9 +52,9 @@ impl<'m, 'd, 'a> Model for Resolver<'m, 'd, 'a> {
 
     ghost coded = { Prim.hlevel (codes, written.the_row.coded) };
 
-    ghost view = { λ r. r.meanings.now };
+    ghost view = { λ r. r.meanings };
 
-    ghost invariant = { λ r. AreNumbers (plain_definitions r.meanings.now) r.kinds.numbers.items × AreCounts (plain_definitions r.meanings.now) r.kinds.counts × AreEnds (plain_definitions r.meanings.now) r.ends.items };
+    ghost invariant = { λ r. AreNumbers (plain_definitions r.meanings) r.kinds.numbers.items × AreCounts (plain_definitions r.meanings) r.kinds.counts × AreEnds (plain_definitions r.meanings) r.ends.items };
 }
 
 /// A type as it is used.
@@ -108,26 +108,30 @@ pub struct KnownUse<'t> {
     pub meaning: Option<usize>,
 }
 
-impl<'m, 'd, 'a> Resolver<'m, 'd, 'a> {
+impl<'d, 'a> Resolver<'d, 'a> {
     /// What resolves the types of these definitions.
     ///
     /// # Errors
     ///
     /// `AllocError` where there is no memory.
-    pub fn of(
-        alloc: Global,
-        meanings: &'m Meanings<'d, 'a>,
-    ) -> Result<Resolver<'m, 'd, 'a>, AllocError>
-        requires few { length meanings.now < 2 ^ 32 }
-        ensures { IfOk result (λ resolver. resolver ≡ meanings.now) }
+    pub fn of(alloc: Global, meanings: Meanings<'d, 'a>) -> Result<Resolver<'d, 'a>, AllocError>
+        requires few { length meanings < 2 ^ 32 }
+        ensures { IfOk result (λ resolver. resolver ≡ meanings.entry) }
     {
         let kinds = number_kinds(alloc, meanings.all())?;
-        let ends = typedef_ends(alloc, meanings)?;
+        let ends = typedef_ends(alloc, &meanings)?;
         Ok(Resolver {
             meanings,
             kinds,
             ends,
         })
+    }
+
+    /// What names mean.
+    pub fn meanings(&self) -> &Meanings<'d, 'a>
+        ensures { result.now ≡ self.now }
+    {
+        &self.meanings
     }
 
     /// What a type means after these annotations (Web IDL, "Typedefs" and "Annotated types").
@@ -264,7 +268,7 @@ impl<'m, 'd, 'a> Resolver<'m, 'd, 'a> {
     fn first_end(&self, number: usize) -> Option<ChainEnd<'a>>
         ensures { IsNext (plain_definitions self.now) 1 (typedef_at (plain_definitions self.now) number) result }
     {
-        match typedef_at(self.meanings, number) {
+        match typedef_at(&self.meanings, number) {
             None => None,
             Some(ty) => Some(ChainEnd::of(ty)),
         }
@@ -292,7 +296,7 @@ impl<'m, 'd, 'a> Resolver<'m, 'd, 'a> {
     {
         match from.meaning {
             None => false,
-            Some(number) => match typedef_at(self.meanings, number) {
+            Some(number) => match typedef_at(&self.meanings, number) {
                 None => false,
                 Some(_) => true,
             },
@@ -319,7 +323,7 @@ impl<'m, 'd, 'a> Resolver<'m, 'd, 'a> {
         ensures same { result.usage ≡ usage.entry }
         ensures known { IsKnown (plain_definitions self.now) result }
     {
-        let meaning = meaning_of_form(self.meanings, usage.form);
+        let meaning = meaning_of_form(&self.meanings, usage.form);
         KnownUse { usage, meaning }
     }
 

@@ -14,10 +14,7 @@ use widl_text::Place;
 
 /// The first place at which a type has `[Clamp]` and `[EnforceRange]`, which is the name that stands
 /// later.
-pub fn clamp_and_enforce<'a>(
-    resolver: &Resolver<'_, '_, 'a>,
-    ty: &ResolvedUse<'a>,
-) -> Option<Violation>
+pub fn clamp_and_enforce<'a>(resolver: &Resolver<'_, 'a>, ty: &ResolvedUse<'a>) -> Option<Violation>
     ensures { FirstWhere (HasClampAndEnforceRange (plain_definitions resolver.now) (resolved_use ty.now).written) result }
 {
     let outer = Annotations::of(ty.written.outer);

@@ -105,7 +105,7 @@ fn takes_undefined(role: TypeRole) -> bool
 /// Those of [`Resolver::resolve`] for at most [`MOST_TYPES`].
 pub fn resolve_use<'a>(
     alloc: Global,
-    resolver: &Resolver<'_, '_, 'a>,
+    resolver: &Resolver<'_, 'a>,
     written: &TypeUse<'a>,
 ) -> Result<ResolvedUse<'a>, AllocError>
     ensures { IfOk result (λ resolved. resolved_use resolved ≡ with_meaning (plain_definitions resolver.now) (use_of written.now)) }

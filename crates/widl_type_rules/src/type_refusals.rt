@@ -27,7 +27,7 @@ use crate::union_rules::indistinguishable_union;
 use std::alloc::{AllocError, Global};
 use widl_idl::tree::DefinitionKind;
 use widl_idl::{Defs, Refusal};
-use widl_names::{Meanings, Resolver};
+use widl_names::{Resolver, Scope};
 use widl_overload::ValidityRule;
 use widl_refusals::{earlier_refusal, first};
 
@@ -36,28 +36,19 @@ use widl_refusals::{earlier_refusal, first};
 /// # Errors
 ///
 /// `AllocError` where there is no memory, and the errors of [`Resolver::resolve`].
-pub fn find_in_types<'a>(
+pub fn find_in_types(
     alloc: Global,
     defs: &Defs,
-    meanings: &Meanings<'_, 'a>,
-    resolver: &Resolver<'_, '_, 'a>,
+    scope: &Scope<'_, '_>,
 ) -> Result<Option<Refusal>, AllocError>
-    requires same { resolver.now ≡ meanings.now }
-    requires forest { IsForest (interface_parents (defs_term defs.now).ifaces) }
-    ensures { IfOk result (λ found. IsFirstOver (defs_term defs.now) (plain_definitions meanings.now) type_rules found) }
+    requires { IsForest (interface_parents (defs_term defs.now).ifaces) }
+    ensures { IfOk result (λ found. IsFirstOver (defs_term defs.now) (plain_definitions scope.now) type_rules found) }
 {
     let lineages = Lineages::of(alloc, defs)?;
     let mut best = None;
-    let definitions = meanings.all();
+    let definitions = scope.all();
     for definition in definitions {
-        let found = find_in_definition(
-            alloc,
-            defs,
-            &lineages,
-            meanings,
-            resolver,
-            &definition.kind,
-        )?;
+        let found = find_in_definition(alloc, defs, &lineages, scope, &definition.kind)?;
         best = earlier_refusal(best, found);
     }
     Ok(best)
@@ -68,18 +59,16 @@ fn find_in_definition<'a>(
     alloc: Global,
     defs: &Defs,
     lineages: &Lineages,
-    meanings: &Meanings<'_, 'a>,
-    resolver: &Resolver<'_, '_, 'a>,
+    scope: &Scope<'_, 'a>,
     kind: &'a DefinitionKind,
 ) -> Result<Option<Refusal>, AllocError>
-    requires same { resolver.now ≡ meanings.now }
-    requires related { TellRelated (defs_term defs.now).ifaces lineages.now.spans.items }
-    ensures { IfOk result (λ found. IsFirst (SomeBreaks (defs_term defs.now).ifaces (plain_definitions resolver.now) (uses_in_definition (definition_kind_of kind.now))) type_rules found) }
+    requires { TellRelated (defs_term defs.now).ifaces lineages.now.spans.items }
+    ensures { IfOk result (λ found. IsFirst (SomeBreaks (defs_term defs.now).ifaces (plain_definitions scope.now) (uses_in_definition (definition_kind_of kind.now))) type_rules found) }
 {
     let uses = list_type_uses(alloc, kind)?;
     let mut best = None;
     for written in uses.iter() {
-        let found = find_in_use(alloc, defs, lineages, meanings, resolver, written)?;
+        let found = find_in_use(alloc, defs, lineages, scope, written)?;
         best = earlier_refusal(best, found);
     }
     Ok(best)
@@ -90,17 +79,16 @@ fn find_in_use<'a>(
     alloc: Global,
     defs: &Defs,
     lineages: &Lineages,
-    meanings: &Meanings<'_, 'a>,
-    resolver: &Resolver<'_, '_, 'a>,
+    scope: &Scope<'_, 'a>,
     written: &TypeUse<'a>,
 ) -> Result<Option<Refusal>, AllocError>
-    requires same { resolver.now ≡ meanings.now }
-    requires related { TellRelated (defs_term defs.now).ifaces lineages.now.spans.items }
-    ensures { IfOk result (λ found. IsFirst (λ which. BreaksUse (defs_term defs.now).ifaces (plain_definitions resolver.now) which (use_of written.now)) type_rules found) }
+    requires { TellRelated (defs_term defs.now).ifaces lineages.now.spans.items }
+    ensures { IfOk result (λ found. IsFirst (λ which. BreaksUse (defs_term defs.now).ifaces (plain_definitions scope.now) which (use_of written.now)) type_rules found) }
 {
-    if is_settled(meanings, written) {
+    if is_settled(scope.meanings(), written) {
         Ok(None)
     } else {
+        let resolver = scope.resolver();
         let ty = resolve_use(alloc, resolver, written)?;
         let found = find_in_type(alloc, defs, lineages, resolver, &ty);
         drop(ty);
@@ -113,7 +101,7 @@ fn find_in_type<'a>(
     alloc: Global,
     defs: &Defs,
     lineages: &Lineages,
-    resolver: &Resolver<'_, '_, 'a>,
+    resolver: &Resolver<'_, 'a>,
     ty: &ResolvedUse<'a>,
 ) -> Result<Option<Refusal>, AllocError>
     requires { TellRelated (defs_term defs.now).ifaces lineages.now.spans.items }

@@ -10,6 +10,7 @@ use crate::invalidity::find_invalid;
 use std::alloc::{AllocError, Global};
 use thiserror::Error;
 use widl_idl::{Merged, Refusal};
+use widl_names::{Scope, list_definitions};
 use widl_overload::Accepted;
 
 /// Why a set of files is not accepted.
@@ -47,8 +48,17 @@ pub fn validate(alloc: Global, merged: Merged) -> Result<Accepted, ValidFault>
     ensures valid { IfOk result (λ accepted. IsValid accepted) }
     ensures refused { (refusal : RefusalType) → IsErrOf result (ValidFault.Refused refusal) → IsInvalidity merged (Some refusal) }
 {
-    match find_invalid(alloc, &merged)? {
+    match find_in_merged(alloc, &merged)? {
         Some(refusal) => Err(ValidFault::Refused(refusal)),
         None => Ok(Accepted::new(merged)),
     }
+}
+
+/// The first refusal of a set of files by the rules of validity, or none where all of them are kept.
+fn find_in_merged(alloc: Global, merged: &Merged) -> Result<Option<Refusal>, AllocError>
+    ensures { IfOk result (λ refusal. IsInvalidity merged.now refusal) }
+{
+    let definitions = list_definitions(alloc, merged.fragments().as_slice())?;
+    let scope = Scope::of(alloc, &definitions)?;
+    find_invalid(alloc, &scope, merged.defs())
 }

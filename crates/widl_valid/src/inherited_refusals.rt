@@ -18,7 +18,7 @@ use widl_inheritance::{
     Holdings, find_iterables, first_holding_itself, first_long_chain, first_other_default,
     first_repeated_member, first_without_empty_default,
 };
-use widl_names::{Meanings, Parts, Resolver};
+use widl_names::Scope;
 use widl_overload::{ValidityRule, first_overload_violations};
 use widl_refusals::first;
 
@@ -65,21 +65,18 @@ pub fn find_in_dictionaries(alloc: Global, defs: &Defs) -> Result<Option<Refusal
 ///
 /// # Errors
 ///
-/// `AllocError` where there is no memory, and the errors of [`Resolver::resolve`].
-pub fn find_in_defaults<'a>(
+/// `AllocError` where there is no memory, and the errors of [`widl_names::Resolver::resolve`].
+pub fn find_in_defaults(
     alloc: Global,
     defs: &Defs,
-    meanings: &Meanings<'_, 'a>,
-    resolver: &Resolver<'_, '_, 'a>,
+    scope: &Scope<'_, '_>,
 ) -> Result<Option<Refusal>, AllocError>
-    requires same { resolver.now ≡ meanings.now }
-    requires hierarchy { IsHierarchy (dictionary_terms defs.now) }
-    ensures { IfOk result (λ found. IsFirstOver (defs_term defs.now) (plain_definitions meanings.now) default_rules found) }
+    requires { IsHierarchy (dictionary_terms defs.now) }
+    ensures { IfOk result (λ found. IsFirstOver (defs_term defs.now) (plain_definitions scope.now) default_rules found) }
 {
-    let all = meanings.all();
-    let found = first_without_empty_default(alloc, defs, resolver, all)?;
+    let found = first_without_empty_default(alloc, defs, scope)?;
     let best = first(None, ValidityRule::NoEmptyDefault, found);
-    let found = first_other_default(alloc, defs, resolver, all)?;
+    let found = first_other_default(alloc, defs, scope)?;
     Ok(first(best, ValidityRule::OtherDefault, found))
 }
 
@@ -90,14 +87,12 @@ pub fn find_in_defaults<'a>(
 /// `AllocError` where there is no memory.
 pub fn find_in_iterables(
     alloc: Global,
-    meanings: &Meanings<'_, '_>,
-    parts: &Parts<'_, '_>,
+    scope: &Scope<'_, '_>,
 ) -> Result<Option<Refusal>, AllocError>
-    requires same { parts.now ≡ meanings.now }
-    requires acyclic { IsAcyclic (parent_links (plain_definitions meanings.now)) }
-    ensures { IfOk result (λ found. (list : DefsTerm) → IsFirstOver list (plain_definitions meanings.now) iterable_rules found) }
+    requires { IsAcyclic (parent_links (plain_definitions scope.now)) }
+    ensures { IfOk result (λ found. (list : DefsTerm) → IsFirstOver list (plain_definitions scope.now) iterable_rules found) }
 {
-    let found = find_iterables(alloc, meanings, parts)?;
+    let found = find_iterables(alloc, scope)?;
     let best = first(None, ValidityRule::HiddenIterationMethod, found.hidden);
     Ok(first(best, ValidityRule::SecondIterable, found.second))
 }

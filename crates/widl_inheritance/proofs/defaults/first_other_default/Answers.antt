@@ -3,6 +3,7 @@ use Rattle.std.proofs.lemmas.Result.{IfOk-weaker}
 use Rattle.widl_idl.specs.DefinitionTerms.{defs_term}
 use Rattle.widl_idl.specs.First.{FirstWhere, Somewhere}
 use Rattle.widl_idl.specs.PlainTrees.{plain_definitions}
+use Rattle.widl_names.proofs.PlainLists.{listed_same}
 use Rattle.widl_overload.specs.rules.DefaultRules.{IsOtherDefault, defaults_of}
 use Rattle.widl_inheritance.specs.WrittenDefaults.{listed_defaults}
 use Rattle.widl_inheritance.proofs.defaults.first_other_default.Goals as goal
@@ -10,7 +11,7 @@ use Rattle.widl_inheritance.proofs.defaults.first_other_default.Goals as goal
 pub returns : goal.returns
 returns c =
     IfOk-weaker c.first_other.result _ _
-    (λ found f. subst (λ xs. FirstWhere (Somewhere (IsOtherDefault (defs_term c.args.defs.now) (plain_definitions c.args.resolver.now)) xs) found)
-    (ap listed_defaults c.as_slice.ensures.value ∙ c.in_ok-defaults.ensures ∙ ap defaults_of c.requires.listed)
-    (f (defs_term c.args.defs.now) c.in_ok-tables.ensures))
+    (λ found f. subst (λ xs. FirstWhere (Somewhere (IsOtherDefault (defs_term c.args.defs.now) (plain_definitions c.args.scope.now)) xs) found)
+    (ap listed_defaults c.as_slice.ensures.value ∙ c.in_ok-defaults.ensures ∙ ap defaults_of (listed_same c.all.result.now c.args.scope.now c.all.ensures.all))
+    (subst (λ ds. FirstWhere (Somewhere (IsOtherDefault (defs_term c.args.defs.now) (plain_definitions ds)) (listed_defaults c.as_slice.result.now)) found) c.resolver.ensures (f (defs_term c.args.defs.now) c.in_ok-tables.ensures)))
     c.first_other.ensures

@@ -7,10 +7,10 @@ use Rattle.widl_inheritance.proofs.interface_lines.own_flags.Goals as goal
 
 pub returns-clause-iterable : goal.returns-clause-iterable
 returns-clause-iterable c =
-    let size = all_counted c.all-number-end.result.now c.args.meanings.now c.all-number-end.ensures in
-    flags_all has_iterable (plain_definitions c.args.meanings.now) c.loop-number.number c.loop-number.iterable.items (omega arith) refl c.loop-number.invariant.0
+    let size = all_counted c.all-number-end.result.now c.args.scope.now c.all-number-end.ensures.all in
+    flags_all has_iterable (plain_definitions c.args.scope.now) c.loop-number.number c.loop-number.iterable.items (omega arith) refl c.loop-number.invariant.0
 
 pub returns-clause-named : goal.returns-clause-named
 returns-clause-named c =
-    let size = all_counted c.all-number-end.result.now c.args.meanings.now c.all-number-end.ensures in
-    flags_all has_iteration_name (plain_definitions c.args.meanings.now) c.loop-number.number c.loop-number.named.items (omega arith) refl c.loop-number.invariant.1
+    let size = all_counted c.all-number-end.result.now c.args.scope.now c.all-number-end.ensures.all in
+    flags_all has_iteration_name (plain_definitions c.args.scope.now) c.loop-number.number c.loop-number.named.items (omega arith) refl c.loop-number.invariant.1

@@ -7,5 +7,5 @@ use Rattle.widl_inheritance.proofs.interface_members.interface_members.Goals as 
 pub returns-in-None : goal.returns-in-None
 returns-in-None c =
     ap listed_members c.new.ensures.items
-    ∙ sym (none_there (plain_definitions c.args.meanings.now) c.args.number
-    (ap (λ ds. option_map (λ (d : PlainDefinition). d.kind) (slice_get (plain_definitions ds) c.args.number)) (sym c.all.ensures) ∙ sym c.in-None.ensures))
+    ∙ sym (none_there (plain_definitions c.args.scope.now) c.args.number
+    (ap (λ ds. option_map (λ (d : PlainDefinition). d.kind) (slice_get (plain_definitions ds) c.args.number)) (sym c.all.ensures.all) ∙ sym c.in-None.ensures))

@@ -5,5 +5,5 @@ use Rattle.widl_inheritance.proofs.iterables.find_in_interfaces.Given as goal
 
 abbrev pub invariant-loop-number : goal.invariant-loop-number
 invariant-loop-number l =
-    FirstWhere (BelowCount (HasSecondAt (plain_definitions l.fn.meanings) l.fn.inherited.iterable.items) l.number) l.best.second
-    × FirstWhere (BelowCount (HidesAt (plain_definitions l.fn.meanings) l.fn.own.named.items l.fn.inherited.named.items) l.number) l.best.hidden
+    FirstWhere (BelowCount (HasSecondAt (plain_definitions l.fn.scope) l.fn.inherited.iterable.items) l.number) l.best.second
+    × FirstWhere (BelowCount (HidesAt (plain_definitions l.fn.scope) l.fn.own.named.items l.fn.inherited.named.items) l.number) l.best.hidden

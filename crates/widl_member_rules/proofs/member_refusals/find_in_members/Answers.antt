@@ -13,9 +13,9 @@ use Rattle.widl_member_rules.proofs.member_refusals.find_in_members.Goals as goa
 
 pub returns : goal.returns
 returns c = λ list.
-    let definitions = plain_definitions c.args.meanings.now in
+    let definitions = plain_definitions c.args.scope.now in
     let listed : IsFirst (NodesBreak definitions (nodes_of (listed_definitions c.all.result.now))) member_rules c.in_ok-types.types
-    = subst (λ ds. IsFirst (NodesBreak (plain_definitions ds) (nodes_of (listed_definitions c.all.result.now))) member_rules c.in_ok-types.types) c.requires.resolved c.in_ok-types.ensures in
-    let types : IsFirst (ByType definitions) member_rules c.in_ok-types.types = subst (λ ds. IsFirst (NodesBreak definitions (nodes_of ds)) member_rules c.in_ok-types.types) (all_plain c.all.result.now c.args.meanings.now c.all.ensures) listed in
+    = subst (λ ds. IsFirst (NodesBreak (plain_definitions ds) (nodes_of (listed_definitions c.all.result.now))) member_rules c.in_ok-types.types) c.resolver.ensures c.in_ok-types.ensures in
+    let types : IsFirst (ByType definitions) member_rules c.in_ok-types.types = subst (λ ds. IsFirst (NodesBreak definitions (nodes_of ds)) member_rules c.in_ok-types.types) (all_plain c.all.result.now c.args.scope.now c.all.ensures.all) listed in
     same_rules (ByEither definitions) (BreaksRule list definitions) member_rules c.earlier_refusal.result refl
     (both_breaks member_rules (ByOwner definitions) (ByType definitions) (ByEither definitions) (either_way definitions) c.in_ok-owners.owners c.in_ok-types.types c.earlier_refusal.result c.in_ok-owners.ensures types c.earlier_refusal.ensures)

@@ -13,7 +13,7 @@ loop-number-init c = λ r b. absurd (let below = b.breaks.below in omega (arith,
 
 pub loop-number-preserved : goal.loop-number-preserved
 loop-number-preserved c =
-    let all = plain_definitions c.args.meanings.now in
+    let all = plain_definitions c.args.scope.now in
     let definitions = c.all-definitions.result.now in
     let number = c.loop-number.number in
     next_item member_rules (OwnersBreak all) (λ before d. OwnerBreaks all (length before) d.kind) (owner_pushed all) (λ d. definition_of d.now) definitions number c.index-definitions-number.result c.loop-number.best c.in_ok-found.found _ (omega arith) c.index-definitions-number.is c.loop-number.invariant
@@ -21,9 +21,9 @@ loop-number-preserved c =
 
 pub returns : goal.returns
 returns c =
-    let all = plain_definitions c.args.meanings.now in
-    owners_first all c.loop-number.best (subst (λ ds. IsFirst (OwnersBreak all ds) member_rules c.loop-number.best) (listed_same c.all-definitions.result.now c.args.meanings.now c.all-definitions.ensures)
+    let all = plain_definitions c.args.scope.now in
+    owners_first all c.loop-number.best (subst (λ ds. IsFirst (OwnersBreak all ds) member_rules c.loop-number.best) (listed_same c.all-definitions.result.now c.args.scope.now c.all-definitions.ensures.all)
     (all_items member_rules (OwnersBreak all) (λ d. definition_of d.now) c.all-definitions.result.now c.loop-number.number c.loop-number.best (omega arith) c.loop-number.invariant))
 
-pub find_in_owner-requires-clause-there : goal.find_in_owner-requires-clause-there
-find_in_owner-requires-clause-there c = kind_there c.all-definitions.result.now c.args.meanings.now c.loop-number.number c.index-definitions-number.result (omega arith) c.index-definitions-number.is c.all-definitions.ensures
+pub find_in_owner-requires : goal.find_in_owner-requires
+find_in_owner-requires c = kind_there c.all-definitions.result.now c.args.scope.now c.loop-number.number c.index-definitions-number.result (omega arith) c.index-definitions-number.is c.all-definitions.ensures.all

@@ -7,4 +7,4 @@ use Rattle.widl_refusals.specs.Refusals.{IsFirst}
 use Rattle.widl_member_rules.proofs.owners.find_in_owners.Given as goal
 
 abbrev pub invariant-loop-number : goal.invariant-loop-number
-invariant-loop-number l = IsFirst (OwnersBreak (plain_definitions l.fn.meanings) (listed_definitions (take l.number l.definitions))) member_rules l.best
+invariant-loop-number l = IsFirst (OwnersBreak (plain_definitions l.fn.scope) (listed_definitions (take l.number l.definitions))) member_rules l.best

@@ -1,11 +1,11 @@
-use Rattle.std.proofs.Common.{◌<◌, ◌^◌, length, sym, subst}
+use Rattle.std.proofs.Common.{sym, subst}
 use Rattle.widl_idl.specs.Meanings.{definitions_of}
-use Rattle.widl_merge.specs.MergedDefs.{AreMerged}
-use Rattle.widl_merge.proofs.Unbroken.{is_merged}
+use Rattle.widl_idl.specs.MergedSets.{AreFiles, IsMerged}
+use Rattle.widl_merge.specs.Countable.{IsCountable}
 use Rattle.widl_merge.proofs.merged_set.merge.Goals as goal
 
 pub merge_files-requires : goal.merge_files-requires
-merge_files-requires c = subst (λ fs. length (definitions_of fs) < 2 ^ 32) (sym c.as_slice.ensures) c.requires.files.definitions
+merge_files-requires c = record { files = subst AreFiles (sym c.as_slice.ensures) c.requires.files; countable = subst (λ fs. IsCountable (definitions_of fs)) (sym c.as_slice.ensures) c.requires.countable }
 
 pub new-requires : goal.new-requires
-new-requires c = record { merged = is_merged c.args.fragments c.in_ok-defs.defs c.requires.files c.requires.countable (subst (λ fs. AreMerged (definitions_of fs) c.in_ok-defs.defs) c.as_slice.ensures c.in_ok-defs.ensures.merged) }
+new-requires c = record { merged = subst (IsMerged c.in_ok-defs.defs) c.as_slice.ensures c.in_ok-defs.ensures.merged }

@@ -6,4 +6,4 @@ use Rattle.widl_merge.specs.Repeats.{RepeatsAt}
 use Rattle.widl_merge.proofs.operations.first_in_two_parts.Given as goal
 
 abbrev pub invariant-loop-number : goal.invariant-loop-number
-invariant-loop-number l = FirstWhere (AtOne (RepeatsAt (plain_definitions l.fn.meanings)) (listed_definitions (take l.number l.definitions))) l.best
+invariant-loop-number l = FirstWhere (AtOne (RepeatsAt (plain_definitions l.fn.scope)) (listed_definitions (take l.number l.definitions))) l.best

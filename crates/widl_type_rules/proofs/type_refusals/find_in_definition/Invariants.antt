@@ -7,4 +7,4 @@ use Rattle.widl_type_rules.specs.UsesListed.{use_of}
 use Rattle.widl_type_rules.proofs.type_refusals.find_in_definition.Given as goal
 
 abbrev pub invariant-loop-written : goal.invariant-loop-written
-invariant-loop-written l = IsFirst (SomeBreaks (defs_term l.fn.defs).ifaces (plain_definitions l.fn.resolver) (map use_of (take l.written-index l.written-items))) type_rules l.best
+invariant-loop-written l = IsFirst (SomeBreaks (defs_term l.fn.defs).ifaces (plain_definitions l.fn.scope) (map use_of (take l.written-index l.written-items))) type_rules l.best

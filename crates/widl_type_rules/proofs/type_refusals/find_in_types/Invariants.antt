@@ -10,5 +10,5 @@ use Rattle.widl_type_rules.proofs.type_refusals.find_in_types.Given as goal
 
 abbrev pub invariant-loop-definition : goal.invariant-loop-definition
 invariant-loop-definition l =
-    IsFirst (SomeBreaks (defs_term l.fn.defs).ifaces (plain_definitions l.fn.meanings) (type_uses_of (listed_definitions (take l.definition-index l.definitions)))) type_rules l.best
+    IsFirst (SomeBreaks (defs_term l.fn.defs).ifaces (plain_definitions l.fn.scope) (type_uses_of (listed_definitions (take l.definition-index l.definitions)))) type_rules l.best
     × TellRelated (defs_term l.fn.defs).ifaces l.lineages.spans.items

@@ -5,13 +5,17 @@ use Rattle.widl_idl.specs.FirstRefusal.{violation_of}
 use Rattle.widl_idl.specs.PlainTrees.{plain_definitions}
 use Rattle.widl_refusals.specs.Refusals.{IsFirst}
 use Rattle.widl_type_rules.specs.SettledUses.{is_settled}
-use Rattle.widl_type_rules.specs.TypeRefusals.{BreaksType, type_rules}
+use Rattle.widl_type_rules.specs.TypeRefusals.{BreaksType, BreaksUse, type_rules}
 use Rattle.widl_type_rules.specs.UsesListed.{use_of}
 use Rattle.widl_type_rules.proofs.SettledUses.{no_type_rule}
 use Rattle.widl_type_rules.proofs.type_refusals.find_in_use.Goals as goal
 
 pub returns-then-is_settled : goal.returns-then-is_settled
-returns-then-is_settled c = λ r b. no_type_rule (plain_definitions c.args.resolver.now) (use_of c.args.written.now) (ap (λ d. is_settled (plain_definitions d) (use_of c.args.written.now)) c.requires.same ∙ sym c.is_settled.ensures ∙ c.if-is_settled.true) (defs_term c.args.defs.now).ifaces b.which (violation_of r) b.breaks
+returns-then-is_settled c = λ r b. no_type_rule (plain_definitions c.args.scope.now) (use_of c.args.written.now) (ap (λ d. is_settled (plain_definitions d) (use_of c.args.written.now)) (sym c.meanings.ensures) ∙ sym c.is_settled.ensures ∙ c.if-is_settled.true) (defs_term c.args.defs.now).ifaces b.which (violation_of r) b.breaks
 
 pub returns-in_ok-ty : goal.returns-in_ok-ty
-returns-in_ok-ty c = subst (λ r. IfOk c.find_in_type-found.result (λ found. IsFirst (λ which. BreaksType (defs_term c.args.defs.now).ifaces (plain_definitions c.args.resolver.now) which r) type_rules found)) c.in_ok-ty.ensures c.find_in_type-found.ensures
+returns-in_ok-ty c =
+    let ifaces = (defs_term c.args.defs.now).ifaces in
+    let found = c.find_in_type-found.result in
+    subst (λ ds. IfOk found (λ f. IsFirst (λ which. BreaksUse ifaces (plain_definitions ds) which (use_of c.args.written.now)) type_rules f)) c.resolver-resolver.ensures
+    (subst (λ r. IfOk found (λ f. IsFirst (λ which. BreaksType ifaces (plain_definitions c.resolver-resolver.result.now) which r) type_rules f)) c.in_ok-ty.ensures c.find_in_type-found.ensures)

@@ -6,6 +6,6 @@ use Rattle.widl_valid.proofs.inherited_refusals.find_in_iterables.Goals as goal
 
 pub returns : goal.returns
 returns c = λ list.
-    let b = BreaksRule list (plain_definitions c.args.meanings.now) in
+    let b = BreaksRule list (plain_definitions c.args.scope.now) in
     first_rule validity_number b rule.SecondIterable _ _ _ _ c.in_ok-found.ensures.second c.first.ensures
     (first_rule validity_number b rule.HiddenIterationMethod _ _ _ _ c.in_ok-found.ensures.hidden c.first-best.ensures (no_rules validity_number b))

@@ -13,10 +13,10 @@ pub returns : goal.returns
 returns c =
     let all = plain_definitions c.args.self.now in
     let parts = listed_parts c.deref.result.now in
-    let same : c.self.inside.parts ≡ c.args.self.now = c.self.invariant.0 ∙ c.self.view_is in
+    let same = c.parts.ensures ∙ c.self.view_is in
     let lists : ListsParts all c.args.number parts =
     subst (λ definitions. ListsParts (plain_definitions definitions) c.args.number parts) same
-    (subst (λ items. ListsParts (plain_definitions c.self.inside.parts) c.args.number (listed_parts items)) (sym c.deref.ensures.value) c.in_ok-parts.ensures) in
+    (subst (λ items. ListsParts (plain_definitions c.parts.result.now) c.args.number (listed_parts items)) (sym c.deref.ensures.value) c.in_ok-parts.ensures) in
     IfOk-weaker c.list_members.result (λ list. listed_members list.items ≡ flat_map members_in parts)
     (λ list. (text : List ℕ) (kind : Kind) → Means all text c.args.number kind → has_parts kind ≡ true → listed_members list.items ≡ merged_members all kind text)
     (λ list e. λ text kind m has. e ∙ merged_listed all c.args.number text kind parts lists m.means m.of_kind has) c.list_members.ensures

@@ -7,5 +7,5 @@ use Rattle.widl_merge.proofs.sources.Sources.parent.Goals as goal
 pub kind_number-requires : goal.kind_number-requires
 kind_number-requires c = λ other e.
     c.requires (name_of c.in-Some.name.now) (ap (option_map (λ name. name_of name.now)) c.in-Some.is) other
-    (ap (λ ds. meant_kind (plain_definitions ds) (name_of c.in-Some.name.now).text) (sym c.self.view_is)
-    ∙ ap (meant_kind (plain_definitions c.self.inside.resolver)) (sym c.as_str.ensures.value) ∙ e)
+    (ap (λ ds. meant_kind (plain_definitions ds) (name_of c.in-Some.name.now).text) (sym c.resolver.ensures)
+    ∙ ap (meant_kind (plain_definitions c.resolver.result.now)) (sym c.as_str.ensures.value) ∙ e)

@@ -12,7 +12,7 @@ pub index-requires : goal.index-requires
 index-requires c =
     let numbers = c.self.inside.kinds.numbers.items in
     let definitions = plain_definitions c.args.self.now in
-    let view : c.self.inside.meanings.now ≡ c.args.self.now = c.self.view_is in
+    let view : c.self.inside.meanings ≡ c.args.self.now = c.self.view_is in
     let means = ap (λ ds. meaning (plain_definitions ds) c.args.text.now) (sym view) ∙ sym c.number.ensures ∙ c.in-Some.is in
     let found = number_meant definitions numbers c.args.text.now c.in-Some.number c.args.kind (subst (λ ds. AreNumbers (plain_definitions ds) numbers) view c.self.invariant.0) means c.requires in
     let below : c.in-Some.number < length numbers = slice_get_within numbers c.in-Some.number (number_among definitions c.args.kind c.in-Some.number) found in
@@ -22,7 +22,7 @@ pub returns-in-Some : goal.returns-in-Some
 returns-in-Some c =
     let numbers = c.self.inside.kinds.numbers.items in
     let definitions = plain_definitions c.args.self.now in
-    let view : c.self.inside.meanings.now ≡ c.args.self.now = c.self.view_is in
+    let view : c.self.inside.meanings ≡ c.args.self.now = c.self.view_is in
     let means = ap (λ ds. meaning (plain_definitions ds) c.args.text.now) (sym view) ∙ sym c.number.ensures ∙ c.in-Some.is in
     let found = number_meant definitions numbers c.args.text.now c.in-Some.number c.args.kind (subst (λ ds. AreNumbers (plain_definitions ds) numbers) view c.self.invariant.0) means c.requires in
     ap Some (c.index.ensures ∙ get_or_from_slice_get numbers c.in-Some.number (number_among definitions c.args.kind c.in-Some.number) c.index.result.now found) ∙ ap (number_of_meaning definitions c.args.kind) (sym means)

@@ -15,7 +15,7 @@ pub index-requires : goal.index-requires
 index-requires c =
     let numbers = c.self.inside.kinds.numbers.items in
     let definitions = plain_definitions c.args.self.now in
-    let view : c.self.inside.meanings.now ≡ c.args.self.now = c.self.view_is in
+    let view : c.self.inside.meanings ≡ c.args.self.now = c.self.view_is in
     let kind = kind_of (definition_kind_of c.in-Some.definition.now) in
     let seen : option_map (λ d. d.kind) (slice_get definitions c.args.number) ≡ Some (definition_kind_of c.in-Some.definition.now)
     = ap (λ ds. option_map (λ d. d.kind) (slice_get (plain_definitions ds) c.args.number)) (sym (c.all.ensures ∙ view)) ∙ sym c.kind_at.ensures ∙ ap (option_map (λ k. definition_kind_of k.now)) c.in-Some.is in
@@ -26,7 +26,7 @@ index-requires c =
 pub returns-in-None : goal.returns-in-None
 returns-in-None c =
     let definitions = plain_definitions c.args.self.now in
-    let view : c.self.inside.meanings.now ≡ c.args.self.now = c.self.view_is in
+    let view : c.self.inside.meanings ≡ c.args.self.now = c.self.view_is in
     let seen : option_map (λ d. d.kind) (slice_get definitions c.args.number) ≡ None
     = ap (λ ds. option_map (λ d. d.kind) (slice_get (plain_definitions ds) c.args.number)) (sym (c.all.ensures ∙ view)) ∙ sym c.kind_at.ensures ∙ ap (option_map (λ k. definition_kind_of k.now)) c.in-None.is in
     let any : type_term Any ≡ AnyType = search (rules, the_lemmas) in
@@ -36,7 +36,7 @@ pub returns-in-Some : goal.returns-in-Some
 returns-in-Some c =
     let numbers = c.self.inside.kinds.numbers.items in
     let definitions = plain_definitions c.args.self.now in
-    let view : c.self.inside.meanings.now ≡ c.args.self.now = c.self.view_is in
+    let view : c.self.inside.meanings ≡ c.args.self.now = c.self.view_is in
     let kind = kind_of (definition_kind_of c.in-Some.definition.now) in
     let seen : option_map (λ d. d.kind) (slice_get definitions c.args.number) ≡ Some (definition_kind_of c.in-Some.definition.now)
     = ap (λ ds. option_map (λ d. d.kind) (slice_get (plain_definitions ds) c.args.number)) (sym (c.all.ensures ∙ view)) ∙ sym c.kind_at.ensures ∙ ap (option_map (λ k. definition_kind_of k.now)) c.in-Some.is in

@@ -15,9 +15,9 @@ use Rattle.widl_names.proofs.resolver.Resolver.resolve.Goals as goal
 pub returns : goal.returns
 returns c =
     let definitions = plain_definitions c.args.self.now in
-    let view : c.self.inside.meanings.now ≡ c.args.self.now = c.self.view_is in
+    let view : c.self.inside.meanings ≡ c.args.self.now = c.self.view_is in
     let levels : c.of-start.result.typedefs ≡ length (typedefs definitions)
-    = c.of-start.ensures.count ∙ c.count.ensures ∙ c.self.invariant.1.each kinds.Typedef ∙ sym (typedef_count (plain_definitions c.self.inside.meanings.now)) ∙ ap (λ ds. length (typedefs (plain_definitions ds))) view in
+    = c.of-start.ensures.count ∙ c.count.ensures ∙ c.self.invariant.1.each kinds.Typedef ∙ sym (typedef_count (plain_definitions c.self.inside.meanings)) ∙ ap (λ ds. length (typedefs (plain_definitions ds))) view in
     IfOk-weaker c.use_type.result
     (λ x. (notes : List Note) → Says c.of-start.result.annotations notes → type_term x ≡ meaning_of_use definitions notes c.of-start.result)
     (λ x. (notes : List Note) → Says c.args.annotations notes → type_term x ≡ meaning_of_type definitions notes (type_of c.args.ty.now))
