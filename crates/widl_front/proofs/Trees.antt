@@ -1,15 +1,16 @@
 -- The trees of the files that were read so far, with those of one file more.
 use Rattle.std.proofs.Common.{◌≡◌, ℕ, ◌+◌, ◌<◌, ◌≤◌, List, [], ◌∷◌, ◌++◌, length, take, zero, suc, arith, refl, sym, ap, subst, ◌∙◌}
-use Rattle.std.specs.Prelude.{Option, Some, None, slice_get}
+use Rattle.std.specs.Prelude.{Option, Some, None, Ok, Err, slice_get}
 use Rattle.std.specs.Option.{option_or}
 use Rattle.std.proofs.lemmas.List.{take_more}
 use Rattle.widl_text.specs.Limits.{most_files}
+use Rattle.widl_idl.specs.declared.defs.Defs.{Defs}
 use Rattle.widl_idl.specs.declared.tree.fragments.Fragment.{Fragment}
 use Rattle.widl_idl.specs.declared.refusal.Refusal.{Refusal}
 use Rattle.widl_idl.specs.declared.merging_rule.MergingRule.{MergingRule}
 use Rattle.widl_idl.specs.declared.profile_rule.ProfileRule.{ProfileRule}
 use Rattle.widl_idl.specs.declared.violation.Violation.{Violation}
-use Rattle.widl_idl.specs.FirstRefusal.{violation_of}
+use Rattle.widl_idl.specs.FirstRefusal.{FirstBroken, violation_of}
 use Rattle.widl_idl.specs.Meanings.{definitions_of}
 use Rattle.widl_idl.specs.MergedSets.{AreFiles, IsMerged, MergedSet}
 use Rattle.widl_idl.specs.MergingRules.{BreaksMerging}
@@ -17,10 +18,11 @@ use Rattle.widl_idl.specs.PlainTrees.{PlainDefinition}
 use Rattle.widl_idl.specs.Profile.{BreaksProfile}
 use Rattle.widl_merge.specs.Countable.{IsCountable}
 use Rattle.widl_merge.specs.Refusals.{IsRefusal}
-use Rattle.widl_overload.specs.rules.Validity.{IsValid}
+use Rattle.widl_overload.specs.rules.Validity.{BreaksRule, IsValid, validity_number, validity_rules}
 use Rattle.widl_valid.specs.Invalidity.{IsInvalidity}
+use Rattle.widl_valid.proofs.Valid.{valid_of}
 use Rattle.widl_front.specs.Findings.{IsFoundIn}
-use Rattle.widl_front.specs.Steps.{AcceptsTrees, AddsTree, BreaksEncoding, IsTreeVerdict, TreesUnless}
+use Rattle.widl_front.specs.Steps.{AcceptsTrees, AddsTree, BreaksEncoding, IsAcceptedList, IsTreeVerdict, TreesUnless}
 use Rattle.widl_front.specs.Texts.{named, AreShort}
 use Rattle.widl_front.specs.Verdicts.{AcceptsSet, IsTreeOf, AreTreesFrom, AreTreesOf, FindsRefusal, IsTreeRefusal, IsVerdict}
 use Rattle.widl_front.specs.declared.finding.Finding.{Finding}
@@ -134,3 +136,22 @@ valid_judged set merged same is valid =
       unbroken = merged_judged merged None is (λ s broken. (subst IsValid same valid) broken.which (violation_of s) broken.breaks);
       merged = is.merged;
     })
+
+abbrev set_of : Defs → List Fragment → MergedSet
+set_of defs trees = record { defs = defs; fragments = trees }
+
+-- the refusal that is found of the definitions of files and their merged list is that of the files
+found_of_files : (defs : Defs) (trees : List Fragment) (definitions : List PlainDefinition) (found known : Option Refusal) → found ≡ known → definitions_of trees ≡ definitions → FirstBroken validity_number (BreaksRule (defs_term defs) definitions) validity_rules found → IsInvalidity (set_of defs trees) known
+found_of_files defs trees definitions found known is same first =
+    subst (λ ds. FirstBroken validity_number (BreaksRule (defs_term defs) ds) validity_rules known) (sym same) (subst (FirstBroken validity_number (BreaksRule (defs_term defs) definitions) validity_rules) is first)
+
+pub list_refused : (defs : Defs) (trees : List Fragment) (definitions : List PlainDefinition) (found : Option Refusal) (refusal : Refusal) → found ≡ Some refusal → definitions_of trees ≡ definitions → IsMerged defs trees → FirstBroken validity_number (BreaksRule (defs_term defs) definitions) validity_rules found → IsAcceptedList trees (Err refusal)
+list_refused defs trees definitions found refusal is same merged first = merged_judged (set_of defs trees) (Some refusal) merged (found_of_files defs trees definitions found (Some refusal) is same first)
+
+pub list_valid : (defs : Defs) (trees : List Fragment) (definitions : List PlainDefinition) (found : Option Refusal) → found ≡ None → definitions_of trees ≡ definitions → IsMerged defs trees → FirstBroken validity_number (BreaksRule (defs_term defs) definitions) validity_rules found → IsAcceptedList trees (Ok defs)
+list_valid defs trees definitions found is same merged first = (merged, valid_of (set_of defs trees) None refl (found_of_files defs trees definitions found None is same first))
+
+pub list_accepted : (defs : Defs) (trees : List Fragment) (set : MergedSet) → set.defs ≡ defs → set.fragments ≡ trees → IsAcceptedList trees (Ok defs) → AcceptsTrees trees set
+list_accepted defs trees set d f kept =
+    let same : ◌≡◌ {A = MergedSet} set (set_of defs trees) = ap (λ (x : Defs). set_of x set.fragments) d ∙ ap (set_of defs) f in
+    valid_judged set (set_of defs trees) same kept.0 (subst IsValid (sym same) kept.1)

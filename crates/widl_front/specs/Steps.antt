@@ -1,9 +1,12 @@
 -- For proofs alone. What private functions say of one file more and of the trees alone.
-use Rattle.std.specs.Prelude.{◌≡◌, ℕ, List, [], ◌∷◌, ◌++◌, Option, Some, None}
+use Rattle.std.specs.Prelude.{◌≡◌, ℕ, List, [], ◌∷◌, ◌++◌, Option, Some, None, Result, Ok, Err}
+use Rattle.widl_idl.specs.declared.defs.Defs.{Defs}
+use Rattle.widl_idl.specs.declared.refusal.Refusal.{Refusal}
 use Rattle.widl_idl.specs.declared.tree.fragments.Fragment.{Fragment}
 use Rattle.widl_idl.specs.DefinitionTerms.{defs_term}
 use Rattle.widl_idl.specs.MergedList.{merged_list}
-use Rattle.widl_idl.specs.MergedSets.{MergedSet}
+use Rattle.widl_idl.specs.MergedSets.{IsMerged, MergedSet}
+use Rattle.widl_overload.specs.rules.Validity.{IsValid}
 use Rattle.widl_front.specs.Verdicts.{AreTreesOf, IsTreeOf, IsTreeRefusal}
 use Rattle.widl_front.specs.declared.finding.Finding.{Finding}
 use Rattle.widl_front.specs.declared.finding.Finding.TheVariants.{Encoding, Syntax, Deep}
@@ -44,3 +47,8 @@ abbrev pub IsTreeVerdict : List Fragment → Verdict → Type 0
 IsTreeVerdict trees (Fault finding) = ⊥
 IsTreeVerdict trees (Broken refusal) = IsTreeRefusal trees (Some refusal)
 IsTreeVerdict trees (Accepted set) = AcceptsTrees trees set
+
+-- the trees break no rule and this is their merged list, or this is the first refusal by the rules over them
+abbrev pub IsAcceptedList : List Fragment → Result Defs Refusal → Type 0
+IsAcceptedList trees (Ok defs) = IsMerged defs trees × IsValid (record { defs = defs; fragments = trees })
+IsAcceptedList trees (Err refusal) = IsTreeRefusal trees (Some refusal)
