@@ -8,7 +8,7 @@ Run at the top of the repository, after `rt run` in crates/widl_cli has built th
 It prints, for each set, the milliseconds, those a MiB and how many times the realistic file's that is, the memory at
 the peak, and the line that the program writes. Times are those of the processor (user and system), the least of three runs, without the start
 of the program. "Asked" is the work that a set asks for, in MiB: the greater of its bytes and 8 bytes for each of its tokens, of
-which the realistic file has one in 8 bytes, where what is mixed in counts as if it were written out.
+which the realistic file has one in 8 bytes, where what is mixed in and what typedefs stand for count as if they were written out.
 
     python3 bench/check.py BEFORE
 
@@ -64,8 +64,17 @@ def mixed_in(members, times):
     return [f"interface mixin M{{{members}}};" + "".join(numbered("interface A{this}{{}};A{this} includes M;", times))], times * asked(members)
 
 
+def doubled(times):
+    """Typedefs of which each stands for two of the one before, and the last one's type written out."""
+    written, definitions = "long", "typedef long Twice0;"
+    for number in range(times):
+        written = f"(sequence<{written}> or record<DOMString,{written}>)"
+        definitions += f"typedef (sequence<Twice{number}> or record<DOMString,Twice{number}>) Twice{number + 1};"
+    return definitions, written
+
+
 def hostile():
-    """The sets, and for those with mixins the bytes of work that these bring."""
+    """The sets, and for those with mixins or typedefs that double the bytes of work that these bring."""
     operations = "".join(f"undefined f{number}();" for number in range(1000))
     same = "".join(f"long a{place}," for place in range(63))
     overloads = "".join(f"undefined f({same}I{number} b);" for number in range(64))
@@ -73,11 +82,13 @@ def hostile():
     shortened = "".join(f"undefined f(I{number} b{optional});" for number in range(64))
     wide = "".join(f"undefined f{number}(" + ",".join(numbered("long a{this}", 24)) + ");" for number in range(1000))
     long_name, longer_name = "T" * 100_000, "o" * 400_000
-    doubled = "typedef long Twice0;" + "".join(numbered("typedef (sequence<Twice{this}> or record<DOMString,Twice{this}>) Twice{next};", 7))
-    mixed = {
+    twice, written = doubled(7)
+    brought = {
         "a mixin in 998 interfaces": mixed_in(operations, 998),
         "a mixin of 1,000 operations of 24 arguments in 998 interfaces": mixed_in(wide, 998),
         "a mixin with a name of 400,000 bytes in 16,000 interfaces": mixed_in(f"undefined {longer_name}();", 16_000),
+        "7 typedefs that double, in 4,000 arguments": (
+            [twice + "namespace N{" + "".join(numbered("undefined f{this}(Twice7 a);", 4_000)) + "};"], 4_000 * asked(written)),
     }
     sets = {
         "3,000,000 definitions": pack(numbered("typedef long T{this};", 3_000_000)),
@@ -100,11 +111,10 @@ def hostile():
             [f"typedef long {long_name};typedef {long_name} T;namespace N{{" + "".join(numbered("undefined f{this}(T a);", 5_000)) + "};"]),
         "a union of 20,000 interfaces and a text, with a default of 80,000 bytes": pack(
             ["".join(numbered("interface A{this}{{}};", 20_000)) + "dictionary D{(" + " or ".join(numbered("A{this}", 20_000)) + ' or DOMString) a="' + "x" * 80_000 + '";};']),
-        "7 typedefs that double, in 4,000 arguments": pack([doubled + "namespace N{" + "".join(numbered("undefined f{this}(Twice7 a);", 4_000)) + "};"]),
         "a mixin of 1,000 operations in 8,001 interfaces": pack([f"interface mixin M{{{operations}}};" + "".join(numbered("interface A{this}{{}};A{this} includes M;", 8_001))]),
         "10 names of 64 overloads, 63 arguments of each optional": pack(["".join(numbered("interface I{this}{{}};", 64))] + numbered("namespace N{this}{{" + shortened + "}};", 10)),
     }
-    return {title: (parts, 0) for title, parts in sets.items()} | mixed
+    return {title: (parts, 0) for title, parts in sets.items()} | brought
 
 
 def realistic(count):
