@@ -4,6 +4,7 @@ use Rattle.std.specs.Prelude.{Option, Some, None, Ok, Err, slice_get}
 use Rattle.std.specs.Option.{option_or}
 use Rattle.std.proofs.lemmas.List.{take_more}
 use Rattle.widl_text.specs.Limits.{most_files}
+use Rattle.widl_idl.specs.DefinitionTerms.{defs_term}
 use Rattle.widl_idl.specs.declared.defs.Defs.{Defs}
 use Rattle.widl_idl.specs.declared.tree.fragments.Fragment.{Fragment}
 use Rattle.widl_idl.specs.declared.refusal.Refusal.{Refusal}

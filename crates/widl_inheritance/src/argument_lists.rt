@@ -1,6 +1,6 @@
 //! The lists of arguments that are written in a set of files.
 
-ghost use Rattle.std.specs.Prelude.{◌≡◌, ◌++◌, ◌∷◌, [], option_map, option_to_list, IfOk, OnOk};
+ghost use Rattle.std.specs.Prelude.{◌≡◌, ◌++◌, ◌∷◌, [], option_map, option_to_list, true, IfOk, OnOk};
 ghost use Rattle.widl_idl.specs.PlainTrees.{arguments_of, definition_kind_of, member_kind_of, members_of};
 ghost use Rattle.widl_names.specs.Listings.{listed_definitions};
 ghost use Rattle.widl_overload.specs.rules.ArgumentRules.{argument_lists_of, lists_in_definition, lists_in_member, lists_in_members};

@@ -147,7 +147,22 @@ fn may_take_dictionary(ty: &WrittenType) -> bool
 fn is_name_or_union(form: &TypeForm) -> bool
     ensures { result ≡ is_name_or_union (form_term form.now) }
 {
-    matches!(form, TypeForm::Named(_) | TypeForm::Union(_))
+    match form {
+        TypeForm::Named(_) | TypeForm::Union(_) => true,
+        TypeForm::Any
+        | TypeForm::Undefined
+        | TypeForm::Boolean
+        | TypeForm::Object
+        | TypeForm::Symbol
+        | TypeForm::BigInt
+        | TypeForm::Integer(_)
+        | TypeForm::Float(_)
+        | TypeForm::Text(_)
+        | TypeForm::Buffer(_)
+        | TypeForm::Container(_, _)
+        | TypeForm::Record(_, _)
+        | TypeForm::Promise(_) => false,
+    }
 }
 
 /// Whether a type is a dictionary without required members, or a union with one among its flattened

@@ -76,7 +76,7 @@ fn is_apart_from_each(
 }
 
 /// Whether two entries have distinguishable types at a place.
-#[tactic(auto, unfolding(widl_overload::specs::Index::apart_at))]
+#[tactic(auto, unfolding(widl_overload::specs::sets::Index::apart_at))]
 fn are_apart(
     defs: &Defs,
     sigs: &[Sig],

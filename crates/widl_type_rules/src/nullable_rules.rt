@@ -78,7 +78,23 @@ pub fn nullable_beside_dictionary(ty: &ResolvedUse<'_>) -> Option<Violation>
 pub fn is_union(form: &TypeForm) -> bool
     ensures { result ≡ is_union_form (form_term form.now) }
 {
-    matches!(form, TypeForm::Union(_))
+    match form {
+        TypeForm::Union(_) => true,
+        TypeForm::Any
+        | TypeForm::Undefined
+        | TypeForm::Boolean
+        | TypeForm::Object
+        | TypeForm::Symbol
+        | TypeForm::BigInt
+        | TypeForm::Integer(_)
+        | TypeForm::Float(_)
+        | TypeForm::Text(_)
+        | TypeForm::Buffer(_)
+        | TypeForm::Named(_)
+        | TypeForm::Container(_, _)
+        | TypeForm::Record(_, _)
+        | TypeForm::Promise(_) => false,
+    }
 }
 
 /// How many members of a union, with or without a `?`, are nullable, or 4,294,967,295 if they are more;

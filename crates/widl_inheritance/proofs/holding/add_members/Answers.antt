@@ -10,5 +10,5 @@ links_of-requires-clause-within c = item_within c.args.dicts.now c.loop-dict.dic
 
 pub loop-dict-preserved : goal.loop-dict-preserved
 loop-dict-preserved c =
-    members_more c.args.dicts.now c.loop-dict.dict-index c.dict-item.result c.loop-dict.graph c.add_linked.new.graph c.as_slice.result.now c.loop-dict-test.true c.dict-item.is c.loop-dict.invariant c.in_ok-add_linked.ensures
+    members_more c.args.dicts.now c.loop-dict.dict-index c.dict-item.result c.loop-dict.graph c.add_linked.new.self c.as_slice.result.now c.loop-dict-test.true c.dict-item.is c.loop-dict.invariant c.in_ok-add_linked.ensures
     (c.as_slice.ensures.value ∙ c.in_ok-links.ensures) (item_within c.args.dicts.now c.loop-dict.dict-index c.dict-item.result c.loop-dict-test.true c.dict-item.is c.requires.within)

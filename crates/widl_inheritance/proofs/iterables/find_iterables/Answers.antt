@@ -4,7 +4,8 @@ use Rattle.widl_idl.specs.First.{FirstWhere}
 use Rattle.widl_idl.specs.MergingRules.{parent_links}
 use Rattle.widl_idl.specs.PlainTrees.{plain_definitions}
 use Rattle.widl_inheritance.specs.Iterations.{BelowCount, HasSecondAt, HidesAt}
-use Rattle.widl_inheritance.specs.ReachedFlags.{IsAcyclic, TellsReached}
+use Rattle.widl_graph.specs.Flags.{TellsReached}
+use Rattle.widl_graph.specs.Reaching.{IsAcyclic}
 use Rattle.widl_inheritance.proofs.BrokenInterfaces.{hides_first, second_first}
 use Rattle.widl_overload.specs.rules.IterableRules.{HasSecondIterable, HidesIterationMethod}
 use Rattle.widl_inheritance.proofs.iterables.find_iterables.Goals as goal
