@@ -1,5 +1,5 @@
 -- What one of several definitions breaks, with one definition more.
-use Rattle.std.proofs.Common.{◌++◌, List, [], ◌∷◌}
+use Rattle.std.proofs.Common.{◌++◌, List, [], ◌∷◌, true}
 use Rattle.widl_idl.specs.declared.violation.Violation.{Violation}
 use Rattle.widl_idl.specs.First.{AtOne}
 use Rattle.widl_idl.specs.PlainTrees.{PlainArgument, PlainDefinition}

@@ -1,5 +1,5 @@
 -- The rules on definitions and on lists of arguments, asked of one definition.
-use Rattle.std.specs.Prelude.{List, [], ◌∷◌}
+use Rattle.std.specs.Prelude.{List, [], ◌∷◌, true}
 use Rattle.widl_idl.specs.declared.violation.Violation.{Violation}
 use Rattle.widl_idl.specs.First.{AtOne, Somewhere}
 use Rattle.widl_idl.specs.PlainTrees.{PlainArgument, PlainDefinition}
