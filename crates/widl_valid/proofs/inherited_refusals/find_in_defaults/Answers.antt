@@ -1,3 +1,4 @@
+use Rattle.widl_idl.specs.DefinitionTerms.{defs_term}
 use Rattle.widl_idl.specs.PlainTrees.{plain_definitions}
 use Rattle.widl_idl.proofs.Steps.{first_rule, no_rules}
 use Rattle.widl_overload.specs.rules.Validity.{BreaksRule, validity_number}
