@@ -6,7 +6,7 @@ Run at the top of the repository, after `rt run` in crates/widl_cli has built th
     python3 bench/check.py
 
 It prints, for each set, the milliseconds, those a MiB and how many times the realistic file's that is, the memory at
-the peak, and the line that the program writes. Times are those of the processor (user and system), the least of three runs, without the start
+the peak (for small sets what this script itself holds, which the system counts to a child), and the line that the program writes. Times are those of the processor (user and system), the least of three runs, without the start
 of the program. "Asked" is the work that a set asks for, in MiB: the greater of its bytes and 8 bytes for each of its tokens, of
 which the realistic file has one in 8 bytes, where what is mixed in and what typedefs stand for count as if they were written out.
 
