@@ -1,4 +1,3 @@
-pub mod DefinitionRefusals
 pub mod RepeatedTexts
 pub mod ArgumentPlaces
 pub mod DefinitionPlaces

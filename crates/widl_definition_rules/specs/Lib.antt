@@ -1,3 +1,2 @@
 pub mod WrittenLists
 pub mod KnownTexts
-pub mod DefinitionRefusals

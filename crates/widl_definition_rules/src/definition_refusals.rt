@@ -6,7 +6,7 @@ ghost use Rattle.std.specs.Prelude.{◌≡◌, IfOk};
 ghost use Rattle.widl_idl.specs.DefinitionTerms.{DefsTerm};
 ghost use Rattle.widl_idl.specs.PlainTrees.{definition_of};
 ghost use Rattle.widl_names.specs.Listings.{listed_definitions};
-ghost use Rattle.widl_definition_rules.specs.DefinitionRefusals.{BreaksDefinition, definition_rules};
+ghost use Rattle.widl_overload.specs.rules.OnDefinitions.{BreaksDefinition, definition_rules};
 ghost use Rattle.widl_refusals.specs.Refusals.{IsFirst, IsFirstOver};
 
 use crate::argument_rules::{

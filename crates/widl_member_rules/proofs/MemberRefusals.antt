@@ -7,8 +7,8 @@ use Rattle.widl_idl.specs.Nodes.{Node, MemberNode, nodes_of, nodes_of_definition
 use Rattle.widl_idl.proofs.Order.{Either}
 use Rattle.widl_overload.specs.declared.validity_rule.ValidityRule.{ValidityRule}
 use Rattle.widl_overload.specs.declared.validity_rule.ValidityRule.TheVariants as rule
-use Rattle.widl_member_rules.specs.MemberRefusals.{ByEither, ByOwner, ByType}
-use Rattle.widl_member_rules.specs.MemberTypes.{BreaksNode, NodesBreak, member_nodes, own_members}
+use Rattle.widl_overload.specs.rules.OnMembers.{BreaksNode, ByOwner, ByType, InOneMember, NodesBreak}
+use Rattle.widl_member_rules.specs.MemberTypes.{member_nodes, own_members}
 use Rattle.widl_refusals.proofs.FirstRefusals.{item_pushed, list_pushed}
 use Rattle.widl_member_rules.proofs.MemberNodes.{definition_same, is_member}
 
@@ -35,24 +35,5 @@ module _ (definitions : List PlainDefinition) where
       let pushed = list_pushed P nodes_of_definition before d in
       record { left = pushed.left; right = λ s h. pushed.right s (same.0 s h); only = λ s h. elim (pushed.only s h) [ inl l ↦ inl l | inr r ↦ inr (same.1 s r) ] }
 
-  -- no rule is broken both ways but that on stringifiers
-  no_owner_breaks : (which : ValidityRule) (s : Violation) → ByEither definitions which s → ByType definitions which s ⊎ ByOwner definitions which s
-  no_owner_breaks rule.OtherConstantValue s h = inl h
-  no_owner_breaks rule.WritablePromise s h = inl h
-  no_owner_breaks rule.Stringifiers s h = h
-  no_owner_breaks other s h = inr h
-
-  by_type : (which : ValidityRule) (s : Violation) → ByType definitions which s → ByEither definitions which s
-  by_type rule.OtherConstantValue s h = h
-  by_type rule.WritablePromise s h = h
-  by_type rule.Stringifiers s h = inl h
-  by_type other s h = absurd h.breaks
-
-  by_owner : (which : ValidityRule) (s : Violation) → ByOwner definitions which s → ByEither definitions which s
-  by_owner rule.OtherConstantValue s h = absurd h.breaks.breaks
-  by_owner rule.WritablePromise s h = absurd h.breaks.breaks
-  by_owner rule.Stringifiers s h = inr h
-  by_owner other s h = h
-
-  pub either_way : (which : ValidityRule) → Either (ByOwner definitions which) (ByType definitions which) (ByEither definitions which)
-  either_way which = record { left = by_owner which; right = by_type which; only = λ s h. elim (no_owner_breaks which s h) [ inl t ↦ inr t | inr o ↦ inl o ] }
+  pub either_way : (which : ValidityRule) → Either (ByOwner definitions which) (ByType definitions which) (InOneMember definitions which)
+  either_way which = record { left = λ s o. inr o; right = λ s t. inl t; only = λ s h. elim h [ inl t ↦ inr t | inr o ↦ inl o ] }

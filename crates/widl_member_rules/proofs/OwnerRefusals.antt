@@ -23,8 +23,8 @@ use Rattle.widl_names.proofs.Pushed.{either_pushed, some_is}
 use Rattle.widl_overload.specs.declared.validity_rule.ValidityRule.{ValidityRule}
 use Rattle.widl_overload.specs.declared.validity_rule.ValidityRule.TheVariants as rule
 use Rattle.widl_overload.specs.rules.MemberRules.{InOneOwner, has_members_of_its_own, is_interface_kind}
-use Rattle.widl_member_rules.specs.MemberRefusals.{ByOwner, member_rules}
-use Rattle.widl_member_rules.specs.Owners.{BreaksMember, InDefinitions, InMembers, InOwnerAt, MembersBreak, OwnerBreaks, OwnersBreak, asks, is_owner}
+use Rattle.widl_overload.specs.rules.OnMembers.{BreaksMember, ByOwner, asks, member_rules}
+use Rattle.widl_member_rules.specs.Owners.{InDefinitions, InMembers, InOwnerAt, MembersBreak, OwnerBreaks, OwnersBreak, is_owner}
 use Rattle.widl_refusals.specs.Refusals.{IsFirst}
 use Rattle.widl_refusals.proofs.FirstRefusals.{same_breaks}
 

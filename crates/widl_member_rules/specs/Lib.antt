@@ -2,4 +2,3 @@ pub mod ApartMembers
 pub mod MemberTables
 pub mod Owners
 pub mod MemberTypes
-pub mod MemberRefusals

@@ -8,24 +8,9 @@ use Rattle.widl_idl.specs.Parts.{merged_members}
 use Rattle.widl_idl.specs.PlainTypes.{PlainName}
 use Rattle.widl_idl.specs.PlainTrees.{PlainDefinition, PlainKind, PlainMember}
 use Rattle.widl_overload.specs.declared.validity_rule.ValidityRule.{ValidityRule}
-use Rattle.widl_overload.specs.declared.validity_rule.ValidityRule.TheVariants as rule
-use Rattle.widl_overload.specs.rules.MemberRules.{HasKeptName, HasOverloadPastLimit, IsSecondStringifier, MixesPromises, RepeatsMember, has_members_of_its_own, is_interface_kind}
+use Rattle.widl_overload.specs.rules.MemberRules.{has_members_of_its_own}
+use Rattle.widl_overload.specs.rules.OnMembers.{BreaksMember, asks}
 use Rattle.widl_names.specs.PartTables.{means_itself}
-
--- the kinds of owners that a rule on members asks
-abbrev pub asks : ValidityRule → Kind → Bool
-asks rule.KeptName = is_interface_kind
-asks rule.Stringifiers = is_interface_kind
-asks other = has_members_of_its_own
-
--- a member of an owner breaks the rule; none breaks one that isn't on the members of owners
-abbrev pub BreaksMember : List PlainDefinition → ValidityRule → List PlainMember → PlainMember → Violation → Type 0
-BreaksMember definitions rule.Stringifiers = IsSecondStringifier
-BreaksMember definitions rule.PromisesAndOthers = MixesPromises definitions
-BreaksMember definitions rule.RepeatedMember = RepeatsMember
-BreaksMember definitions rule.KeptName = HasKeptName
-BreaksMember definitions rule.TooManyOverloads = HasOverloadPastLimit
-BreaksMember definitions other = λ before m s. ⊥
 
 -- one of these members of an owner of this kind breaks the rule, which asks the kind
 abbrev pub InMembers : Kind → List PlainMember → (Kind → Bool) → (List PlainMember → PlainMember → Violation → Type 0) → Violation → Type 0

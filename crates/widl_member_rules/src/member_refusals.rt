@@ -3,7 +3,7 @@
 ghost use Rattle.std.specs.Prelude.{◌≡◌, IfOk};
 ghost use Rattle.widl_idl.specs.DefinitionTerms.{DefsTerm};
 ghost use Rattle.widl_idl.specs.PlainTrees.{plain_definitions};
-ghost use Rattle.widl_member_rules.specs.MemberRefusals.{member_rules};
+ghost use Rattle.widl_overload.specs.rules.OnMembers.{member_rules};
 ghost use Rattle.widl_refusals.specs.Refusals.{IsFirstOver};
 
 use crate::member_types::find_in_member_types;

@@ -10,8 +10,8 @@ ghost use Rattle.widl_idl.specs.WrittenTypes.{meaning_of_annotated};
 ghost use Rattle.widl_names.specs.Listings.{listed_definitions};
 ghost use Rattle.widl_overload.specs.rules.MemberRules.{is_promise};
 ghost use Rattle.widl_overload.specs.rules.TypeRules.{HasOtherValue, IsOtherStringifier, IsWritablePromise};
-ghost use Rattle.widl_member_rules.specs.MemberRefusals.{member_rules};
-ghost use Rattle.widl_member_rules.specs.MemberTypes.{BreaksNode, NodesBreak, member_nodes, own_members};
+ghost use Rattle.widl_overload.specs.rules.OnMembers.{BreaksNode, NodesBreak, member_rules};
+ghost use Rattle.widl_member_rules.specs.MemberTypes.{member_nodes, own_members};
 ghost use Rattle.widl_refusals.specs.Refusals.{IsFirst};
 
 use crate::constant_values::other_constant_value;

@@ -7,7 +7,7 @@ ghost use Rattle.widl_idl.specs.PlainTrees.{PlainDefinition, definition_kind_of,
 ghost use Rattle.widl_overload.specs.rules.MemberRules.{HasKeptName, IsSecondStringifier, has_members_of_its_own, is_interface_kind};
 ghost use Rattle.widl_names.specs.Listings.{listed_members};
 ghost use Rattle.widl_member_rules.specs.ApartMembers.{SharesLabel};
-ghost use Rattle.widl_member_rules.specs.MemberRefusals.{ByOwner, member_rules};
+ghost use Rattle.widl_overload.specs.rules.OnMembers.{ByOwner, member_rules};
 ghost use Rattle.widl_member_rules.specs.Owners.{InMembers, MembersBreak, OwnerBreaks, is_owner};
 ghost use Rattle.widl_refusals.specs.Refusals.{IsFirst};
 

@@ -11,4 +11,7 @@ pub mod DefaultRules
 pub mod IterableRules
 pub mod OverloadRules
 pub mod OverloadViolations
+pub mod OnDefinitions
+pub mod OnTypes
+pub mod OnMembers
 pub mod Validity

@@ -1,7 +1,7 @@
 //! Overloads of Web IDL and what validity means: which types are distinguishable, the effective overload
 //! set of a callee, the argument by which overloads are distinguished, the statements of all 36 rules of
 //! validity (`specs/rules/Validity.antt` and the files that it joins; two of them, on overloads, are asked here,
-//! the others in `widl_valid` and `widl_inheritance`), and [`Accepted`], a set of files that breaks none of
+//! the others in the crates above), and [`Accepted`], a set of files that breaks none of
 //! them. It stands on `widl_text`, `widl_graph` and `widl_idl`. The contract that the crates above use:
 //! [`effective_set`] lists each tuple of the standard's set once.
 #![tactic(auto)]

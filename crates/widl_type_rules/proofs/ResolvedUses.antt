@@ -6,7 +6,7 @@ use Rattle.widl_idl.specs.PlainTypes.{PlainAttribute}
 use Rattle.widl_idl.specs.Terms.{TypeTerm}
 use Rattle.widl_idl.specs.WrittenTypes.{meaning_of_type, note_of, notes_of}
 use Rattle.widl_overload.specs.rules.TypeUses.{TypeUse}
-use Rattle.widl_type_rules.specs.UsesListed.{UseTerm, with_meaning}
+use Rattle.widl_overload.specs.rules.OnTypes.{UseTerm, with_meaning}
 
 -- a type means what it means after the annotations of the node that it is the type of, and then its own
 pub use_resolved : (definitions : List PlainDefinition) (u : TypeUse) (outer own : List PlainAttribute) (meaning : TypeTerm) → u.attributes ≡ outer ++ own → meaning ≡ meaning_of_type definitions (notes_of outer ++ notes_of own) u.ty → record { written = u; meaning = meaning } ≡ with_meaning definitions u

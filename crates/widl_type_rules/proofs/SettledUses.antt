@@ -21,7 +21,7 @@ use Rattle.widl_overload.specs.declared.validity_rule.ValidityRule.TheVariants a
 use Rattle.widl_overload.specs.rules.TypeRules.{HasClampAndEnforceRange, HasMisplacedAnnotation, HaveIndistinguishableMembers, HaveNullableAndDictionary, HaveSeveralNullable, IsAnnotatedMember, IsCopiedAttribute, IsNullableDictionary, IsOtherConstantType, IsUndefinedInside, IsWronglyNullable, OfUnion, all_notes, has_question, is_annotated, is_attribute_role, is_constant_role, is_copied, is_nullable_dictionary, is_undefined_form, is_undefined_word, is_union_form, is_written_union, is_wrongly_nullable, notes_after, notes_in, takes_undefined}
 use Rattle.widl_overload.specs.rules.TypeUses.{TypeUse, meaning_of_use}
 use Rattle.widl_type_rules.specs.SettledUses.{are_none, is_settled, is_settled_form, is_settled_kind, is_settled_type}
-use Rattle.widl_type_rules.specs.TypeRefusals.{BreaksUse}
+use Rattle.widl_overload.specs.rules.OnTypes.{BreaksUse}
 
 -- what the rules ask of what such a type means
 record Settled (role : TypeRole) (t : TypeTerm) : Type 0 where

@@ -1,6 +1,5 @@
 pub mod UsesListed
 pub mod SettledUses
-pub mod TypeRefusals
 pub mod Misplaced
 pub mod IndistinguishableKinds
 pub mod IndistinguishablePairs

@@ -1,10 +1,9 @@
 -- For proofs alone. The types that are written in a set of files, and what they mean, as the program lists them.
 use Rattle.std.specs.Prelude.{◌≡◌, List, ◌++◌, map}
-use Rattle.widl_idl.specs.PlainTrees.{PlainDefinition}
 use Rattle.widl_idl.specs.PlainTypes.{attribute_of, type_of}
-use Rattle.widl_idl.specs.Terms.{TypeTerm, type_term}
+use Rattle.widl_idl.specs.Terms.{type_term}
+use Rattle.widl_overload.specs.rules.OnTypes.{UseTerm}
 use Rattle.widl_overload.specs.rules.TypeUses as plain
-use Rattle.widl_overload.specs.rules.TypeUses.{meaning_of_use}
 use Rattle.widl_type_rules.specs.declared.resolved_uses.ResolvedUse.{ResolvedUse}
 use Rattle.widl_type_rules.specs.declared.type_uses.TypeUse.{TypeUse}
 
@@ -19,13 +18,6 @@ uses_listed uses = map use_of uses
 abbrev pub Adds : List TypeUse → List TypeUse → List plain.TypeUse → Type 0
 Adds old new uses = uses_listed new ≡ uses_listed old ++ uses
 
--- a type where it is written, with what it means there
-pub record UseTerm : Type 0 where
-  pub written : plain.TypeUse
-  pub meaning : TypeTerm
-
+-- the same with what it means there
 abbrev pub resolved_use : ResolvedUse → UseTerm
 resolved_use r = record { written = use_of r.written; meaning = type_term r.meaning }
-
-abbrev pub with_meaning : List PlainDefinition → plain.TypeUse → UseTerm
-with_meaning definitions u = record { written = u; meaning = meaning_of_use definitions u }

@@ -5,7 +5,8 @@ ghost use Rattle.widl_idl.specs.PlainTrees.{plain_definitions};
 ghost use Rattle.widl_idl.specs.PlainTypes.{attribute_of, form_term, type_of};
 ghost use Rattle.widl_overload.specs.rules.TypeRules.{is_constant_role, takes_undefined};
 ghost use Rattle.widl_type_rules.specs.SettledUses.{are_none, is_settled, is_settled_form, is_settled_kind, is_settled_type};
-ghost use Rattle.widl_type_rules.specs.UsesListed.{resolved_use, use_of, with_meaning};
+ghost use Rattle.widl_overload.specs.rules.OnTypes.{with_meaning};
+ghost use Rattle.widl_type_rules.specs.UsesListed.{resolved_use, use_of};
 
 use crate::type_uses::TypeUse;
 use std::alloc::{AllocError, Global};

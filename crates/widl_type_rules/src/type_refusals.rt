@@ -11,7 +11,7 @@ ghost use Rattle.widl_idl.specs.PlainTrees.{definition_kind_of, plain_definition
 ghost use Rattle.widl_overload.specs.rules.TypeUses.{uses_in_definition};
 ghost use Rattle.widl_type_rules.specs.Lineages.{TellRelated};
 ghost use Rattle.widl_refusals.specs.Refusals.{IsFirst, IsFirstOver};
-ghost use Rattle.widl_type_rules.specs.TypeRefusals.{BreaksType, BreaksUse, SomeBreaks, type_rules};
+ghost use Rattle.widl_overload.specs.rules.OnTypes.{BreaksType, BreaksUse, SomeBreaks, type_rules};
 ghost use Rattle.widl_type_rules.specs.UsesListed.{resolved_use, use_of};
 
 use crate::annotation_rules::{annotated_member, misplaced_annotation};

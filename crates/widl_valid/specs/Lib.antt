@@ -1,2 +1,1 @@
 pub mod Invalidity
-pub mod InheritedRefusals

@@ -9,7 +9,7 @@ ghost use Rattle.widl_idl.specs.PlainTrees.{PlainDefinition, plain_definitions};
 ghost use Rattle.widl_inheritance.specs.HoldingGraph.{AreWithin};
 ghost use Rattle.widl_graph.specs.Reaching.{IsAcyclic};
 ghost use Rattle.widl_overload.specs.rules.Dictionaries.{dictionary_terms};
-ghost use Rattle.widl_valid.specs.InheritedRefusals.{default_rules, dictionary_rules, iterable_rules, overload_rules};
+ghost use Rattle.widl_overload.specs.rules.Validity.{default_rules, dictionary_rules, iterable_rules, overload_rules};
 ghost use Rattle.widl_refusals.specs.Refusals.{IsFirstOver};
 
 use std::alloc::{AllocError, Global};

@@ -59,6 +59,6 @@ FollowsOptional before a s = ((is_required a.kind ≡ true) × (list_any (λ (b 
 abbrev pub IsArgumentPastLimit : List PlainArgument → PlainArgument → Violation → Type 0
 IsArgumentPastLimit before a s = (length before ≡ most_arguments) × IsAt a.name.at s
 
--- in one of the lists an argument breaks the rule
-abbrev pub InOneList : (List PlainArgument → PlainArgument → Violation → Type 0) → List PlainDefinition → Violation → Type 0
-InOneList Breaks definitions s = Somewhere (AtOne Breaks) (argument_lists_of true definitions) s
+-- in one of the lists of a definition an argument breaks the rule
+abbrev pub InOneList : (List PlainArgument → PlainArgument → Violation → Type 0) → PlainDefinition → Violation → Type 0
+InOneList Breaks d s = Somewhere (AtOne Breaks) (lists_in_definition true d.kind) s

@@ -3,11 +3,11 @@ use Rattle.widl_idl.specs.declared.violation.Violation.{Violation}
 use Rattle.widl_idl.specs.First.{AtOne, FirstWhere, Somewhere}
 use Rattle.widl_idl.specs.PlainTrees.{PlainArgument, definition_of}
 use Rattle.widl_idl.proofs.Steps.{first_rule, no_rules}
-use Rattle.widl_overload.specs.rules.ArgumentRules.{FollowsEllipsis, FollowsOptional, IsArgumentPastLimit, RepeatsArgument, lists_in_definition}
+use Rattle.widl_overload.specs.rules.ArgumentRules.{FollowsEllipsis, FollowsOptional, InOneList, IsArgumentPastLimit, RepeatsArgument, lists_in_definition}
 use Rattle.widl_overload.specs.rules.Validity.{validity_number}
 use Rattle.widl_overload.specs.declared.validity_rule.ValidityRule.TheVariants as rule
 use Rattle.widl_inheritance.specs.WrittenLists.{listed_arguments}
-use Rattle.widl_definition_rules.specs.DefinitionRefusals.{BreaksDefinition, InItsLists}
+use Rattle.widl_overload.specs.rules.OnDefinitions.{BreaksDefinition}
 use Rattle.widl_refusals.proofs.FirstRefusals.{Breaking}
 use Rattle.widl_definition_rules.proofs.definition_refusals.find_in_definition.Goals as goal
 
@@ -16,7 +16,7 @@ returns c =
     let d = definition_of c.args.definition.now in
     let b : Breaking = λ which. BreaksDefinition which d in
     let lists : listed_arguments c.as_slice-lists.result.now ≡ lists_in_definition true d.kind = ap listed_arguments c.as_slice-lists.ensures.value ∙ c.in_ok-listed.ensures in
-    let in_lists : (P : List PlainArgument → PlainArgument → Violation → Type 0) (found : Option Violation) → FirstWhere (Somewhere (AtOne P) (listed_arguments c.as_slice-lists.result.now)) found → FirstWhere (InItsLists P d) found
+    let in_lists : (P : List PlainArgument → PlainArgument → Violation → Type 0) (found : Option Violation) → FirstWhere (Somewhere (AtOne P) (listed_arguments c.as_slice-lists.result.now)) found → FirstWhere (InOneList P d) found
     = λ P found l. subst (λ ls. FirstWhere (Somewhere (AtOne P) ls) found) lists l in
     first_rule validity_number b rule.RepeatedEnumerationValue _ _ _ _ c.in_ok-found-2.ensures c.first.ensures
     (first_rule validity_number b rule.AnnotationOfNoType _ _ _ _ c.first_annotation_of_no_type-found.ensures c.first-best-8.ensures

@@ -4,8 +4,7 @@ use Rattle.widl_idl.specs.Nodes.{nodes_of}
 use Rattle.widl_names.specs.Listings.{listed_definitions}
 use Rattle.widl_names.proofs.NameMeanings.{all_plain}
 use Rattle.widl_overload.specs.rules.Validity.{BreaksRule}
-use Rattle.widl_member_rules.specs.MemberRefusals.{ByEither, ByOwner, ByType, member_rules}
-use Rattle.widl_member_rules.specs.MemberTypes.{NodesBreak}
+use Rattle.widl_overload.specs.rules.OnMembers.{ByOwner, ByType, InOneMember, NodesBreak, member_rules}
 use Rattle.widl_refusals.specs.Refusals.{IsFirst}
 use Rattle.widl_refusals.proofs.FirstRefusals.{both_breaks, same_rules}
 use Rattle.widl_member_rules.proofs.MemberRefusals.{either_way}
@@ -17,5 +16,5 @@ returns c = λ list.
     let listed : IsFirst (NodesBreak definitions (nodes_of (listed_definitions c.all.result.now))) member_rules c.in_ok-types.types
     = subst (λ ds. IsFirst (NodesBreak (plain_definitions ds) (nodes_of (listed_definitions c.all.result.now))) member_rules c.in_ok-types.types) c.resolver.ensures c.in_ok-types.ensures in
     let types : IsFirst (ByType definitions) member_rules c.in_ok-types.types = subst (λ ds. IsFirst (NodesBreak definitions (nodes_of ds)) member_rules c.in_ok-types.types) (all_plain c.all.result.now c.args.scope.now c.all.ensures.all) listed in
-    same_rules (ByEither definitions) (BreaksRule list definitions) member_rules c.earlier_refusal.result refl
-    (both_breaks member_rules (ByOwner definitions) (ByType definitions) (ByEither definitions) (either_way definitions) c.in_ok-owners.owners c.in_ok-types.types c.earlier_refusal.result c.in_ok-owners.ensures types c.earlier_refusal.ensures)
+    same_rules (InOneMember definitions) (BreaksRule list definitions) member_rules c.earlier_refusal.result refl
+    (both_breaks member_rules (ByOwner definitions) (ByType definitions) (InOneMember definitions) (either_way definitions) c.in_ok-owners.owners c.in_ok-types.types c.earlier_refusal.result c.in_ok-owners.ensures types c.earlier_refusal.ensures)

@@ -4,7 +4,7 @@ use Rattle.widl_idl.specs.Nodes.{MemberNode}
 use Rattle.widl_idl.proofs.Steps.{first_rule, no_rules}
 use Rattle.widl_overload.specs.rules.Validity.{validity_number}
 use Rattle.widl_overload.specs.declared.validity_rule.ValidityRule.TheVariants as rule
-use Rattle.widl_member_rules.specs.MemberTypes.{BreaksNode}
+use Rattle.widl_overload.specs.rules.OnMembers.{BreaksNode}
 use Rattle.widl_refusals.proofs.FirstRefusals.{Breaking}
 use Rattle.widl_member_rules.proofs.member_types.find_in_member.Goals as goal
 

@@ -2,8 +2,7 @@ use Rattle.std.proofs.Common.{take}
 use Rattle.widl_idl.specs.PlainTrees.{plain_definitions}
 use Rattle.widl_idl.specs.Nodes.{nodes_of}
 use Rattle.widl_names.specs.Listings.{listed_definitions}
-use Rattle.widl_member_rules.specs.MemberRefusals.{member_rules}
-use Rattle.widl_member_rules.specs.MemberTypes.{NodesBreak}
+use Rattle.widl_overload.specs.rules.OnMembers.{NodesBreak, member_rules}
 use Rattle.widl_refusals.specs.Refusals.{IsFirst}
 use Rattle.widl_member_rules.proofs.member_types.find_in_member_types.Given as goal
 

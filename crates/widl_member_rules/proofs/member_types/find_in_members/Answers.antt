@@ -3,8 +3,8 @@ use Rattle.widl_idl.specs.FirstRefusal.{violation_of}
 use Rattle.widl_idl.specs.PlainTrees.{member_of, plain_definitions}
 use Rattle.widl_idl.specs.Nodes.{MemberNode}
 use Rattle.widl_idl.proofs.Somewhere.{nowhere}
-use Rattle.widl_member_rules.specs.MemberRefusals.{member_rules}
-use Rattle.widl_member_rules.specs.MemberTypes.{BreaksNode, NodesBreak, member_nodes}
+use Rattle.widl_overload.specs.rules.OnMembers.{BreaksNode, NodesBreak, member_rules}
+use Rattle.widl_member_rules.specs.MemberTypes.{member_nodes}
 use Rattle.widl_refusals.proofs.FirstRefusals.{all_items, next_item}
 use Rattle.widl_member_rules.proofs.MemberRefusals.{member_pushed}
 use Rattle.widl_member_rules.proofs.member_types.find_in_members.Goals as goal

@@ -5,7 +5,7 @@ use Rattle.widl_idl.specs.PlainTrees.{definition_kind_of, plain_definitions}
 use Rattle.widl_names.specs.PartTables.{ListsParts, listed_parts}
 use Rattle.widl_names.specs.Listings.{listed_members}
 use Rattle.widl_idl.specs.FirstRefusal.{violation_of}
-use Rattle.widl_member_rules.specs.MemberRefusals.{member_rules}
+use Rattle.widl_overload.specs.rules.OnMembers.{member_rules}
 use Rattle.widl_member_rules.specs.Owners.{MembersBreak, OwnerBreaks, is_owner}
 use Rattle.widl_refusals.specs.Refusals.{IsFirst}
 use Rattle.widl_member_rules.proofs.OwnerRefusals.{no_owner, owner_first}

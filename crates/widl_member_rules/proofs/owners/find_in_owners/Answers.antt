@@ -1,7 +1,7 @@
 use Rattle.std.proofs.Common.{arith, length, subst, sym}
 use Rattle.widl_idl.specs.PlainTrees.{definition_of, plain_definitions}
 use Rattle.widl_names.proofs.PlainLists.{kind_there, listed_same}
-use Rattle.widl_member_rules.specs.MemberRefusals.{member_rules}
+use Rattle.widl_overload.specs.rules.OnMembers.{member_rules}
 use Rattle.widl_member_rules.specs.Owners.{OwnerBreaks, OwnersBreak}
 use Rattle.widl_refusals.specs.Refusals.{IsFirst}
 use Rattle.widl_refusals.proofs.FirstRefusals.{all_items, next_item}

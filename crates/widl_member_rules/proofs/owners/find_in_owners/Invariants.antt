@@ -1,7 +1,7 @@
 use Rattle.std.proofs.Common.{take}
 use Rattle.widl_idl.specs.PlainTrees.{plain_definitions}
 use Rattle.widl_names.specs.Listings.{listed_definitions}
-use Rattle.widl_member_rules.specs.MemberRefusals.{member_rules}
+use Rattle.widl_overload.specs.rules.OnMembers.{member_rules}
 use Rattle.widl_member_rules.specs.Owners.{OwnersBreak}
 use Rattle.widl_refusals.specs.Refusals.{IsFirst}
 use Rattle.widl_member_rules.proofs.owners.find_in_owners.Given as goal

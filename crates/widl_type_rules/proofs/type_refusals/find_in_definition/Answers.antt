@@ -4,7 +4,7 @@ use Rattle.widl_idl.specs.FirstRefusal.{violation_of}
 use Rattle.widl_idl.specs.PlainTrees.{plain_definitions}
 use Rattle.widl_idl.proofs.Somewhere.{nowhere}
 use Rattle.widl_refusals.specs.Refusals.{IsFirst}
-use Rattle.widl_type_rules.specs.TypeRefusals.{BreaksUse, SomeBreaks, type_rules}
+use Rattle.widl_overload.specs.rules.OnTypes.{BreaksUse, SomeBreaks, type_rules}
 use Rattle.widl_type_rules.specs.UsesListed.{use_of}
 use Rattle.widl_refusals.proofs.FirstRefusals.{all_items, item_pushed, next_item}
 use Rattle.widl_type_rules.proofs.type_refusals.find_in_definition.Goals as goal

@@ -3,7 +3,7 @@ use Rattle.widl_idl.specs.PlainTrees.{plain_definitions}
 use Rattle.widl_idl.proofs.Steps.{first_rule, no_rules}
 use Rattle.widl_overload.specs.rules.Validity.{validity_number}
 use Rattle.widl_overload.specs.declared.validity_rule.ValidityRule.TheVariants as rule
-use Rattle.widl_type_rules.specs.TypeRefusals.{BreaksType}
+use Rattle.widl_overload.specs.rules.OnTypes.{BreaksType}
 use Rattle.widl_type_rules.specs.UsesListed.{resolved_use}
 use Rattle.widl_refusals.proofs.FirstRefusals.{Breaking}
 use Rattle.widl_type_rules.proofs.type_refusals.find_in_type.Goals as goal

@@ -7,7 +7,7 @@ use Rattle.widl_names.proofs.PlainLists.{listed_same}
 use Rattle.widl_overload.specs.rules.TypeUses.{type_uses_of, uses_in_definition}
 use Rattle.widl_overload.specs.rules.Validity.{BreaksRule}
 use Rattle.widl_refusals.specs.Refusals.{IsFirst}
-use Rattle.widl_type_rules.specs.TypeRefusals.{BreaksUse, SomeBreaks, type_rules}
+use Rattle.widl_overload.specs.rules.OnTypes.{BreaksUse, SomeBreaks, type_rules}
 use Rattle.widl_refusals.proofs.FirstRefusals.{all_items, list_pushed, next_item, same_rules}
 use Rattle.widl_type_rules.proofs.type_refusals.find_in_types.Goals as goal
 

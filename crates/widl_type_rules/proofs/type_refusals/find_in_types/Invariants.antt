@@ -5,7 +5,7 @@ use Rattle.widl_names.specs.Listings.{listed_definitions}
 use Rattle.widl_overload.specs.rules.TypeUses.{type_uses_of}
 use Rattle.widl_type_rules.specs.Lineages.{TellRelated}
 use Rattle.widl_refusals.specs.Refusals.{IsFirst}
-use Rattle.widl_type_rules.specs.TypeRefusals.{SomeBreaks, type_rules}
+use Rattle.widl_overload.specs.rules.OnTypes.{SomeBreaks, type_rules}
 use Rattle.widl_type_rules.proofs.type_refusals.find_in_types.Given as goal
 
 abbrev pub invariant-loop-definition : goal.invariant-loop-definition

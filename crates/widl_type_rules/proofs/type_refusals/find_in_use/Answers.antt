@@ -5,7 +5,7 @@ use Rattle.widl_idl.specs.FirstRefusal.{violation_of}
 use Rattle.widl_idl.specs.PlainTrees.{plain_definitions}
 use Rattle.widl_refusals.specs.Refusals.{IsFirst}
 use Rattle.widl_type_rules.specs.SettledUses.{is_settled}
-use Rattle.widl_type_rules.specs.TypeRefusals.{BreaksType, BreaksUse, type_rules}
+use Rattle.widl_overload.specs.rules.OnTypes.{BreaksType, BreaksUse, type_rules}
 use Rattle.widl_type_rules.specs.UsesListed.{use_of}
 use Rattle.widl_type_rules.proofs.SettledUses.{no_type_rule}
 use Rattle.widl_type_rules.proofs.type_refusals.find_in_use.Goals as goal

@@ -9,12 +9,11 @@ use Rattle.widl_fits.proofs.MergedHierarchies.{merged_hierarchy, merged_interfac
 use Rattle.widl_fits.proofs.MergedParents.{none_back}
 use Rattle.widl_inheritance.proofs.MergedTypes.{merged_within}
 use Rattle.widl_names.proofs.PlainLists.{listed_same}
-use Rattle.widl_overload.specs.rules.Validity.{BreaksRule}
-use Rattle.widl_definition_rules.specs.DefinitionRefusals.{definition_rules}
-use Rattle.widl_valid.specs.InheritedRefusals.{default_rules, dictionary_rules, iterable_rules, overload_rules}
-use Rattle.widl_member_rules.specs.MemberRefusals.{member_rules}
+use Rattle.widl_overload.specs.rules.Validity.{BreaksRule, default_rules, dictionary_rules, iterable_rules, overload_rules}
+use Rattle.widl_overload.specs.rules.OnDefinitions.{definition_rules}
+use Rattle.widl_overload.specs.rules.OnMembers.{member_rules}
 use Rattle.widl_refusals.specs.Refusals.{IsFirstOver}
-use Rattle.widl_type_rules.specs.TypeRefusals.{type_rules}
+use Rattle.widl_overload.specs.rules.OnTypes.{type_rules}
 use Rattle.widl_refusals.proofs.FirstRefusals.{both_lists}
 use Rattle.widl_valid.proofs.invalidity.find_invalid.Goals as goal
 
