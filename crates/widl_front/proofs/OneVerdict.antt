@@ -52,10 +52,9 @@ same_terms xs ys a b same is other = is ∙ ap merged_from same ∙ sym other
 -- sets of trees with the same definitions have one first refusal by the rules of validity
 one_invalidity : (xs ys : List Fragment) → definitions_of xs ≡ definitions_of ys → (a b : Option Refusal) → IsRefusalAfter xs None a → IsRefusalAfter ys None b → a ≡ b
 one_invalidity xs ys same a b is other =
-    let merged : defs_term is.0 ≡ defs_term other.0 = same_terms xs ys is.0 other.0 same is.1 other.1 in
-    same_refusal validity_number (BreaksRule (defs_term other.0) (definitions_of ys)) validity_rules a b
-    (subst (λ list. FirstBroken validity_number (BreaksRule list (definitions_of ys)) validity_rules a) merged (subst (λ definitions. FirstBroken validity_number (BreaksRule (defs_term is.0) definitions) validity_rules a) same is.2))
-    other.2
+    same_refusal validity_number (BreaksRule (merged_list ys) (definitions_of ys)) validity_rules a b
+    (subst (λ definitions. FirstBroken validity_number (BreaksRule (merged_from definitions) definitions) validity_rules a) same is)
+    other
 
 one_after : (xs ys : List Fragment) → definitions_of xs ≡ definitions_of ys → (p q a b : Option Refusal) → p ≡ q → IsRefusalAfter xs p a → IsRefusalAfter ys q b → a ≡ b
 one_after xs ys same None None a b e is other = one_invalidity xs ys same a b is other

@@ -127,7 +127,7 @@ pub none_early : (definitions : List PlainDefinition) → ((rule : ProfileRule) 
 none_early definitions profile merging = record { profile = None; profile_is = λ s broken. profile broken.which (violation_of s) broken.breaks; after = λ s broken. merging broken.which (violation_of s) broken.breaks }
 
 pub merged_judged : (set : MergedSet) (refusal : Option Refusal) → IsMerged set.defs set.fragments → IsInvalidity set refusal → IsTreeRefusal set.fragments refusal
-merged_judged set refusal is valid = record { early = None; early_is = none_early (definitions_of set.fragments) is.unbroken.profile is.unbroken.merging; after = (set.defs, is.merged, valid) }
+merged_judged set refusal is valid = record { early = None; early_is = none_early (definitions_of set.fragments) is.unbroken.profile is.unbroken.merging; after = subst (λ list. FirstBroken validity_number (BreaksRule list (definitions_of set.fragments)) validity_rules refusal) is.merged valid }
 
 -- a merged set that breaks no rule of validity is accepted
 pub valid_judged : (set merged : MergedSet) → set ≡ merged → IsMerged merged.defs merged.fragments → IsValid set → AcceptsTrees merged.fragments set

@@ -1,16 +1,16 @@
 -- The verdict on a set of files: a fault of their encoding or their grammar, or a broken rule over their trees, or neither.
 use Rattle.std.specs.Prelude.{◌≡◌, ℕ, ◌+◌, ◌-◌, List, [], ◌∷◌, ◌++◌, length, Option, Some, None, codes, decimal, nat_lt, if◌then◌else◌}
 use Rattle.widl_text.specs.declared.place.Place.{Place}
-use Rattle.widl_idl.specs.declared.defs.Defs.{Defs}
 use Rattle.widl_idl.specs.declared.refusal.Refusal.{Refusal}
 use Rattle.widl_idl.specs.declared.tree.fragments.Fragment.{Fragment}
 use Rattle.widl_idl.specs.DefinitionTerms.{defs_term}
+use Rattle.widl_idl.specs.FirstRefusal.{FirstBroken}
 use Rattle.widl_idl.specs.Meanings.{definitions_of}
 use Rattle.widl_idl.specs.MergedList.{merged_list}
 use Rattle.widl_idl.specs.MergedSets.{MergedSet}
 use Rattle.widl_lex.specs.Tokens.{TokenList, AreTokensOf}
 use Rattle.widl_merge.specs.Refusals.{IsRefusal}
-use Rattle.widl_valid.specs.Invalidity.{IsInvalidity}
+use Rattle.widl_overload.specs.rules.Validity.{BreaksRule, validity_number, validity_rules}
 use Rattle.widl_syntax.specs.Signs.{UnparsesTo}
 use Rattle.widl_syntax.specs.UnparsedDefinitions.{fragment}
 use Rattle.widl_front.specs.Findings.{IsFoundIn}
@@ -39,7 +39,7 @@ AreTreesOf texts trees = AreTreesFrom 0 texts trees
 -- the rules of validity are asked where no rule of the profile and of merging is broken: over the trees and their merged list
 abbrev pub IsRefusalAfter : List Fragment → (early refusal : Option Refusal) → Type 0
 IsRefusalAfter trees (Some first) refusal = refusal ≡ Some first
-IsRefusalAfter trees None refusal = (defs : Defs) × (defs_term defs ≡ merged_list trees) × IsInvalidity (record { defs = defs; fragments = trees }) refusal
+IsRefusalAfter trees None refusal = FirstBroken validity_number (BreaksRule (merged_list trees) (definitions_of trees)) validity_rules refusal
 
 -- the first refusal by the rules over trees: of the profile, or else of merging, or else of validity, or none
 pub record IsTreeRefusal (trees : List Fragment) (refusal : Option Refusal) : Type 0 where
