@@ -1,7 +1,7 @@
 //! The laws of firsts, for all sorts of breaks. Each function does nothing: its contract is the law.
 
 ghost use Rattle.std.specs.Prelude.{◌≡◌, Option, Some};
-ghost use Rattle.widl_first.specs.First.{first_of, Either, IsFirst};
+ghost use Rattle.widl_first.specs.Keys.{first_of, Either, IsFirst};
 
 /// Two sorts of breaks of things that have keys.
 pub trait Sorts {

@@ -2,7 +2,9 @@
 use Rattle.std.proofs.Common.{◌≡◌, ◌⊎◌, inl, inr, ℕ, ◌<◌, Bool, true, false, ◌||◌, ◌&&◌, cond, Option, None, Some, arith, refl, sym, ap, subst, ◌∙◌}
 use Rattle.widl_text.specs.declared.place.Place.{Place}
 use Rattle.widl_idl.specs.declared.violation.Violation.{Violation}
-use Rattle.widl_idl.specs.First.{Before, is_before, OtherBefore, is_other_before, SamePlace, is_same_place, ComesBefore, comes_before, violation_at, earlier, IsFirst, FirstWhere}
+use Rattle.widl_first.specs.First.{Either, Tells}
+use Rattle.widl_first.proofs.Firsts as firsts
+use Rattle.widl_idl.specs.First.{Before, is_before, OtherBefore, is_other_before, SamePlace, is_same_place, ComesBefore, comes_before, violation_at, earlier, FirstWhere}
 
 pub before_trans : (p q r : Place) → Before p q → Before q r → Before p r
 before_trans p q r a b = grind arith
@@ -133,16 +135,16 @@ OtherFirst s t = OtherBefore s.other t.other
 abbrev is_other_first : Violation → Violation → Bool
 is_other_first s t = is_other_before s.other t.other
 
-pub violation_trans : (p q r : Violation) → ComesBefore p q → ComesBefore q r → ComesBefore p r
+violation_trans : (p q r : Violation) → ComesBefore p q → ComesBefore q r → ComesBefore p r
 violation_trans = first_trans violation_place OtherFirst is_other_first (λ p q r. other_trans p.other q.other r.other)
 
-pub violation_before_of : (p q : Violation) → comes_before p q ≡ true → ComesBefore p q
+violation_before_of : (p q : Violation) → comes_before p q ≡ true → ComesBefore p q
 violation_before_of = first_of violation_place OtherFirst is_other_first (λ p q. other_of p.other q.other)
 
-pub not_violation_before : (p q r : Violation) → comes_before q p ≡ false → ComesBefore r p → ComesBefore r q
+not_violation_before : (p q r : Violation) → comes_before q p ≡ false → ComesBefore r p → ComesBefore r q
 not_violation_before = not_first violation_place OtherFirst is_other_first (λ p q r. not_other p.other q.other r.other)
 
-pub violation_irreflexive : (s : Violation) → ComesBefore s s → ⊥
+violation_irreflexive : (s : Violation) → ComesBefore s s → ⊥
 violation_irreflexive = first_irreflexive violation_place OtherFirst is_other_first (λ s. other_irreflexive s.other)
 
 -- no violation comes before one that is equal to it
@@ -165,35 +167,21 @@ pub before_alone : (p q : Place) → ComesBefore (violation_at p) (violation_at 
 before_alone p q (inl before) = before
 before_alone p q (inr h) = absurd h.1
 
+-- the test of violations tells their order
+pub violation_order : Tells ComesBefore comes_before
+violation_order = record { told = violation_before_of; not_told = not_violation_before; trans = violation_trans }
+
 -- there is one first violation
 pub same_first : (P : Violation → Type 0) (a b : Option Violation) → FirstWhere P a → FirstWhere P b → a ≡ b
-same_first P None None l m = refl
-same_first P None (Some t) l m = absurd (l t m.holds)
-same_first P (Some s) None l m = absurd (m s l.holds)
-same_first P (Some s) (Some t) l m = ap Some (neither_violation s t (m.first s l.holds) (l.first t m.holds))
+same_first P = firsts.same_first neither_violation P
 
 -- what holds at the same violations has the same first violations
 pub first_same : (P Q : Violation → Type 0) (found : Option Violation) → ((s : Violation) → P s → Q s) → ((s : Violation) → Q s → P s) → FirstWhere P found → FirstWhere Q found
-first_same P Q None to from l = λ t q. l t (from t q)
-first_same P Q (Some s) to from l = record { holds = to s l.holds; first = λ t q. l.first t (from t q) }
+first_same P Q = firsts.first_same ComesBefore P Q
 
--- P or Q holds at s
-pub record Either (P Q R : Violation → Type 0) : Type 0 where
-  pub left : (s : Violation) → P s → R s
-  pub right : (s : Violation) → Q s → R s
-  pub only : (s : Violation) → R s → P s ⊎ Q s
-
-module _ (P Q R : Violation → Type 0) (e : Either P Q R) where
-  chosen : (best found : Violation) (b : Bool) → comes_before found best ≡ b → IsFirst P best → IsFirst Q found → FirstWhere R (cond b (Some found) (Some best))
-  chosen best found true is l m = record { holds = e.right found m.holds; first = λ t r before. elim (e.only t r) [ inl p ↦ l.first t p (violation_trans t found best before (violation_before_of found best is)) | inr q ↦ m.first t q before ] }
-  chosen best found false is l m = record { holds = e.left best l.holds; first = λ t r before. elim (e.only t r) [ inl p ↦ l.first t p before | inr q ↦ m.first t q (not_violation_before best found t is before) ] }
-
-  -- the least of a joined set is the lesser of the least of its parts
-  pub first_either : (best found : Option Violation) → FirstWhere P best → FirstWhere Q found → FirstWhere R (earlier best found)
-  first_either None None l m = λ t r. elim (e.only t r) [ inl p ↦ l t p | inr q ↦ m t q ]
-  first_either None (Some f) l m = record { holds = e.right f m.holds; first = λ t r before. elim (e.only t r) [ inl p ↦ absurd (l t p) | inr q ↦ m.first t q before ] }
-  first_either (Some b) None l m = record { holds = e.left b l.holds; first = λ t r before. elim (e.only t r) [ inl p ↦ l.first t p before | inr q ↦ absurd (m t q) ] }
-  first_either (Some b) (Some f) l m = chosen b f (comes_before f b) refl l m
+-- the least of a joined set is the lesser of the least of its parts
+pub first_either : (P Q R : Violation → Type 0) → Either P Q R → (best found : Option Violation) → FirstWhere P best → FirstWhere Q found → FirstWhere R (earlier best found)
+first_either P Q R e = firsts.first_either violation_order P Q R e
 
 -- the least of two kinds of break is the lesser of the least of each
 pub first_or : (P Q : Violation → Type 0) (best found : Option Violation) → FirstWhere P best → FirstWhere Q found → FirstWhere (λ s. P s ⊎ Q s) (earlier best found)

@@ -6,7 +6,8 @@ use Rattle.std.proofs.lemmas.Option.{slice_get_read, get_or_from_slice_get}
 use Rattle.std.proofs.lemmas.List.Elements.{Contains-append_left, Contains-append_right, Contains-append_cases}
 use Rattle.widl_idl.specs.declared.violation.Violation.{Violation}
 use Rattle.widl_idl.specs.First.{earlier, FirstWhere, Somewhere, AtOne}
-use Rattle.widl_idl.proofs.Order.{Either, first_either, first_same}
+use Rattle.widl_first.specs.First.{Either}
+use Rattle.widl_idl.proofs.Order.{first_either, first_same}
 
 module _ {X : Type 0} (P : X → Violation → Type 0) where
   -- nothing breaks in the empty list

@@ -1,12 +1,16 @@
 -- The least over a list, an item at a time; and of joined rules, a rule at a time.
-use Rattle.std.proofs.Common.{◌≡◌, ◌⊎◌, inl, inr, ℕ, ◌+◌, ◌<◌, Bool, true, false, cond, List, [], ◌∷◌, length, take, get_or, slice_get, slice_index_or, zero, suc, Option, None, Some, arith, refl, sym, ap, subst, ◌∙◌, nat_lt, nat_eq, ◌&&◌, ◌||◌}
+use Rattle.std.proofs.Common.{◌≡◌, ◌⊎◌, inl, inr, ℕ, ◌+◌, ◌<◌, Bool, true, false, List, [], ◌∷◌, length, take, get_or, slice_get, slice_index_or, zero, suc, Option, None, Some, option_map, arith, refl, sym, ap, subst, ◌∙◌, nat_lt, nat_eq, ◌&&◌, ◌||◌}
 use Rattle.std.proofs.lemmas.Option.{slice_get_read}
 use Rattle.widl_idl.specs.declared.refusal.Refusal.{Refusal}
 use Rattle.widl_idl.specs.declared.violation.Violation.{Violation}
 use Rattle.widl_text.specs.declared.place.Place.{Place}
-use Rattle.widl_idl.specs.First.{ComesBefore, OtherBefore, SamePlace, is_other_before, earlier, IsFirst, FirstWhere, Upto, AtOne}
-use Rattle.widl_idl.specs.FirstRefusal.{Earlier, LowerBefore, is_earlier, is_lower, refusal_at, violation_of, join, Broken, IsFirstBroken, FirstBroken}
-use Rattle.widl_idl.proofs.Order.{Either, first_of, first_trans, first_either, neither_before, neither_other, not_first, not_other, other_of, other_trans}
+use Rattle.widl_first.specs.First as first
+use Rattle.widl_first.specs.First.{Either, Tells}
+use Rattle.widl_first.proofs.Firsts.{first_either, first_of_one, same_first}
+use Rattle.widl_idl.specs.First.{ComesBefore, OtherBefore, SamePlace, is_other_before, earlier, FirstWhere, Upto, AtOne}
+use Rattle.widl_idl.specs.FirstRefusal.{Earlier, LowerBefore, is_earlier, is_lower, refusal_at, violation_of, join, Broken, FirstBroken}
+use Rattle.widl_idl.proofs.Order as violations
+use Rattle.widl_idl.proofs.Order.{first_of, first_trans, neither_before, neither_other, not_first, not_other, other_of, other_trans}
 
 module _ {X : Type 0} (P : List X → X → Violation → Type 0) (xs : List X) where
   pub first_start : FirstWhere (Upto P xs 0) None
@@ -24,7 +28,7 @@ module _ {X : Type 0} (P : List X → X → Violation → Type 0) (xs : List X) 
 
   -- one item more
   pub first_item : (n : ℕ) (x : X) (best found : Option Violation) → slice_get xs n ≡ Some x → FirstWhere (Upto P xs n) best → FirstWhere (P (take n xs) x) found → FirstWhere (Upto P xs (n + 1)) (earlier best found)
-  first_item n x best found is l m = first_either (Upto P xs n) (P (take n xs) x) (Upto P xs (n + 1)) (either_item n x is) best found l m
+  first_item n x best found is l m = violations.first_either (Upto P xs n) (P (take n xs) x) (Upto P xs (n + 1)) (either_item n x is) best found l m
 
   -- the same, as a loop over the items has it
   pub first_next : (n : ℕ) (x : X) (best found now : Option Violation) → n < length xs → x ≡ get_or xs n x → FirstWhere (Upto P xs n) best → FirstWhere (P (take n xs) x) found → now ≡ earlier best found → FirstWhere (Upto P xs (n + 1)) now
@@ -62,19 +66,19 @@ not_lower_tests p q r false false c less same other e (inr l) = let one = l.0 in
 not_lower : (p q r : Refusal) → is_lower q p ≡ false → LowerBefore r p → LowerBefore r q
 not_lower p q r e l = not_lower_tests p q r (nat_lt q.rule p.rule) (nat_eq q.rule p.rule) (is_other_before q.other p.other) refl refl refl e l
 
-pub earlier_trans : (p q r : Refusal) → Earlier p q → Earlier q r → Earlier p r
+earlier_trans : (p q r : Refusal) → Earlier p q → Earlier q r → Earlier p r
 earlier_trans = first_trans refusal_place LowerBefore is_lower lower_trans
 
 -- what the test tells where it holds
-pub earlier_of : (p q : Refusal) → is_earlier p q ≡ true → Earlier p q
+earlier_of : (p q : Refusal) → is_earlier p q ≡ true → Earlier p q
 earlier_of = first_of refusal_place LowerBefore is_lower lower_of
 
 -- what it tells where it does not: what is earlier than p is earlier than q too
-pub not_earlier : (p q r : Refusal) → is_earlier q p ≡ false → Earlier r p → Earlier r q
+not_earlier : (p q r : Refusal) → is_earlier q p ≡ false → Earlier r p → Earlier r q
 not_earlier = not_first refusal_place LowerBefore is_lower not_lower
 
 -- refusals of which neither is earlier are one
-pub neither_earlier : (r s : Refusal) → (Earlier r s → ⊥) → (Earlier s r → ⊥) → r ≡ s
+neither_earlier : (r s : Refusal) → (Earlier r s → ⊥) → (Earlier s r → ⊥) → r ≡ s
 neither_earlier r s a b =
     let one_place : r.at ≡ s.at = neither_before r.at s.at (λ h. a (inl h)) (λ h. b (inl h)) in
     let here : SamePlace r.at s.at = (ap (λ p. p.file) one_place, ap (λ p. p.at) one_place) in
@@ -88,48 +92,50 @@ neither_earlier r s a b =
     refusal : ℕ → Place → Option Place → Refusal
     refusal rule at other = record { rule = rule; at = at; other = other }
 
+-- the test of refusals tells their order
+pub refusal_order : Tells Earlier is_earlier
+refusal_order = record { told = earlier_of; not_told = not_earlier; trans = earlier_trans }
+
 module _ {R : Type 0} (number : R → ℕ) (Breaks : R → Violation → Type 0) where
   pub no_rules : FirstBroken number Breaks [] None
   no_rules = λ s b. absurd (omega (arith, b.listed.1))
 
   -- there is one first refusal
   pub same_refusal : (rules : List R) (a b : Option Refusal) → FirstBroken number Breaks rules a → FirstBroken number Breaks rules b → a ≡ b
-  same_refusal rules None None l m = refl
-  same_refusal rules None (Some s) l m = absurd (l s m.broken)
-  same_refusal rules (Some r) None l m = absurd (m r l.broken)
-  same_refusal rules (Some r) (Some s) l m = ap Some (neither_earlier r s (m.first r l.broken) (l.first s m.broken))
+  same_refusal rules = same_first neither_earlier (Broken number Breaks rules)
 
 module _ {R : Type 0} (number : R → ℕ) (Breaks : R → Violation → Type 0) (rule : R) (rules : List R) where
-  pub head_broken : (s : Violation) → Breaks rule s → Broken number Breaks (rule ∷ rules) (refusal_at (number rule) s)
-  head_broken s b = record { which = rule; listed = (0, omega arith, refl); numbered = refl; breaks = b }
+  -- the rule is broken as the refusal says
+  abbrev HeadBroken : Refusal → Type 0
+  HeadBroken r = (number rule ≡ r.rule) × Breaks rule (violation_of r)
 
-  pub tail_broken : (r : Refusal) → Broken number Breaks rules r → Broken number Breaks (rule ∷ rules) r
-  tail_broken r b = record { which = b.which; listed = (suc b.listed.0, omega (arith, b.listed.1), b.listed.2); numbered = b.numbered; breaks = b.breaks }
-
-  pub broken_parts : (r : Refusal) → Broken number Breaks (rule ∷ rules) r → ((number rule ≡ r.rule) × Breaks rule (violation_of r)) ⊎ Broken number Breaks rules r
+  broken_parts : (r : Refusal) → Broken number Breaks (rule ∷ rules) r → Broken number Breaks rules r ⊎ HeadBroken r
   broken_parts r b = by_place b.listed.0 b.listed.1 b.listed.2
     where
-      by_place : (k : ℕ) → k < length (rule ∷ rules) → slice_index_or (rule ∷ rules) k b.which ≡ b.which → ((number rule ≡ r.rule) × Breaks rule (violation_of r)) ⊎ Broken number Breaks rules r
-      by_place zero l e = inl (ap number e ∙ b.numbered, subst (λ n. Breaks n (violation_of r)) (sym e) b.breaks)
-      by_place (suc k) l e = inr (record { which = b.which; listed = (k, omega arith, e); numbered = b.numbered; breaks = b.breaks })
+      by_place : (k : ℕ) → k < length (rule ∷ rules) → slice_index_or (rule ∷ rules) k b.which ≡ b.which → Broken number Breaks rules r ⊎ HeadBroken r
+      by_place zero l e = inr (ap number e ∙ b.numbered, subst (λ n. Breaks n (violation_of r)) (sym e) b.breaks)
+      by_place (suc k) l e = inl (record { which = b.which; listed = (k, omega arith, e); numbered = b.numbered; breaks = b.breaks })
+
+  one_more : Either (Broken number Breaks rules) HeadBroken (Broken number Breaks (rule ∷ rules))
+  one_more = record {
+    left = λ r b. record { which = b.which; listed = (suc b.listed.0, omega (arith, b.listed.1), b.listed.2); numbered = b.numbered; breaks = b.breaks };
+    right = λ r h. record { which = rule; listed = (0, omega arith, refl); numbered = h.0; breaks = h.1 };
+    only = broken_parts;
+  }
 
   not_same_rule : (s : Violation) (r : Refusal) → number rule ≡ r.rule → Earlier r (refusal_at (number rule) s) → ComesBefore (violation_of r) s
   not_same_rule s r e (inl before) = inl before
   not_same_rule s r e (inr h) = elim h.1 [ inl below ↦ absurd (omega (arith, e, below)) | inr o ↦ inr (h.0, o.1) ]
 
-  first_here : (s : Violation) → IsFirst (Breaks rule) s → (r : Refusal) → number rule ≡ r.rule → Breaks rule (violation_of r) → Earlier r (refusal_at (number rule) s) → ⊥
-  first_here s l r e b before = l.first (violation_of r) b (not_same_rule s r e before)
-
-  joined_one : (s : Violation) (best : Refusal) (b : Bool) → is_earlier (refusal_at (number rule) s) best ≡ b → IsFirst (Breaks rule) s → IsFirstBroken number Breaks rules best → FirstBroken number Breaks (rule ∷ rules) (cond b (Some (refusal_at (number rule) s)) (Some best))
-  joined_one s best true is l m = record { broken = head_broken s l.holds; first = λ r b before. elim (broken_parts r b) [ inl h ↦ first_here s l r h.0 h.1 before | inr t ↦ m.first r t (earlier_trans r (refusal_at (number rule) s) best before (earlier_of (refusal_at (number rule) s) best is)) ] }
-  joined_one s best false is l m = record { broken = tail_broken best m.broken; first = λ r b before. elim (broken_parts r b) [ inl h ↦ first_here s l r h.0 h.1 (not_earlier best (refusal_at (number rule) s) r is before) | inr t ↦ m.first r t before ] }
+  -- the first violation of the rule is its first refusal
+  first_head : (found : Option Violation) → FirstWhere (Breaks rule) found → first.FirstWhere Earlier HeadBroken (option_map (refusal_at (number rule)) found)
+  first_head None l = λ r h. l (violation_of r) h.1
+  first_head (Some s) l = record { holds = (refl, l.holds); first = λ r h before. l.first (violation_of r) h.1 (not_same_rule s r h.0 before) }
 
   -- one rule more: the least of a joined list is the lesser of the least of its parts
   pub first_joined : (found : Option Violation) (best : Option Refusal) → FirstWhere (Breaks rule) found → FirstBroken number Breaks rules best → FirstBroken number Breaks (rule ∷ rules) (join (number rule) found best)
-  first_joined None None l m = λ r b. elim (broken_parts r b) [ inl h ↦ l (violation_of r) h.1 | inr t ↦ m r t ]
-  first_joined None (Some best) l m = record { broken = tail_broken best m.broken; first = λ r b before. elim (broken_parts r b) [ inl h ↦ absurd (l (violation_of r) h.1) | inr t ↦ m.first r t before ] }
-  first_joined (Some s) None l m = record { broken = head_broken s l.holds; first = λ r b before. elim (broken_parts r b) [ inl h ↦ first_here s l r h.0 h.1 before | inr t ↦ absurd (m r t) ] }
-  first_joined (Some s) (Some best) l m = joined_one s best (is_earlier (refusal_at (number rule) s) best) refl l m
+  first_joined None best l m = subst (FirstBroken number Breaks (rule ∷ rules)) (first_of_one is_earlier best) (first_either refusal_order (Broken number Breaks rules) HeadBroken (Broken number Breaks (rule ∷ rules)) one_more best None m (first_head None l))
+  first_joined (Some s) best l m = first_either refusal_order (Broken number Breaks rules) HeadBroken (Broken number Breaks (rule ∷ rules)) one_more best (Some (refusal_at (number rule) s)) m (first_head (Some s) l)
 
   -- the same, as the joining function has it
   pub first_rule : (found : Option Violation) (best now : Option Refusal) → FirstWhere (Breaks rule) found → now ≡ join (number rule) found best → FirstBroken number Breaks rules best → FirstBroken number Breaks (rule ∷ rules) now

@@ -1,5 +1,6 @@
 -- The order of places, the first violation at which something holds, and what holds at one of the items of a list.
-use Rattle.std.specs.Prelude.{◌≡◌, ◌⊎◌, ℕ, ◌<◌, Bool, true, false, ◌&&◌, ◌||◌, nat_lt, nat_eq, List, Contains, length, take, slice_get, Option, None, Some, if◌then◌else◌}
+use Rattle.std.specs.Prelude.{◌≡◌, ◌⊎◌, ℕ, ◌<◌, Bool, true, false, ◌&&◌, ◌||◌, nat_lt, nat_eq, List, Contains, length, take, slice_get, Option, None, Some}
+use Rattle.widl_first.specs.First as first
 use Rattle.widl_text.specs.declared.place.Place.{Place}
 use Rattle.widl_idl.specs.declared.violation.Violation.{Violation}
 
@@ -45,19 +46,15 @@ violation_at p = record { at = p; other = None }
 
 -- the violation that comes first, of two that may be absent; of two that are one the first
 abbrev pub earlier : Option Violation → Option Violation → Option Violation
-earlier None found = found
-earlier (Some best) None = Some best
-earlier (Some best) (Some found) = if comes_before found best then Some found else Some best
+earlier best found = first.first_of comes_before best found
 
 -- P holds at s, and at no violation that comes before
-pub record IsFirst (P : Violation → Type 0) (s : Violation) : Type 0 where
-  pub holds : P s
-  pub first : (t : Violation) → P t → ComesBefore t s → ⊥
+abbrev pub IsFirst : (P : Violation → Type 0) → Violation → Type 0
+IsFirst P s = first.IsFirst ComesBefore P s
 
 -- the first violation at which P holds, or none where it holds nowhere
 abbrev pub FirstWhere : (P : Violation → Type 0) → Option Violation → Type 0
-FirstWhere P None = (t : Violation) → P t → ⊥
-FirstWhere P (Some s) = IsFirst P s
+FirstWhere P found = first.FirstWhere ComesBefore P found
 
 -- one of the first n items, seen with those before it, breaks at s
 pub record Upto {X : Type 0} (P : List X → X → Violation → Type 0) (xs : List X) (n : ℕ) (s : Violation) : Type 0 where

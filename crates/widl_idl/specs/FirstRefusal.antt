@@ -1,5 +1,6 @@
 -- The first refusal by a list of rules, over any type of rules with their numbers.
-use Rattle.std.specs.Prelude.{◌≡◌, ◌⊎◌, ℕ, ◌<◌, List, Contains, Bool, ◌&&◌, ◌||◌, nat_lt, nat_eq, Option, None, Some, if◌then◌else◌}
+use Rattle.std.specs.Prelude.{◌≡◌, ◌⊎◌, ℕ, ◌<◌, List, Contains, Bool, ◌&&◌, ◌||◌, nat_lt, nat_eq, Option, None, Some}
+use Rattle.widl_first.specs.First as first
 use Rattle.widl_idl.specs.declared.refusal.Refusal.{Refusal}
 use Rattle.widl_idl.specs.declared.violation.Violation.{Violation}
 use Rattle.widl_idl.specs.First.{Before, OtherBefore, SamePlace, is_before, is_other_before, is_same_place}
@@ -30,8 +31,7 @@ violation_of r = record { at = r.at; other = r.other }
 -- the earlier of what was found before and of this rule's violation
 abbrev pub join : ℕ → Option Violation → Option Refusal → Option Refusal
 join number None best = best
-join number (Some s) None = Some (refusal_at number s)
-join number (Some s) (Some best) = if is_earlier (refusal_at number s) best then Some (refusal_at number s) else Some best
+join number (Some s) best = first.first_of is_earlier best (Some (refusal_at number s))
 
 -- one of the rules is broken as the refusal says
 pub record Broken {R : Type 0} (number : R → ℕ) (Breaks : R → Violation → Type 0) (rules : List R) (r : Refusal) : Type 0 where
@@ -40,15 +40,9 @@ pub record Broken {R : Type 0} (number : R → ℕ) (Breaks : R → Violation �
   pub numbered : number which ≡ r.rule
   pub breaks : Breaks which (violation_of r)
 
--- one of the rules is broken as the refusal says, and none is broken earlier
-pub record IsFirstBroken {R : Type 0} (number : R → ℕ) (Breaks : R → Violation → Type 0) (rules : List R) (r : Refusal) : Type 0 where
-  pub broken : Broken number Breaks rules r
-  pub first : (s : Refusal) → Broken number Breaks rules s → Earlier s r → ⊥
-
 -- the first refusal by these rules, or none where none of them is broken
 abbrev pub FirstBroken : {R : Type 0} → (number : R → ℕ) → (Breaks : R → Violation → Type 0) → List R → Option Refusal → Type 0
-FirstBroken number Breaks rules None = (s : Refusal) → Broken number Breaks rules s → ⊥
-FirstBroken number Breaks rules (Some r) = IsFirstBroken number Breaks rules r
+FirstBroken number Breaks rules found = first.FirstWhere Earlier (Broken number Breaks rules) found
 
 -- the refusal of the first phase that has one
 abbrev pub first_of : Option Refusal → Option Refusal → Option Refusal

@@ -5,7 +5,8 @@ use Rattle.widl_idl.specs.declared.violation.Violation.{Violation}
 use Rattle.widl_idl.specs.First.{AtOne, FirstWhere, Somewhere, earlier}
 use Rattle.widl_idl.specs.MergingRules.{parent_links}
 use Rattle.widl_idl.specs.PlainTrees.{PlainDefinition, PlainMember}
-use Rattle.widl_idl.proofs.Order.{Either, first_either, first_same}
+use Rattle.widl_first.specs.First.{Either}
+use Rattle.widl_idl.proofs.Order.{first_either, first_same}
 use Rattle.widl_inheritance.specs.InterfaceMembers.{members_at}
 use Rattle.widl_inheritance.specs.Iterations.{BelowCount, FollowsIterable, HasSecondAt, HidesAt, IsHiding, TellsMembers}
 use Rattle.widl_graph.specs.Flags.{TellsReached}

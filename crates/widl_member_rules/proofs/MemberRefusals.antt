@@ -4,7 +4,7 @@ use Rattle.std.proofs.lemmas.List.{map-append}
 use Rattle.widl_idl.specs.declared.violation.Violation.{Violation}
 use Rattle.widl_idl.specs.PlainTrees.{PlainDefinition, PlainMember}
 use Rattle.widl_idl.specs.Nodes.{Node, MemberNode, nodes_of, nodes_of_definition}
-use Rattle.widl_idl.proofs.Order.{Either}
+use Rattle.widl_first.specs.First.{Either}
 use Rattle.widl_overload.specs.declared.validity_rule.ValidityRule.{ValidityRule}
 use Rattle.widl_overload.specs.declared.validity_rule.ValidityRule.TheVariants as rule
 use Rattle.widl_overload.specs.rules.OnMembers.{BreaksNode, ByOwner, ByType, InOneMember, NodesBreak}

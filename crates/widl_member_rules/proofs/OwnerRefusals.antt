@@ -14,7 +14,8 @@ use Rattle.widl_idl.specs.MergingRules.{is_number}
 use Rattle.widl_idl.specs.Parts.{members_in, merged_members}
 use Rattle.widl_idl.specs.PlainTypes.{PlainName}
 use Rattle.widl_idl.specs.PlainTrees.{PlainDefinition, PlainKind, PlainMember, definition_of}
-use Rattle.widl_idl.proofs.Order.{Either, first_same}
+use Rattle.widl_first.specs.First.{Either}
+use Rattle.widl_idl.proofs.Order.{first_same}
 use Rattle.widl_names.specs.Listings.{listed_definitions}
 use Rattle.widl_names.specs.PartTables.{ListsParts, has_parts, means_itself}
 use Rattle.widl_names.proofs.KeptMembers.{merged_listed}

@@ -1,6 +1,8 @@
 -- The first refusal of a form that the profile leaves unsupported, with one node more.
-use Rattle.std.proofs.Common.{◌≡◌, ◌⊎◌, inl, inr, ℕ, ◌+◌, ◌<◌, ◌≤◌, ◌++◌, Bool, true, false, cond, List, [], ◌∷◌, Contains, length, take, get_or, Option, None, Some, arith, refl, sym, ap, subst, ◌∙◌}
+use Rattle.std.proofs.Common.{◌≡◌, ◌⊎◌, inl, inr, ℕ, ◌+◌, ◌<◌, ◌≤◌, ◌++◌, List, [], ◌∷◌, Contains, length, take, get_or, Option, None, Some, arith, refl, sym, ap, subst, ◌∙◌}
 use Rattle.std.proofs.lemmas.List.{take_more, take_all, map-append}
+use Rattle.widl_first.specs.First.{Either}
+use Rattle.widl_first.proofs.Firsts.{first_either, first_of_one}
 use Rattle.widl_idl.specs.declared.profile_rule.Unsupported.{Unsupported}
 use Rattle.widl_idl.specs.declared.profile_rule.ProfileRule.{ProfileRule}
 use Rattle.widl_idl.specs.declared.profile_rule.ProfileRule.TheVariants as unsupported
@@ -10,7 +12,7 @@ use Rattle.widl_idl.specs.FirstRefusal.{Earlier, is_earlier, refusal_at, violati
 use Rattle.widl_idl.specs.Profile.{profile_number, profile_rules, unsupported_of, IsUnsupported, IsUnsupportedBy, LeavesOut}
 use Rattle.widl_idl.specs.Nodes.{Node}
 use Rattle.widl_idl.proofs.Somewhere.{somewhere_left, somewhere_right, somewhere_cases, one_item, nowhere}
-use Rattle.widl_idl.proofs.Steps.{earlier_trans, earlier_of, not_earlier}
+use Rattle.widl_idl.proofs.Steps.{refusal_order}
 use Rattle.widl_names.specs.declared.nodes.Node as listed
 use Rattle.widl_merge.specs.Refusals.{join_form}
 use Rattle.widl_names.specs.Listings.{node_of, nodes_listed}
@@ -45,6 +47,10 @@ not_itself : (r : Refusal) → Earlier r r → ⊥
 not_itself r e = grind arith
 
 module _ (nodes : List Node) (x : Node) where
+  -- it is the refusal of the form that the node has
+  abbrev OfForm : Refusal → Type 0
+  OfForm r = (form : Unsupported) × (unsupported_of x ≡ Some form) × (refusal_of form ≡ r)
+
   kept : (r : Refusal) → BrokenIn nodes r → BrokenIn (nodes ++ x ∷ []) r
   kept r b = record { which = b.which; listed = b.listed; numbered = b.numbered; breaks = somewhere_left (IsUnsupported b.which) nodes (x ∷ []) (violation_of r) b.breaks }
 
@@ -59,11 +65,11 @@ module _ (nodes : List Node) (x : Node) where
   same_violation : (r : Refusal) (form : Unsupported) (rule : ProfileRule) → profile_number rule ≡ r.rule → form.rule ≡ rule → violation_at form.at ≡ violation_of r → refusal_of form ≡ r
   same_violation r form rule number is at = ap (λ n. refusal_at n (violation_at form.at)) (ap profile_number is ∙ number) ∙ ap (refusal_at r.rule) at
 
-  by_form : (l : Option Unsupported) → unsupported_of x ≡ l → (rule : ProfileRule) (r : Refusal) → profile_number rule ≡ r.rule → IsUnsupportedBy rule l (violation_of r) → (form : Unsupported) × (unsupported_of x ≡ Some form) × (refusal_of form ≡ r)
+  by_form : (l : Option Unsupported) → unsupported_of x ≡ l → (rule : ProfileRule) (r : Refusal) → profile_number rule ≡ r.rule → IsUnsupportedBy rule l (violation_of r) → OfForm r
   by_form None is rule r number b = absurd b
   by_form (Some form) is rule r number b = (form, is, same_violation r form rule number b.0 b.1)
 
-  either : (r : Refusal) → BrokenIn (nodes ++ x ∷ []) r → BrokenIn nodes r ⊎ ((form : Unsupported) × (unsupported_of x ≡ Some form) × (refusal_of form ≡ r))
+  either : (r : Refusal) → BrokenIn (nodes ++ x ∷ []) r → BrokenIn nodes r ⊎ OfForm r
   either r b = elim (somewhere_cases (IsUnsupported b.which) nodes (x ∷ []) (violation_of r) b.breaks) [ inl l ↦ inl (record { which = b.which; listed = b.listed; numbered = b.numbered; breaks = l }) | inr h ↦ inr (by_form (unsupported_of x) refl b.which r b.numbered (one_item (IsUnsupported b.which) x (violation_of r) h)) ]
 
   some_is : {A : Type 0} {a b : A} → Some a ≡ Some b → a ≡ b
@@ -73,18 +79,17 @@ module _ (nodes : List Node) (x : Node) where
   none_is e = (cc)
 
   -- the refusal of this node's form is the only one that it adds
-  only_form : (form : Unsupported) → unsupported_of x ≡ Some form → (r : Refusal) → ((other : Unsupported) × (unsupported_of x ≡ Some other) × (refusal_of other ≡ r)) → refusal_of form ≡ r
+  only_form : (form : Unsupported) → unsupported_of x ≡ Some form → (r : Refusal) → OfForm r → refusal_of form ≡ r
   only_form form is r h = ap refusal_of (some_is (sym is ∙ h.1)) ∙ h.2
 
-  by_order : (form : Unsupported) → unsupported_of x ≡ Some form → (best : Refusal) (b : Bool) → is_earlier (refusal_of form) best ≡ b → FirstIn nodes (Some best) → FirstIn (nodes ++ x ∷ []) (cond b (Some (refusal_of form)) (Some best))
-  by_order form is best true e m = record { broken = added form is; first = λ r b before. elim (either r b) [ inl l ↦ m.first r l (earlier_trans r (refusal_of form) best before (earlier_of (refusal_of form) best e)) | inr h ↦ not_itself r (subst (Earlier r) (only_form form is r h) before) ] }
-  by_order form is best false e m = record { broken = kept best m.broken; first = λ r b before. elim (either r b) [ inl l ↦ m.first r l before | inr h ↦ not_itself r (subst (Earlier r) (only_form form is r h) (not_earlier best (refusal_of form) r e before)) ] }
+  one_more : Either (BrokenIn nodes) OfForm (BrokenIn (nodes ++ x ∷ []))
+  one_more = record { left = kept; right = λ r h. subst (BrokenIn (nodes ++ x ∷ [])) h.2 (added h.0 h.1); only = either }
 
   node_more : (l : Option Unsupported) → unsupported_of x ≡ l → (best : Option Refusal) → FirstIn nodes best → FirstIn (nodes ++ x ∷ []) (join_form l best)
-  node_more None is None m = λ r b. elim (either r b) [ inl l ↦ m r l | inr h ↦ none_is (sym is ∙ h.1) ]
-  node_more None is (Some best) m = record { broken = kept best m.broken; first = λ r b before. elim (either r b) [ inl l ↦ m.first r l before | inr h ↦ absurd (none_is (sym is ∙ h.1)) ] }
-  node_more (Some form) is None m = record { broken = added form is; first = λ r b before. elim (either r b) [ inl l ↦ absurd (m r l) | inr h ↦ not_itself r (subst (Earlier r) (only_form form is r h) before) ] }
-  node_more (Some form) is (Some best) m = by_order form is best (is_earlier (refusal_of form) best) refl m
+  node_more None is best m = subst (FirstIn (nodes ++ x ∷ [])) (first_of_one is_earlier best) (first_either refusal_order (BrokenIn nodes) OfForm (BrokenIn (nodes ++ x ∷ [])) one_more best None m (λ r h. none_is (sym is ∙ h.1)))
+  node_more (Some form) is best m =
+      first_either refusal_order (BrokenIn nodes) OfForm (BrokenIn (nodes ++ x ∷ [])) one_more best (Some (refusal_of form)) m
+      (record { holds = (form, is, refl); first = λ r h before. not_itself r (subst (Earlier r) (only_form form is r h) before) })
 
 -- nothing is left out where nothing is written
 pub nothing_unsupported : FirstIn [] None

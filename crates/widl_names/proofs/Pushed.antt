@@ -5,7 +5,8 @@ use Rattle.std.proofs.lemmas.Option.{slice_get-get_or}
 use Rattle.std.proofs.Math.Seq.{get_or-append_seam, take-append_seam}
 use Rattle.widl_idl.specs.declared.violation.Violation.{Violation}
 use Rattle.widl_idl.specs.First.{FirstWhere, AtOne, earlier}
-use Rattle.widl_idl.proofs.Order.{Either, first_either}
+use Rattle.widl_first.specs.First.{Either}
+use Rattle.widl_idl.proofs.Order.{first_either}
 
 pub some_is : {X : Type 0} {x y : X} → Some x ≡ Some y → x ≡ y
 some_is e = (cc)

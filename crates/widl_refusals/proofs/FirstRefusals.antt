@@ -1,14 +1,15 @@
 -- The first refusal of a union is the earlier of the firsts: of two lists of rules, and of what breaks the same rules.
-use Rattle.std.proofs.Common.{◌≡◌, ◌⊎◌, inl, inr, ℕ, ◌+◌, ◌<◌, ◌≤◌, ◌++◌, Bool, true, false, cond, List, [], ◌∷◌, length, take, map, flat_map, get_or, zero, suc, Option, None, Some, arith, refl, sym, ap, subst}
+use Rattle.std.proofs.Common.{◌≡◌, ◌⊎◌, inl, inr, ℕ, ◌+◌, ◌<◌, ◌≤◌, ◌++◌, List, [], ◌∷◌, length, take, map, flat_map, get_or, zero, suc, Option, None, Some, arith, refl, sym, ap, subst}
 use Rattle.std.proofs.lemmas.List.{flat_map_more, take_all}
 use Rattle.std.proofs.lemmas.List.Elements.{Contains-append_left, Contains-append_right, Contains-append_cases}
+use Rattle.widl_first.specs.First.{Either}
+use Rattle.widl_first.proofs.Firsts.{first_either, first_of_one, first_same}
 use Rattle.widl_idl.specs.declared.refusal.Refusal.{Refusal}
 use Rattle.widl_idl.specs.declared.violation.Violation.{Violation}
 use Rattle.widl_idl.specs.First.{Somewhere}
-use Rattle.widl_idl.specs.FirstRefusal.{Broken, is_earlier, violation_of}
-use Rattle.widl_idl.proofs.Order.{Either}
+use Rattle.widl_idl.specs.FirstRefusal.{Broken, Earlier, is_earlier, violation_of}
 use Rattle.widl_idl.proofs.Somewhere.{one_item, somewhere_cases, somewhere_left, somewhere_right}
-use Rattle.widl_idl.proofs.Steps.{earlier_of, earlier_trans, not_earlier}
+use Rattle.widl_idl.proofs.Steps.{refusal_order}
 use Rattle.widl_names.proofs.PlainLists.{mapped_more}
 use Rattle.widl_overload.specs.declared.validity_rule.ValidityRule.{ValidityRule}
 use Rattle.widl_overload.specs.rules.Validity.{validity_number}
@@ -21,26 +22,14 @@ Breaking = ValidityRule → Violation → Type 0
 abbrev BrokenBy : Breaking → List ValidityRule → Refusal → Type 0
 BrokenBy Breaks rules r = Broken validity_number Breaks rules r
 
--- R is what is P or Q
-record Union (P Q R : Refusal → Type 0) : Type 0 where
-  left : (r : Refusal) → P r → R r
-  right : (r : Refusal) → Q r → R r
-  only : (r : Refusal) → R r → P r ⊎ Q r
-
-module _ (A B C : Breaking) (xs ys zs : List ValidityRule) (e : Union (BrokenBy A xs) (BrokenBy B ys) (BrokenBy C zs)) where
+module _ (A B C : Breaking) (xs ys zs : List ValidityRule) (e : Either (BrokenBy A xs) (BrokenBy B ys) (BrokenBy C zs)) where
   first_union : (best found : Option Refusal) → IsFirst A xs best → IsFirst B ys found → IsFirst C zs (earlier_refusal found best)
-  first_union None None l m = λ r c. elim (e.only r c) [ inl p ↦ l r p | inr q ↦ m r q ]
-  first_union None (Some found) l m = record { broken = e.right found m.broken; first = λ r c before. elim (e.only r c) [ inl p ↦ absurd (l r p) | inr q ↦ m.first r q before ] }
-  first_union (Some best) None l m = record { broken = e.left best l.broken; first = λ r c before. elim (e.only r c) [ inl p ↦ l.first r p before | inr q ↦ absurd (m r q) ] }
-  first_union (Some best) (Some found) l m = by_test (is_earlier found best) refl
-    where
-      by_test : (b : Bool) → is_earlier found best ≡ b → IsFirst C zs (cond b (Some found) (Some best))
-      by_test true is = record { broken = e.right found m.broken; first = λ r c before. elim (e.only r c) [ inl p ↦ l.first r p (earlier_trans r found best before (earlier_of found best is)) | inr q ↦ m.first r q before ] }
-      by_test false is = record { broken = e.left best l.broken; first = λ r c before. elim (e.only r c) [ inl p ↦ l.first r p before | inr q ↦ m.first r q (not_earlier best found r is before) ] }
+  first_union best None l m = subst (IsFirst C zs) (first_of_one is_earlier best) (first_either refusal_order (BrokenBy A xs) (BrokenBy B ys) (BrokenBy C zs) e best None l m)
+  first_union best (Some found) l m = first_either refusal_order (BrokenBy A xs) (BrokenBy B ys) (BrokenBy C zs) e best (Some found) l m
 
 -- of two lists of rules
 module _ (Breaks : Breaking) (xs ys : List ValidityRule) where
-  of_lists : Union (BrokenBy Breaks ys) (BrokenBy Breaks xs) (BrokenBy Breaks (xs ++ ys))
+  of_lists : Either (BrokenBy Breaks ys) (BrokenBy Breaks xs) (BrokenBy Breaks (xs ++ ys))
   of_lists = record {
     left = λ r b. record { which = b.which; listed = Contains-append_right xs ys b.which b.listed; numbered = b.numbered; breaks = b.breaks };
     right = λ r b. record { which = b.which; listed = Contains-append_left xs ys b.which b.listed; numbered = b.numbered; breaks = b.breaks };
@@ -53,7 +42,7 @@ module _ (Breaks : Breaking) (xs ys : List ValidityRule) where
 module _ (rules : List ValidityRule) where
   -- of what breaks the same rules in one way or another
   module _ (A B C : Breaking) (e : (rule : ValidityRule) → Either (A rule) (B rule) (C rule)) where
-    of_breaks : Union (BrokenBy A rules) (BrokenBy B rules) (BrokenBy C rules)
+    of_breaks : Either (BrokenBy A rules) (BrokenBy B rules) (BrokenBy C rules)
     of_breaks = record {
       left = λ r b. record { which = b.which; listed = b.listed; numbered = b.numbered; breaks = (e b.which).left (violation_of r) b.breaks };
       right = λ r b. record { which = b.which; listed = b.listed; numbered = b.numbered; breaks = (e b.which).right (violation_of r) b.breaks };
@@ -92,14 +81,10 @@ list_pushed P f xs x = subst (λ ys. Either (Somewhere P (flat_map f xs)) (Somew
 -- ---- the same rules in other words
 
 module _ (A B : Breaking) (rules : List ValidityRule) where
-  in_words : (found : Option Refusal) → ((r : Refusal) → BrokenBy A rules r → BrokenBy B rules r) → ((r : Refusal) → BrokenBy B rules r → BrokenBy A rules r) → IsFirst A rules found → IsFirst B rules found
-  in_words None to from l = λ r b. l r (from r b)
-  in_words (Some found) to from l = record { broken = to found l.broken; first = λ r b before. l.first r (from r b) before }
-
   -- each rule is broken at the same violations
   pub same_breaks : (found : Option Refusal) → ((rule : ValidityRule) (s : Violation) → A rule s → B rule s) → ((rule : ValidityRule) (s : Violation) → B rule s → A rule s) → IsFirst A rules found → IsFirst B rules found
   same_breaks found to from l =
-      in_words found
+      first_same Earlier (BrokenBy A rules) (BrokenBy B rules) found
       (λ r b. record { which = b.which; listed = b.listed; numbered = b.numbered; breaks = to b.which (violation_of r) b.breaks })
       (λ r b. record { which = b.which; listed = b.listed; numbered = b.numbered; breaks = from b.which (violation_of r) b.breaks }) l
 
@@ -120,6 +105,6 @@ module _ (A B : Breaking) where
   -- the listed rules are the same by computation
   pub same_rules : (rules : List ValidityRule) (found : Option Refusal) → map A rules ≡ map B rules → IsFirst A rules found → IsFirst B rules found
   same_rules rules found same l =
-      in_words A B rules found
+      first_same Earlier (BrokenBy A rules) (BrokenBy B rules) found
       (λ r b. record { which = b.which; listed = b.listed; numbered = b.numbered; breaks = subst (λ P. P (violation_of r)) (one_rule rules same b.which b.listed.0 b.listed.1 b.listed.2) b.breaks })
       (λ r b. record { which = b.which; listed = b.listed; numbered = b.numbered; breaks = subst (λ P. P (violation_of r)) (sym (one_rule rules same b.which b.listed.0 b.listed.1 b.listed.2)) b.breaks }) l

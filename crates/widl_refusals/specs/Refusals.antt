@@ -1,5 +1,6 @@
 -- The first refusal by some rules of validity.
-use Rattle.std.specs.Prelude.{List, Option, None, Some, if◌then◌else◌}
+use Rattle.std.specs.Prelude.{List, Option, None, Some}
+use Rattle.widl_first.specs.First.{first_of}
 use Rattle.widl_idl.specs.declared.refusal.Refusal.{Refusal}
 use Rattle.widl_idl.specs.declared.violation.Violation.{Violation}
 use Rattle.widl_idl.specs.DefinitionTerms.{DefsTerm}
@@ -11,8 +12,7 @@ use Rattle.widl_overload.specs.rules.Validity.{BreaksRule, validity_number}
 -- of what was found now and of what was found before the refusal that comes first
 abbrev pub earlier_refusal : Option Refusal → Option Refusal → Option Refusal
 earlier_refusal None best = best
-earlier_refusal (Some found) None = Some found
-earlier_refusal (Some found) (Some best) = if is_earlier found best then Some found else Some best
+earlier_refusal (Some found) best = first_of is_earlier best (Some found)
 
 -- the first refusal by these rules, where they are broken so
 abbrev pub IsFirst : (ValidityRule → Violation → Type 0) → List ValidityRule → Option Refusal → Type 0

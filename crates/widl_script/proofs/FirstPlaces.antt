@@ -2,8 +2,8 @@
 use Rattle.std.proofs.Common.{◌≡◌, ℕ, zero, suc, ◌+◌, List, [], ◌∷◌, ◌++◌, length, map, take, slice_get, Contains, flat_map, Option, Some, None, option_map, refl, sym, ◌∙◌, ap, subst, arith, inl, inr, append_assoc}
 use Rattle.std.proofs.lemmas.List.{append-nil, take_all}
 use Rattle.std.proofs.lemmas.List.Elements.{Contains-append_left, Contains-append_right, Contains-append_cases, Contains-push, Contains-push_cases}
-use Rattle.widl_first.specs.First.{first_of, Either, IsFirst}
-use Rattle.widl_first.proofs.Firsts.{first_alone, first_either, first_same}
+use Rattle.widl_first.specs.Keys.{first_of, Either, IsFirst}
+use Rattle.widl_first.proofs.KeyFirsts.{first_alone, first_either, first_same}
 use Rattle.widl_lines.specs.declared.script_place.ScriptPlace.{ScriptPlace}
 use Rattle.widl_lines.specs.Words.{Lexeme}
 use Rattle.widl_lines.specs.Blocks.{first_word}

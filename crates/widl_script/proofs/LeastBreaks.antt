@@ -1,7 +1,7 @@
 -- The first of the rules on names, places and steps, from the firsts of each sort.
 use Rattle.std.proofs.Common.{List, Option, inl, inr}
-use Rattle.widl_first.specs.First.{first_of, Either, IsFirst}
-use Rattle.widl_first.proofs.Firsts.{first_either, first_same}
+use Rattle.widl_first.specs.Keys.{first_of, Either, IsFirst}
+use Rattle.widl_first.proofs.KeyFirsts.{first_either, first_same}
 use Rattle.widl_idl.specs.DefinitionTerms.{DefsTerm}
 use Rattle.widl_lines.specs.declared.script_place.ScriptPlace.{ScriptPlace}
 use Rattle.widl_script.specs.BrokenRules.{BreaksBlocks, BreaksNames}

@@ -1,8 +1,8 @@
 -- The first place of several at which lines break a rule, line by line.
 use Rattle.std.proofs.Common.{◌≡◌, ℕ, zero, suc, ◌+◌, ◌<◌, Bool, true, false, List, [], ◌∷◌, ◌++◌, length, take, slice_get, Contains, Option, Some, None, refl, sym, ◌∙◌, ap, subst, arith, ◌⊎◌, inl, inr, nat_lt, ltb-true, ltb-false}
 use Rattle.std.proofs.lemmas.Option.{get_or_from_slice_get, slice_get-get_or, slice_get_within}
-use Rattle.widl_first.specs.First.{first_of, Either, IsFirst}
-use Rattle.widl_first.proofs.Firsts.{first_either, first_same}
+use Rattle.widl_first.specs.Keys.{first_of, Either, IsFirst}
+use Rattle.widl_first.proofs.KeyFirsts.{first_either, first_same}
 use Rattle.widl_lines.specs.declared.script_place.ScriptPlace.{ScriptPlace}
 use Rattle.widl_lines.specs.Blocks.{first_word}
 use Rattle.widl_lines.specs.TextBreaks.{Line}

@@ -2,8 +2,8 @@
 use Rattle.std.proofs.Common.{◌≡◌, ◌⊎◌, inl, inr, ◌↔◌, ℕ, zero, suc, ◌+◌, ◌<◌, Bool, true, false, not, IsTrue, List, [], ◌∷◌, ◌++◌, length, map, take, get_or, Contains, Option, Some, None, option_map, refl, sym, ap, subst, ◌∙◌, arith}
 use Rattle.std.proofs.lemmas.List.{length-map, take_more}
 use Rattle.std.proofs.lemmas.List.Elements.{Contains-append_left, Contains-push, Contains-push_cases}
-use Rattle.widl_first.specs.First.{Either, IsFirst, first_of}
-use Rattle.widl_first.proofs.Firsts.{first_either, first_same}
+use Rattle.widl_first.specs.Keys.{Either, IsFirst, first_of}
+use Rattle.widl_first.proofs.KeyFirsts.{first_either, first_same}
 use Rattle.widl_idl.specs.DefinitionTerms.{DefsTerm, CallbackTerm}
 use Rattle.widl_idl.specs.Terms.{TypeTerm}
 use Rattle.widl_lines.specs.declared.script_place.ScriptPlace.{ScriptPlace}

@@ -1,6 +1,6 @@
 -- Bytes over a list are one script, or break a rule first at one place.
 use Rattle.std.proofs.Common.{◌≡◌, ℕ, List, [], ◌∷◌, Some, None, refl, sym, ◌∙◌, ap}
-use Rattle.widl_first.proofs.Firsts.{one_key}
+use Rattle.widl_first.proofs.KeyFirsts.{one_key}
 use Rattle.widl_idl.specs.DefinitionTerms.{DefsTerm}
 use Rattle.widl_lines.specs.declared.script_place.ScriptPlace.{ScriptPlace}
 use Rattle.widl_lines.specs.TextBreaks.{ScriptBreak, script_lines}
@@ -31,7 +31,7 @@ module _ (one : (text : List ℕ) (p q : ScriptPlace) → ScriptBreak text (Some
 
   pub no_break : (bytes : List ℕ) (list : DefsTerm) (tree : ScriptTree) (p : ScriptPlace) → IsScriptOf bytes list tree → IsFirstBreak bytes list p → ⊥
   no_break bytes list tree p s (of_form a) = none bytes p s.formed a
-  no_break bytes list tree p s (of_rules n a) = s.unbroken p a.0
+  no_break bytes list tree p s (of_rules n a) = s.unbroken p a.holds
 
 pub one_tree : EachScriptIsOne → (bytes : List ℕ) (list : DefsTerm) (a b : ScriptTree) → IsScriptOf bytes list a → IsScriptOf bytes list b → a ≡ b
 one_tree each bytes list a b s t = each a b (words_of_lines (script_lines bytes)) s.spelled t.spelled

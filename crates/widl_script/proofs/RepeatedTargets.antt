@@ -3,8 +3,8 @@ use Rattle.std.proofs.Common.{◌≡◌, ℕ, ◌+◌, ◌&&◌, ◌⊎◌, ◌�
 use Rattle.std.specs.Prelude.{bytes_eq, IsSome, MatchOption}
 use Rattle.std.specs.List.{list_any}
 use Rattle.std.proofs.lemmas.Slice.Eq.{bytes_eq-Decides}
-use Rattle.widl_first.specs.First.{first_of, IsFirst}
-use Rattle.widl_first.proofs.Firsts.{first_alone, first_same}
+use Rattle.widl_first.specs.Keys.{first_of, IsFirst}
+use Rattle.widl_first.proofs.KeyFirsts.{first_alone, first_same}
 use Rattle.widl_idl.specs.DefinitionTerms.{DefsTerm}
 use Rattle.widl_lines.specs.declared.script_place.ScriptPlace.{ScriptPlace}
 use Rattle.widl_lines.specs.Words.{Lexeme}

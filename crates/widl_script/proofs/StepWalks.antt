@@ -2,8 +2,8 @@
 use Rattle.std.proofs.Common.{◌≡◌, ℕ, ◌≤◌, true, false, List, ◌∷◌, length, slice_get, Option, Some, None, option_map, is_some, refl, sym, ◌∙◌, ap, subst, arith, if◌then◌else◌, inl, inr}
 use Rattle.std.specs.Prelude.{MatchOption}
 use Rattle.std.proofs.lemmas.Option.{slice_get_within}
-use Rattle.widl_first.specs.First.{IsFirst}
-use Rattle.widl_first.proofs.Firsts.{first_same}
+use Rattle.widl_first.specs.Keys.{IsFirst}
+use Rattle.widl_first.proofs.KeyFirsts.{first_same}
 use Rattle.widl_idl.specs.DefinitionTerms.{DefsTerm}
 use Rattle.widl_lines.specs.declared.grammar.Rule.TheVariants as rule
 use Rattle.widl_lines.specs.declared.grammar.Terminal.{Terminal}

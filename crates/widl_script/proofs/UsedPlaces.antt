@@ -3,8 +3,8 @@ use Rattle.std.proofs.Common.{◌≡◌, ℕ, zero, suc, ◌+◌, ◌-◌, ◌^�
 use Rattle.std.proofs.lemmas.List.{append-nil, length-map, take_all}
 use Rattle.std.proofs.lemmas.List.Elements.{Contains-append_left, Contains-append_right, Contains-append_cases}
 use Rattle.std.proofs.lemmas.Option.{slice_get-map}
-use Rattle.widl_first.specs.First.{first_of, Either}
-use Rattle.widl_first.proofs.Firsts.{first_either, first_same}
+use Rattle.widl_first.specs.Keys.{first_of, Either}
+use Rattle.widl_first.proofs.KeyFirsts.{first_either, first_same}
 use Rattle.widl_lines.specs.declared.script_place.ScriptPlace.{ScriptPlace}
 use Rattle.widl_lines.specs.TextBreaks.{Line}
 use Rattle.widl_script_tree.specs.declared.steps.Source.{Source}

@@ -1,6 +1,6 @@
 -- For proofs alone. What breaks the rules on names and places, and what breaks those on steps.
 use Rattle.std.specs.Prelude.{List, Contains}
-use Rattle.widl_first.specs.First.{Either}
+use Rattle.widl_first.specs.Keys.{Either}
 use Rattle.widl_idl.specs.DefinitionTerms.{DefsTerm}
 use Rattle.widl_lines.specs.declared.script_place.ScriptPlace.{ScriptPlace}
 use Rattle.widl_script.specs.Standings.{Standing}

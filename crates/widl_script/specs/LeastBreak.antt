@@ -1,7 +1,7 @@
 -- The rules on the names, the places and the steps of a script, and the first that is broken.
 -- Source: this program's own.
 use Rattle.std.specs.Prelude.{ℕ, List, [], ◌∷◌, Contains, Option}
-use Rattle.widl_first.specs.First.{IsFirst}
+use Rattle.widl_first.specs.Keys.{IsFirst}
 use Rattle.widl_idl.specs.DefinitionTerms.{DefsTerm}
 use Rattle.widl_lines.specs.declared.script_place.ScriptPlace.{ScriptPlace}
 use Rattle.widl_lines.specs.TextBreaks.{Line}

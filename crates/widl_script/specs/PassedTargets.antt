@@ -1,7 +1,7 @@
 -- For proofs alone. The targets of the blocks that a walk over lines has passed.
 use Rattle.std.specs.Prelude.{◌≡◌, ◌&&◌, Bool, true, false, nat_eq, bytes_eq, List, Option, IsSome, MatchOption}
 use Rattle.std.specs.List.{list_any}
-use Rattle.widl_first.specs.First.{Either}
+use Rattle.widl_first.specs.Keys.{Either}
 use Rattle.widl_idl.specs.DefinitionTerms.{DefsTerm}
 use Rattle.widl_lines.specs.declared.script_place.ScriptPlace.{ScriptPlace}
 use Rattle.widl_lines.specs.TextBreaks.{Line}

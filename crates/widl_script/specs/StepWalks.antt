@@ -1,6 +1,6 @@
 -- For proofs alone. What the lines of steps blocks break, line by line.
 use Rattle.std.specs.Prelude.{◌≡◌, List, ◌∷◌, Contains, Option, Some, MatchOption}
-use Rattle.widl_first.specs.First.{Either}
+use Rattle.widl_first.specs.Keys.{Either}
 use Rattle.widl_idl.specs.DefinitionTerms.{DefsTerm}
 use Rattle.widl_lines.specs.declared.script_place.ScriptPlace.{ScriptPlace}
 use Rattle.widl_lines.specs.TextBreaks.{Line}

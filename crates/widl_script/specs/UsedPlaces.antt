@@ -1,6 +1,6 @@
 -- For proofs alone. The places of words of step lines, and what code has listed of the sources that a line uses.
 use Rattle.std.specs.Prelude.{◌≡◌, ◌-◌, ◌^◌, ℕ, min, List, map, Contains, Option}
-use Rattle.widl_first.specs.First.{IsFirst}
+use Rattle.widl_first.specs.Keys.{IsFirst}
 use Rattle.widl_lines.specs.declared.script_place.ScriptPlace.{ScriptPlace}
 use Rattle.widl_lines.specs.TextBreaks.{Line}
 use Rattle.widl_script_tree.specs.declared.steps.StepLine.{StepLine}

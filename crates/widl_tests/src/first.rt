@@ -13,8 +13,8 @@ impl Keyed for Spot {
 
     ghost key = { λ s. s.line ∷ s.column ∷ [] };
 
-    fn is_no_later(self, other: Spot) -> bool {
-        self.line < other.line || (self.line == other.line && self.column <= other.column)
+    fn precedes(self, other: Spot) -> bool {
+        self.line < other.line || (self.line == other.line && self.column < other.column)
     }
 }
 

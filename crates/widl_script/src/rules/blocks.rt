@@ -1,7 +1,7 @@
 //! What steps blocks and their lines break.
 
 ghost use Rattle.std.specs.Prelude.{◌≡◌, [], length, IfOk, None};
-ghost use Rattle.widl_first.specs.First.{IsFirst};
+ghost use Rattle.widl_first.specs.Keys.{IsFirst};
 ghost use Rattle.widl_fits.specs.Hierarchies.{IsHierarchy};
 ghost use Rattle.widl_idl.specs.DefinitionTerms.{defs_term};
 ghost use Rattle.widl_lines.specs.TextBreaks.{TextBreak};

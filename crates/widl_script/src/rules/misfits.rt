@@ -1,7 +1,7 @@
 //! Sources and literals that don't fit what a step line does with them, in a list without interfaces.
 
 ghost use Rattle.std.specs.Prelude.{◌≡◌, ◌↔◌, ℕ, [], IsTrue};
-ghost use Rattle.widl_first.specs.First.{IsFirst};
+ghost use Rattle.widl_first.specs.Keys.{IsFirst};
 ghost use Rattle.widl_fits.specs.Fitting.{Knows};
 ghost use Rattle.widl_idl.specs.DefinitionTerms.{defs_term};
 ghost use Rattle.widl_script.specs.Fits.{Misfits};

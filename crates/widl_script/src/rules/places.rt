@@ -1,7 +1,7 @@
 //! Places at which rules are broken.
 
 ghost use Rattle.std.specs.Prelude.{◌≡◌, ◌∷◌, [], ℕ, option_map, slice_get};
-ghost use Rattle.widl_first.specs.First.{first_of, no_later};
+ghost use Rattle.widl_first.specs.Keys.{first_of, precedes};
 ghost use Rattle.widl_lines.specs.WordTerms.{lexeme_of};
 ghost use Rattle.widl_script.specs.LeastBreak.{place_key};
 ghost use Rattle.widl_script.specs.Standings.{place_of};
@@ -10,12 +10,12 @@ ghost use Rattle.widl_script.specs.UsedPlaces.{FirstAt, capped};
 
 use widl_lines::{LineWords, ScriptPlace, Word};
 
-/// Whether the place is the other one or before it, by line, column and rule.
-fn is_no_later(a: ScriptPlace, b: ScriptPlace) -> bool
-    ensures { result ≡ no_later place_key a b }
+/// Whether the place is before the other one, by line, column and rule.
+fn precedes(a: ScriptPlace, b: ScriptPlace) -> bool
+    ensures { result ≡ precedes place_key a b }
 {
     a.line < b.line
-        || (a.line == b.line && (a.column < b.column || (a.column == b.column && a.rule <= b.rule)))
+        || (a.line == b.line && (a.column < b.column || (a.column == b.column && a.rule < b.rule)))
 }
 
 /// The first of two places.
@@ -25,7 +25,7 @@ pub(crate) fn first_of(a: Option<ScriptPlace>, b: Option<ScriptPlace>) -> Option
     match (a, b) {
         (None, b) => b,
         (Some(p), None) => Some(p),
-        (Some(p), Some(q)) => { if is_no_later(p, q) { Some(p) } else { Some(q) } }
+        (Some(p), Some(q)) => { if precedes(q, p) { Some(q) } else { Some(p) } }
     }
 }
 

@@ -2,7 +2,7 @@
 
 ghost use Rattle.std.specs.Prelude.{◌≡◌, ◌<◌, ℕ, length, Contains, List};
 ghost use Rattle.widl_lines.specs.Blocks.{first_word};
-ghost use Rattle.widl_first.specs.First.{IsFirst};
+ghost use Rattle.widl_first.specs.Keys.{IsFirst};
 ghost use Rattle.widl_lines.specs.TextBreaks.{Line};
 ghost use Rattle.widl_script.specs.LeastBreak.{place_key};
 ghost use Rattle.widl_script.specs.Placing.{is_misplaced, misplaced_in, misplaced_words};

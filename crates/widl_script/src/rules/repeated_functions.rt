@@ -1,7 +1,7 @@
 //! Functions whose name is another one's.
 
 ghost use Rattle.std.specs.Prelude.{◌≡◌, ◌||◌, bytes_eq, filter, length, Contains, IfOk, List, OnOk, ℕ};
-ghost use Rattle.widl_first.specs.First.{IsFirst};
+ghost use Rattle.widl_first.specs.Keys.{IsFirst};
 ghost use Rattle.widl_idl.specs.DefinitionTerms.{defs_term};
 ghost use Rattle.widl_lines.specs.Blocks.{first_word};
 ghost use Rattle.widl_lines.specs.Words.{Lexeme};

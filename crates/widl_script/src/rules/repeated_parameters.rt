@@ -1,7 +1,7 @@
 //! Parameters whose name is an earlier one's of the same function.
 
 ghost use Rattle.std.specs.Prelude.{◌≡◌, ◌&&◌, ◌||◌, [], bytes_eq, length, Contains, IfOk, List, None, OnOk, Some, ℕ, if◌then◌else◌};
-ghost use Rattle.widl_first.specs.First.{IsFirst};
+ghost use Rattle.widl_first.specs.Keys.{IsFirst};
 ghost use Rattle.widl_script.specs.LeastBreak.{place_key};
 ghost use Rattle.widl_script.specs.Names.{parameters_in};
 ghost use Rattle.widl_script.specs.RepeatedParameters.{repeated_parameters, repeated_words};

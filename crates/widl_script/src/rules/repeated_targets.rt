@@ -1,7 +1,7 @@
 //! Targets that two blocks are for.
 
 ghost use Rattle.std.specs.Prelude.{◌≡◌, false, length, IfOk, OnOk};
-ghost use Rattle.widl_first.specs.First.{IsFirst};
+ghost use Rattle.widl_first.specs.Keys.{IsFirst};
 ghost use Rattle.widl_idl.specs.DefinitionTerms.{DefsTerm};
 ghost use Rattle.widl_lines.specs.TextBreaks.{Line};
 ghost use Rattle.widl_script.specs.LeastBreak.{place_key};

@@ -1,7 +1,7 @@
 //! What the lines of steps blocks break.
 
 ghost use Rattle.std.specs.Prelude.{◌≡◌, ℕ, length, option_map, IfOk, List};
-ghost use Rattle.widl_first.specs.First.{IsFirst};
+ghost use Rattle.widl_first.specs.Keys.{IsFirst};
 ghost use Rattle.widl_idl.specs.DefinitionTerms.{DefsTerm};
 ghost use Rattle.widl_lines.specs.Blocks.{first_word};
 ghost use Rattle.widl_lines.specs.TextBreaks.{Line};

@@ -1,7 +1,7 @@
 //! Names that are not known where a script uses them.
 
 ghost use Rattle.std.specs.Prelude.{◌≡◌, ◌&&◌, drop, length, map, not, Contains, IfOk, List, ℕ};
-ghost use Rattle.widl_first.specs.First.{IsFirst};
+ghost use Rattle.widl_first.specs.Keys.{IsFirst};
 ghost use Rattle.widl_idl.specs.DefinitionTerms.{defs_term, DefsTerm};
 ghost use Rattle.widl_lines.specs.Blocks.{first_word};
 ghost use Rattle.widl_lines.specs.Words.{Lexeme};

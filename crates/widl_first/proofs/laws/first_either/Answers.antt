@@ -1,4 +1,4 @@
-use Rattle.widl_first.proofs.Firsts as firsts
+use Rattle.widl_first.proofs.KeyFirsts as firsts
 use Rattle.widl_first.proofs.laws.first_either.Goals as goal
 
 -- src/laws.rt:20:1

@@ -1,4 +1,4 @@
-use Rattle.widl_first.proofs.Firsts as firsts
+use Rattle.widl_first.proofs.KeyFirsts as firsts
 use Rattle.widl_first.proofs.laws.one_key.Goals as goal
 
 pub returns : goal.returns

@@ -1,5 +1,5 @@
 use Rattle.std.proofs.Common.{Contains, subst, sym}
-use Rattle.widl_first.specs.First.{Either}
+use Rattle.widl_first.specs.Keys.{Either}
 use Rattle.widl_idl.specs.DefinitionTerms.{defs_term}
 use Rattle.widl_script.specs.BrokenRules.{BreaksNames}
 use Rattle.widl_script.specs.Names.{unknown_names}

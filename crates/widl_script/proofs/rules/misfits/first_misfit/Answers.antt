@@ -1,6 +1,6 @@
 use Rattle.std.proofs.Common.{◌+◌, arith, ap, subst, sym, take, Option}
 use Rattle.std.proofs.lemmas.List.{take_all}
-use Rattle.widl_first.specs.First.{IsFirst}
+use Rattle.widl_first.specs.Keys.{IsFirst}
 use Rattle.widl_idl.specs.DefinitionTerms.{defs_term}
 use Rattle.widl_lines.specs.declared.script_place.ScriptPlace.{ScriptPlace}
 use Rattle.widl_script.specs.LeastBreak.{place_key}

@@ -1,5 +1,5 @@
 use Rattle.std.proofs.Common.{◌≡◌, [], take}
-use Rattle.widl_first.specs.First.{IsFirst}
+use Rattle.widl_first.specs.Keys.{IsFirst}
 use Rattle.widl_fits.specs.Fitting.{Knows}
 use Rattle.widl_idl.specs.DefinitionTerms.{defs_term}
 use Rattle.widl_script.specs.LeastBreak.{place_key}

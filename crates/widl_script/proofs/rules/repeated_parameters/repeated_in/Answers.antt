@@ -1,6 +1,6 @@
 use Rattle.std.proofs.Common.{◌≡◌, ◌≤◌, ◌+◌, ◌∙◌, ◌&&◌, ◌||◌, [], ap, arith, drop, get_or, if◌then◌else◌, length, map, None, option_map, slice_get, Some, subst, sym, take}
 use Rattle.std.specs.Prelude.{bytes_eq}
-use Rattle.widl_first.specs.First.{first_of}
+use Rattle.widl_first.specs.Keys.{first_of}
 use Rattle.widl_lines.specs.declared.grammar.Terminal.TheVariants as terminal
 use Rattle.widl_lines.specs.declared.word_form.WordForm.TheVariants.{Bare}
 use Rattle.widl_lines.specs.declared.words.Word.{Word}

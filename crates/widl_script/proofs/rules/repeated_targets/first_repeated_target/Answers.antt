@@ -1,7 +1,7 @@
 use Rattle.std.proofs.Common.{◌≡◌, ◌+◌, ◌∙◌, [], arith, rules, ap, sym, length, slice_get, Some, subst, option_map}
 use Rattle.std.proofs.lemmas.List.{length-map}
 use Rattle.std.proofs.lemmas.Option.{slice_get-map}
-use Rattle.widl_first.specs.First.{IsFirst}
+use Rattle.widl_first.specs.Keys.{IsFirst}
 use Rattle.widl_script.specs.LeastBreak.{place_key}
 use Rattle.widl_script.specs.Standings.{standings}
 use Rattle.widl_script.specs.Surroundings.{plain_line, plain_lines}

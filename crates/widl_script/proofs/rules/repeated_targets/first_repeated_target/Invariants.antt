@@ -1,4 +1,4 @@
-use Rattle.widl_first.specs.First.{IsFirst}
+use Rattle.widl_first.specs.Keys.{IsFirst}
 use Rattle.widl_idl.specs.DefinitionTerms.{DefsTerm}
 use Rattle.widl_script.specs.LeastBreak.{place_key}
 use Rattle.widl_script.specs.Lookups.{AreOpenings}

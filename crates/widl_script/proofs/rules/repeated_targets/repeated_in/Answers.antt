@@ -1,5 +1,5 @@
 use Rattle.std.proofs.Common.{◌≡◌, ◌∙◌, false, subst, sym, true}
-use Rattle.widl_first.specs.First.{IsFirst}
+use Rattle.widl_first.specs.Keys.{IsFirst}
 use Rattle.widl_script.specs.LeastBreak.{place_key}
 use Rattle.widl_script.specs.PassedTargets.{IsPassed, IsThere, RepeatsIn}
 use Rattle.widl_script.specs.Surroundings.{plain_line}

@@ -1,6 +1,6 @@
 use Rattle.std.proofs.Common.{◌∙◌, List, sym}
 use Rattle.std.proofs.lemmas.Result.{IfOk-weaker}
-use Rattle.widl_first.specs.First.{IsFirst}
+use Rattle.widl_first.specs.Keys.{IsFirst}
 use Rattle.widl_idl.specs.DefinitionTerms.{DefsTerm}
 use Rattle.widl_lines.specs.TextBreaks.{Line}
 use Rattle.widl_script.specs.FormedLines.{IsFormed}

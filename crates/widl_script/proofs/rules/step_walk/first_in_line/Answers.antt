@@ -1,6 +1,6 @@
 use Rattle.std.proofs.Common.{List, Option, option_map, subst}
 use Rattle.std.proofs.lemmas.Result.{IfOk-weaker}
-use Rattle.widl_first.specs.First.{IsFirst}
+use Rattle.widl_first.specs.Keys.{IsFirst}
 use Rattle.widl_idl.specs.DefinitionTerms.{DefsTerm}
 use Rattle.widl_lines.specs.TextBreaks.{Line}
 use Rattle.widl_script.specs.declared.rules.overloads.Overload.{Overload as Found}

@@ -1,6 +1,6 @@
 use Rattle.std.proofs.Common.{Contains, Option, subst, sym, ap, ◌∙◌}
-use Rattle.widl_first.specs.First.{Either, IsFirst, first_of}
-use Rattle.widl_first.proofs.Firsts.{first_either}
+use Rattle.widl_first.specs.Keys.{Either, IsFirst, first_of}
+use Rattle.widl_first.proofs.KeyFirsts.{first_either}
 use Rattle.widl_fits.specs.Fitting.{Knows}
 use Rattle.widl_idl.specs.DefinitionTerms.{DefsTerm}
 use Rattle.widl_lines.specs.declared.script_place.ScriptPlace.{ScriptPlace}

@@ -1,7 +1,7 @@
 use Rattle.std.proofs.Common.{◌≡◌, ◌+◌, ◌∙◌, arith, ap, sym, length, slice_get, Some, subst, option_map}
 use Rattle.std.proofs.lemmas.List.{length-map}
 use Rattle.std.proofs.lemmas.Option.{slice_get-map}
-use Rattle.widl_first.specs.First.{IsFirst}
+use Rattle.widl_first.specs.Keys.{IsFirst}
 use Rattle.widl_script.specs.LeastBreak.{place_key}
 use Rattle.widl_script.specs.Lookups.{LacksIn}
 use Rattle.widl_script.specs.Standings.{standings}

@@ -1,7 +1,7 @@
 use Rattle.std.proofs.Common.{◌≡◌, ◌≤◌, ◌+◌, ◌∙◌, [], ap, arith, get_or, length, map, option_map, slice_get, Some, subst, sym, take}
 use Rattle.std.proofs.lemmas.List.{length-map, take_all}
 use Rattle.std.proofs.lemmas.Option.{slice_get-get_or, slice_get-map}
-use Rattle.widl_first.specs.First.{first_of}
+use Rattle.widl_first.specs.Keys.{first_of}
 use Rattle.widl_lines.specs.declared.grammar.Terminal.TheVariants as terminal
 use Rattle.widl_lines.specs.declared.word_form.WordForm.TheVariants.{Bare}
 use Rattle.widl_lines.specs.declared.words.Word.{Word}
