@@ -11,7 +11,7 @@ use Rattle.widl_idl.specs.PlainTypes.{PlainValue, DecimalValue, InfinityValue, M
 use Rattle.widl_idl.specs.Terms.{TypeTerm, AnyType, BooleanType, IntegerType, StringType, EnumerationType, DictionaryType, SequenceType}
 use Rattle.widl_idl.specs.WrittenLiterals.{value_meant}
 use Rattle.widl_overload.specs.rules.DefaultRules.{has_text}
-use Rattle.widl_overload.specs.rules.Ranges.{is_in_range}
+use Rattle.widl_idl.specs.Ranges.{is_in_range}
 use Rattle.widl_fits.specs.declared.tables.Tables.{Tables}
 use Rattle.widl_fits.specs.ChoiceValues.{KeepValues, is_kept}
 use Rattle.widl_fits.specs.Required.{TellsRequired, is_flagged}

@@ -7,10 +7,8 @@
 mod choice_values;
 mod literals;
 mod machine;
-mod ranges;
 mod required_members;
 mod tables;
 
 pub use literals::{any_takes, literal_fits};
-pub use ranges::is_in_range;
 pub use tables::Tables;

@@ -13,9 +13,8 @@ ghost use Rattle.widl_overload.specs.rules.DefaultRules.{has_text};
 
 use crate::choice_values::has_value;
 use crate::machine::literal_is_of_program;
-use crate::ranges::is_in_range;
 use crate::tables::Tables;
-use widl_idl::{IdlType, IdlTypes, Literal, TextKind, includes_nullable};
+use widl_idl::{IdlType, IdlTypes, Literal, TextKind, includes_nullable, is_in_range};
 
 /// Whether a literal fits a type (Web IDL, "Default values"): it is null and the type includes a nullable
 /// type, or it is a value of one of the flattened members of the type.

@@ -12,6 +12,7 @@ pub mod PlainTypes
 pub mod PlainTrees
 pub mod Meanings
 pub mod Nodes
+pub mod Ranges
 pub mod Profile
 pub mod Parts
 pub mod Nesting

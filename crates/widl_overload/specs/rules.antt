@@ -3,7 +3,6 @@ pub mod TypeUses
 pub mod ArgumentRules
 pub mod DefinitionRules
 pub mod MemberRules
-pub mod Ranges
 pub mod TypeRules
 pub mod Dictionaries
 pub mod DictionaryRules

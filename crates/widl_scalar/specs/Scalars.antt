@@ -6,6 +6,7 @@ use Rattle.widl_idl.specs.declared.int_kind.Mode.TheVariants.{Wrap, Clamp, Enfor
 use Rattle.widl_scalar.specs.declared.int.NotInRange.{NotInRange}
 use Rattle.widl_idl.specs.declared.int_kind.IntKind.{IntKind}
 use Rattle.widl_idl.specs.declared.int_kind.IntKind.TheVariants.{Byte, Octet, Short, UShort, Long, ULong, LongLong, ULongLong}
+use Rattle.widl_idl.specs.Ranges.{greatest_value, least_value}
 use Rattle.widl_value.specs.declared.number.Number.{Number}
 use Rattle.widl_value.specs.declared.number.Number.TheVariants.{NaN, PosInf, NegInf, Whole}
 
@@ -19,27 +20,6 @@ bits_of ULong = 32
 bits_of LongLong = 64
 bits_of ULongLong = 64
 
--- the least and the greatest value of a kind
-abbrev pub least : IntKind → ℤ
-least Byte = neg_ℤ (pos (2 ^ 7))
-least Short = neg_ℤ (pos (2 ^ 15))
-least Long = neg_ℤ (pos (2 ^ 31))
-least LongLong = neg_ℤ (pos (2 ^ 63))
-least Octet = pos 0
-least UShort = pos 0
-least ULong = pos 0
-least ULongLong = pos 0
-
-abbrev pub greatest : IntKind → ℤ
-greatest Byte = pos (2 ^ 7 - 1)
-greatest Short = pos (2 ^ 15 - 1)
-greatest Long = pos (2 ^ 31 - 1)
-greatest LongLong = pos (2 ^ 63 - 1)
-greatest Octet = pos (2 ^ 8 - 1)
-greatest UShort = pos (2 ^ 16 - 1)
-greatest ULong = pos (2 ^ 32 - 1)
-greatest ULongLong = pos (2 ^ 64 - 1)
-
 -- they differ by a multiple of the modulus
 pub record Congruent (modulus : ℕ) (x value : ℤ) : Type 0 where
   pub turns : ℤ
@@ -47,8 +27,8 @@ pub record Congruent (modulus : ℕ) (x value : ℤ) : Type 0 where
 
 -- the value is in the kind's range and differs from x by a multiple of 2 to the kind's bits
 pub record Wraps (kind : IntKind) (x value : ℤ) : Type 0 where
-  pub not_below : least kind ≤ℤ value
-  pub not_above : value ≤ℤ greatest kind
+  pub not_below : least_value kind ≤ℤ value
+  pub not_above : value ≤ℤ greatest_value kind
   pub congruent : Congruent (2 ^ bits_of kind) x value
 
 -- what a number becomes without a clamp or a test of its range
@@ -83,24 +63,13 @@ wrapped_of NegInf kind = pos 0
 
 -- the bounds of a clamp and of an enforced range: the kind's range, and for 64 bits the integers up to 2^53 - 1 in magnitude
 abbrev pub lower_bound : IntKind → ℤ
-lower_bound Byte = least Byte
-lower_bound Short = least Short
-lower_bound Long = least Long
 lower_bound LongLong = neg_ℤ (pos (2 ^ 53 - 1))
-lower_bound Octet = least Octet
-lower_bound UShort = least UShort
-lower_bound ULong = least ULong
-lower_bound ULongLong = pos 0
+lower_bound kind = least_value kind
 
 abbrev pub upper_bound : IntKind → ℤ
-upper_bound Byte = greatest Byte
-upper_bound Short = greatest Short
-upper_bound Long = greatest Long
 upper_bound LongLong = pos (2 ^ 53 - 1)
-upper_bound Octet = greatest Octet
-upper_bound UShort = greatest UShort
-upper_bound ULong = greatest ULong
 upper_bound ULongLong = pos (2 ^ 53 - 1)
+upper_bound kind = greatest_value kind
 
 -- of the numbers from low to high, the value is the one nearest to x
 pub record NearestWithin (low high x value : ℤ) : Type 0 where

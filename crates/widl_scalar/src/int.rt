@@ -6,7 +6,7 @@ ghost use Rattle.widl_scalar.specs.Scalars.{ClampsTo, clamped_of, clamped, Neare
 ghost use Rattle.widl_scalar.specs.Scalars.{IsInBounds, enforced_of, enforced, integer_of};
 
 use thiserror::Error;
-use widl_idl::{IntKind, Mode};
+use widl_idl::{IntKind, Mode, greatest_value, least_value};
 use widl_value::Number;
 
 /// A number outside the range that a conversion enforces (Web IDL, `[EnforceRange]`).
@@ -137,11 +137,8 @@ fn lower_bound(kind: IntKind) -> i128
     ensures { result ≡ lower_bound kind }
 {
     match kind {
-        IntKind::Byte => -(1 << 7),
-        IntKind::Short => -(1 << 15),
-        IntKind::Long => -(1 << 31),
         IntKind::LongLong => -((1 << 53) - 1),
-        IntKind::Octet | IntKind::UShort | IntKind::ULong | IntKind::ULongLong => 0,
+        _ => least_value(kind),
     }
 }
 
@@ -150,12 +147,7 @@ fn upper_bound(kind: IntKind) -> i128
     ensures { result ≡ upper_bound kind }
 {
     match kind {
-        IntKind::Byte => (1 << 7) - 1,
-        IntKind::Short => (1 << 15) - 1,
-        IntKind::Long => (1 << 31) - 1,
-        IntKind::Octet => (1 << 8) - 1,
-        IntKind::UShort => (1 << 16) - 1,
-        IntKind::ULong => (1 << 32) - 1,
         IntKind::LongLong | IntKind::ULongLong => (1 << 53) - 1,
+        _ => greatest_value(kind),
     }
 }

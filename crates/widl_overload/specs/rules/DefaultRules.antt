@@ -18,7 +18,7 @@ use Rattle.widl_idl.specs.WrittenLiterals.{units_of}
 use Rattle.widl_idl.specs.WrittenTypes.{meaning_with}
 use Rattle.widl_overload.specs.rules.ArgumentRules.{argument_lists_of, is_required}
 use Rattle.widl_overload.specs.rules.Dictionaries.{HasRequired}
-use Rattle.widl_overload.specs.rules.Ranges.{is_in_range}
+use Rattle.widl_idl.specs.Ranges.{is_in_range}
 
 -- whether a string type has the text: a ByteString has no unit above 255
 abbrev pub has_text : TextKind → List ℕ → Bool

@@ -23,7 +23,7 @@ use Rattle.widl_overload.specs.declared.type_role.TypeRole.{TypeRole}
 use Rattle.widl_overload.specs.declared.type_role.TypeRole.TheVariants as role
 use Rattle.widl_overload.specs.sets.Distinct.{distinguishable, has_dictionary, is_dictionary}
 use Rattle.widl_overload.specs.rules.MemberRules.{AtPlace, is_promise, word_of_attribute}
-use Rattle.widl_overload.specs.rules.Ranges.{is_in_range}
+use Rattle.widl_idl.specs.Ranges.{is_in_range}
 use Rattle.widl_overload.specs.rules.TypeUses.{TypeUse, type_place}
 
 -- a type without its `?`s

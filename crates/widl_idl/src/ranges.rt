@@ -1,9 +1,9 @@
 //! The ranges of the integer types.
 
 ghost use Rattle.std.specs.Prelude.{◌≡◌};
-ghost use Rattle.widl_overload.specs.rules.Ranges.{greatest_value, is_in_range, least_value};
+ghost use Rattle.widl_idl.specs.Ranges.{greatest_value, is_in_range, least_value};
 
-use widl_idl::IntKind;
+use crate::int_kind::IntKind;
 
 /// Whether an integer type has the value (Web IDL, "Integer types").
 pub fn is_in_range(kind: IntKind, value: i128) -> bool
@@ -12,7 +12,8 @@ pub fn is_in_range(kind: IntKind, value: i128) -> bool
     least_value(kind) <= value && value <= greatest_value(kind)
 }
 
-fn least_value(kind: IntKind) -> i128
+/// The least value of an integer type.
+pub fn least_value(kind: IntKind) -> i128
     ensures { result ≡ least_value kind }
 {
     match kind {
@@ -24,7 +25,8 @@ fn least_value(kind: IntKind) -> i128
     }
 }
 
-fn greatest_value(kind: IntKind) -> i128
+/// The greatest value of an integer type.
+pub fn greatest_value(kind: IntKind) -> i128
     ensures { result ≡ greatest_value kind }
 {
     match kind {
