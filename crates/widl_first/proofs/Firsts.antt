@@ -1,5 +1,5 @@
 -- The first of a union is the first of the firsts, in any order that a test tells.
-use Rattle.std.proofs.Common.{◌≡◌, ◌⊎◌, inl, inr, Bool, true, false, cond, Option, Some, None, refl, ap}
+use Rattle.std.proofs.Common.{◌≡◌, inl, inr, Bool, true, false, cond, Option, Some, None, refl, ap}
 use Rattle.widl_first.specs.First.{Either, FirstWhere, IsFirst, Tells, first_of}
 
 module _ {X : Type 0} {Before : X → X → Type 0} where

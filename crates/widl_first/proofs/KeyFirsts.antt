@@ -1,5 +1,5 @@
 -- The first of what breaks one rule or another, by keys.
-use Rattle.std.proofs.Common.{◌≡◌, ℕ, ◌⊎◌, inl, inr, Bool, true, false, ◌||◌, ◌&&◌, nat_lt, nat_eq, Option, Some, None, List, [], ◌∷◌, refl, sym, ◌∙◌, ap, subst, arith, ltb-true, ltb-false, lt-ltb, eqb-true, eq-eqb}
+use Rattle.std.proofs.Common.{◌≡◌, ℕ, ◌⊎◌, inl, inr, Bool, true, false, ◌||◌, ◌&&◌, nat_lt, nat_eq, Option, Some, List, [], ◌∷◌, refl, sym, ◌∙◌, ap, subst, arith, ltb-true, ltb-false, lt-ltb, eqb-true, eq-eqb}
 use Rattle.widl_first.specs.First.{Tells}
 use Rattle.widl_first.specs.Keys.{Either, IsFirst, Precedes, first_of, lex_lt, precedes}
 use Rattle.widl_first.proofs.Firsts as firsts

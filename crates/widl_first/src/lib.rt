@@ -1,10 +1,10 @@
-//! The first of things that break rules, by their keys: lists of numbers in the order of words, as a line,
-//! a column and a rule.
+//! The first of what has a property, in any order that a test tells: it has the property, and nothing that has it
+//! stands before (`specs/First.antt`). Violations and refusals are such orders, and so are keys, lists of numbers in
+//! the order of words, as a line, a column and a rule (`specs/Keys.antt`).
 //!
-//! It stands on nothing. `IsFirst` says of an answer that it is the first of all that break something, or
-//! that nothing does. The contract that is used above is that of [`first_of`], with the laws of [`laws`]:
-//! the first of two sorts of breaks is the first of their firsts. So what finds the first break of many
-//! rules asks each rule alone and joins the answers.
+//! It stands on nothing. What is used above is that the first of two kinds of things is the first of their firsts
+//! (`proofs/Firsts.antt`; of keys [`laws`] and [`first_of`]). So what finds the first break of many rules asks each
+//! rule alone and joins the answers.
 #![tactic(auto)]
 
 mod keyed;

@@ -7,7 +7,7 @@ use Rattle.widl_text.specs.declared.place.Place.{Place}
 use Rattle.widl_first.specs.First as first
 use Rattle.widl_first.specs.First.{Either, Tells}
 use Rattle.widl_first.proofs.Firsts.{first_either, first_of_one, same_first}
-use Rattle.widl_idl.specs.First.{ComesBefore, OtherBefore, SamePlace, is_other_before, earlier, FirstWhere, Upto, AtOne}
+use Rattle.widl_idl.specs.First.{ComesBefore, SamePlace, is_other_before, earlier, FirstWhere, Upto, AtOne}
 use Rattle.widl_idl.specs.FirstRefusal.{Earlier, LowerBefore, is_earlier, is_lower, refusal_at, violation_of, join, Broken, FirstBroken}
 use Rattle.widl_idl.proofs.Order as violations
 use Rattle.widl_idl.proofs.Order.{first_of, first_trans, neither_before, neither_other, not_first, not_other, other_of, other_trans}
