@@ -19,11 +19,7 @@ use widl_idl::{Defs, IdlType, IdlTypes, Iface, includes_nullable, nullable_count
 pub fn distinguishable(defs: &Defs, a: &IdlType, b: &IdlType) -> bool
     ensures { result ≡ distinguishable_in (defs_term defs.now).ifaces (type_term a.now) (type_term b.now) }
 {
-    let ifaces = defs.ifaces.as_slice();
-    match second_members(a, b) {
-        Some(others) => !do_clash(a, b) && members_apart_from(ifaces, a, others),
-        None => flattened_apart(ifaces, a, b),
-    }
+    are_distinguishable(defs.ifaces.as_slice(), a, b)
 }
 
 /// It is what the standard's four rules say in order, where the members of unions are compared by the
@@ -41,6 +37,17 @@ pub fn distinguishable_is_symmetric()
 pub fn distinguishable_from_itself()
     ensures { (ifaces : List IfaceTerm) (t : TypeTerm) → HaveMembers t → distinguishable_in ifaces t t ≡ false }
 {}
+
+/// Whether two types are distinguishable.
+#[cycle(rules)]
+fn are_distinguishable(ifaces: &[Iface], a: &IdlType, b: &IdlType) -> bool
+    ensures { result ≡ distinguishable_in (map iface_term ifaces.now) (type_term a.now) (type_term b.now) }
+{
+    match second_members(a, b) {
+        Some(others) => !do_clash(a, b) && members_apart_from(ifaces, a, others),
+        None => flattened_apart(ifaces, a, b),
+    }
+}
 
 /// Whether each member of a union is distinguishable from each of the others.
 #[cycle(rules)]
@@ -61,13 +68,7 @@ fn each_apart_from(ifaces: &[Iface], members: &IdlTypes, others: &[IdlType]) -> 
 {
     for member in members.as_slice() {
         for other in others {
-            let are_apart = match second_members(member, other) {
-                Some(inner) => {
-                    !do_clash(member, other) && members_apart_from(ifaces, member, inner)
-                }
-                None => flattened_apart(ifaces, member, other),
-            };
-            if !are_apart {
+            if !are_distinguishable(ifaces, member, other) {
                 return false;
             }
         }
