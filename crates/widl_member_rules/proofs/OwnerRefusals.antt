@@ -1,5 +1,5 @@
 -- What one owner breaks, and what all definitions break, a definition at a time.
-use Rattle.std.proofs.Common.{◌≡◌, ℕ, ◌<◌, ◌++◌, Bool, true, false, ◌&&◌, List, [], ◌∷◌, length, take, slice_get, flat_map, Option, None, Some, option_map, option_and_then, arith, refl, sym, ap, subst, ◌∙◌, Bor, length-take-le}
+use Rattle.std.proofs.Common.{◌≡◌, ℕ, ◌<◌, ◌++◌, Bool, true, false, cond, ◌&&◌, List, [], ◌∷◌, length, take, slice_get, flat_map, Option, None, Some, option_map, option_and_then, arith, refl, sym, ap, subst, ◌∙◌, Bor, length-take-le}
 use Rattle.std.proofs.lemmas.List.{length-map}
 use Rattle.std.proofs.lemmas.Option.{slice_get_within}
 use Rattle.std.proofs.lemmas.Slice.Eq.{bytes_eq-Decides}
@@ -154,3 +154,11 @@ owners_first all found l = same_breaks (OwnersBreak all all) (ByOwner all) membe
 -- what a rule finds in the members of an owner that it asks
 pub asked_first : (kind : Kind) (members : List PlainMember) (asked : Kind → Bool) (Breaks : List PlainMember → PlainMember → Violation → Type 0) (found : Option Violation) → asked kind ≡ true → FirstWhere (AtOne Breaks members) found → FirstWhere (InMembers kind members asked Breaks) found
 asked_first kind members asked Breaks found is l = first_same (AtOne Breaks members) (InMembers kind members asked Breaks) found (λ s u. (is, u)) (λ s h. h.1) l
+
+-- what a rule on interfaces alone finds in the members of an interface, and in none of another owner
+pub interface_first : (kind : Kind) (members found_in : List PlainMember) (Breaks : List PlainMember → PlainMember → Violation → Type 0) (found : Option Violation) → found_in ≡ cond (is_interface_kind kind) members [] → FirstWhere (AtOne Breaks found_in) found → FirstWhere (InMembers kind members is_interface_kind Breaks) found
+interface_first kind members found_in Breaks found is l = by_kind (is_interface_kind kind) refl is
+  where
+    by_kind : (b : Bool) → is_interface_kind kind ≡ b → found_in ≡ cond b members [] → FirstWhere (InMembers kind members is_interface_kind Breaks) found
+    by_kind true asked same = asked_first kind members is_interface_kind Breaks found asked (subst (λ ms. FirstWhere (AtOne Breaks ms) found) same l)
+    by_kind false asked same = first_same (AtOne Breaks []) (InMembers kind members is_interface_kind Breaks) found (λ s u. absurd (let below = u.below in omega arith)) (λ s h. absurd (let yes = h.0 in (cc))) (subst (λ ms. FirstWhere (AtOne Breaks ms) found) same l)

@@ -1,14 +1,14 @@
 //! The first refusal by the rules on the members of interfaces and namespaces in merged order.
 
-ghost use Rattle.std.specs.Prelude.{◌≡◌, true, List, None, Some, option_map, slice_get, IfOk};
+ghost use Rattle.std.specs.Prelude.{◌≡◌, true, if◌then◌else◌, List, [], None, Some, option_map, slice_get, IfOk};
 ghost use Rattle.widl_idl.specs.First.{AtOne, FirstWhere};
 ghost use Rattle.widl_idl.specs.Meanings.{kind_of};
 ghost use Rattle.widl_idl.specs.PlainTrees.{PlainDefinition, definition_kind_of, plain_definitions};
-ghost use Rattle.widl_overload.specs.rules.MemberRules.{HasKeptName, IsSecondStringifier, has_members_of_its_own, is_interface_kind};
+ghost use Rattle.widl_overload.specs.rules.MemberRules.{has_members_of_its_own, is_interface_kind};
 ghost use Rattle.widl_names.specs.Listings.{listed_members};
 ghost use Rattle.widl_member_rules.specs.ApartMembers.{SharesLabel};
 ghost use Rattle.widl_overload.specs.rules.OnMembers.{ByOwner, member_rules};
-ghost use Rattle.widl_member_rules.specs.Owners.{InMembers, MembersBreak, OwnerBreaks, is_owner};
+ghost use Rattle.widl_member_rules.specs.Owners.{MembersBreak, OwnerBreaks, is_owner};
 ghost use Rattle.widl_refusals.specs.Refusals.{IsFirst};
 
 use crate::apart_members::are_apart;
@@ -19,7 +19,7 @@ use crate::repeated_members::first_repeated_member;
 use crate::stringifiers::first_second_stringifier;
 use std::alloc::{AllocError, Global};
 use widl_idl::tree::{DefinitionKind, Member};
-use widl_idl::{Kind, Refusal, Violation};
+use widl_idl::{Kind, Refusal};
 use widl_names::{Meanings, Resolver, Scope, kind_of, list_members, means_itself};
 use widl_overload::ValidityRule;
 use widl_refusals::{earlier_refusal, first};
@@ -77,15 +77,6 @@ fn has_members_of_its_own(kind: Kind) -> bool
     }
 }
 
-fn is_interface(kind: Kind) -> bool
-    ensures { result ≡ is_interface_kind kind }
-{
-    match kind {
-        Kind::Interface => true,
-        _ => false,
-    }
-}
-
 /// The first refusal among these members of an interface or a namespace; each rule asks its kinds alone.
 fn find_in_members<'a>(
     alloc: Global,
@@ -99,9 +90,10 @@ fn find_in_members<'a>(
     if are_apart(members) {
         return Ok(find_in_apart(kind, members));
     }
+    let of_interface = members_of_interface(kind, members);
     let found = first_overload_past_limit(alloc, members)?;
     let best = first(None, ValidityRule::TooManyOverloads, found);
-    let best = first(best, ValidityRule::KeptName, find_kept_name(kind, members));
+    let best = first(best, ValidityRule::KeptName, first_kept_name(of_interface));
     let found = first_repeated_member(alloc, members)?;
     let best = first(best, ValidityRule::RepeatedMember, found);
     let found = first_mixing_promises(alloc, resolver, members)?;
@@ -109,7 +101,7 @@ fn find_in_members<'a>(
     Ok(first(
         best,
         ValidityRule::Stringifiers,
-        find_stringifier(kind, members),
+        first_second_stringifier(of_interface),
     ))
 }
 
@@ -119,32 +111,21 @@ fn find_in_apart(kind: Kind, members: &[&Member]) -> Option<Refusal>
     requires apart { FirstWhere (AtOne SharesLabel (listed_members members.now)) None }
     ensures { (definitions : List PlainDefinition) → IsFirst (MembersBreak definitions kind (listed_members members.now)) member_rules result }
 {
-    let best = first(None, ValidityRule::KeptName, find_kept_name(kind, members));
+    let of_interface = members_of_interface(kind, members);
+    let best = first(None, ValidityRule::KeptName, first_kept_name(of_interface));
     first(
         best,
         ValidityRule::Stringifiers,
-        find_stringifier(kind, members),
+        first_second_stringifier(of_interface),
     )
 }
 
-/// The first place of a name that a static member or a constant of an interface may not have.
-fn find_kept_name(kind: Kind, members: &[&Member]) -> Option<Violation>
-    ensures { FirstWhere (InMembers kind (listed_members members.now) is_interface_kind HasKeptName) result }
+/// The members of an interface; none of a namespace.
+fn members_of_interface<'m, 'a>(kind: Kind, members: &'m [&'a Member]) -> &'m [&'a Member]
+    ensures { listed_members result.now ≡ (if is_interface_kind kind then listed_members members.now else []) }
 {
-    if is_interface(kind) {
-        first_kept_name(members)
-    } else {
-        None
-    }
-}
-
-/// The first place of the word of a second stringifier of an interface.
-fn find_stringifier(kind: Kind, members: &[&Member]) -> Option<Violation>
-    ensures { FirstWhere (InMembers kind (listed_members members.now) is_interface_kind IsSecondStringifier) result }
-{
-    if is_interface(kind) {
-        first_second_stringifier(members)
-    } else {
-        None
+    match kind {
+        Kind::Interface => members,
+        _ => &[],
     }
 }
