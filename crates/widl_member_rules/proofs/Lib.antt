@@ -6,4 +6,5 @@ pub mod Returned
 pub mod SecondStringifiers
 pub mod OwnerRefusals
 pub mod MemberNodes
+pub mod TypedMembers
 pub mod MemberRefusals

@@ -8,13 +8,13 @@ ghost use Rattle.widl_idl.specs.Terms.{type_term};
 ghost use Rattle.widl_idl.specs.Nodes.{MemberNode, nodes_of};
 ghost use Rattle.widl_idl.specs.WrittenTypes.{meaning_of_annotated};
 ghost use Rattle.widl_names.specs.Listings.{listed_definitions};
-ghost use Rattle.widl_overload.specs.rules.MemberRules.{is_promise};
-ghost use Rattle.widl_overload.specs.rules.TypeRules.{HasOtherValue, IsOtherStringifier, IsWritablePromise};
 ghost use Rattle.widl_overload.specs.rules.OnMembers.{BreaksNode, NodesBreak, member_rules};
+ghost use Rattle.widl_overload.specs.rules.TypeRules.{IsOtherStringifier, IsWritablePromise};
 ghost use Rattle.widl_member_rules.specs.MemberTypes.{member_nodes, own_members};
 ghost use Rattle.widl_refusals.specs.Refusals.{IsFirst};
 
 use crate::constant_values::other_constant_value;
+use crate::promise_overloads::is_promise;
 use std::alloc::{AllocError, Global};
 use widl_idl::tree::{Attribute, AttributeKind, Definition, DefinitionKind, Member, MemberKind};
 use widl_idl::{IdlType, Refusal, Violation};
@@ -79,58 +79,38 @@ fn find_in_member<'a>(
 ) -> Result<Option<Refusal>, AllocError>
     ensures { IfOk result (λ found. IsFirst (λ which. BreaksNode (plain_definitions resolver.now) which (MemberNode (member_kind_of member.now))) member_rules found) }
 {
-    let found = other_stringifier(alloc, resolver, member)?;
+    match member {
+        MemberKind::Constant(constant) => {
+            let found = other_constant_value(alloc, resolver, constant)?;
+            Ok(first(None, ValidityRule::OtherConstantValue, found))
+        }
+        MemberKind::Attribute(attribute) => find_in_attribute(alloc, resolver, attribute),
+        MemberKind::Operation(_)
+        | MemberKind::Constructor(_)
+        | MemberKind::Stringifier(_)
+        | MemberKind::Iterable(_)
+        | MemberKind::AsyncIterable(_)
+        | MemberKind::Maplike(_)
+        | MemberKind::Setlike(_) => Ok(None),
+    }
+}
+
+/// The first refusal by one attribute.
+fn find_in_attribute<'a>(
+    alloc: Global,
+    resolver: &Resolver<'_, 'a>,
+    attribute: &'a Attribute,
+) -> Result<Option<Refusal>, AllocError>
+    ensures { IfOk result (λ found. IsFirst (λ which. BreaksNode (plain_definitions resolver.now) which (MemberNode (AttributeMember (attribute_member_of attribute.now)))) member_rules found) }
+{
+    let found = other_stringifier(alloc, resolver, attribute)?;
     let best = first(None, ValidityRule::Stringifiers, found);
-    let found = writable_promise(alloc, resolver, member)?;
-    let best = first(best, ValidityRule::WritablePromise, found);
-    let found = other_value(alloc, resolver, member)?;
-    Ok(first(best, ValidityRule::OtherConstantValue, found))
-}
-
-/// The place of a constant's value that is not of its type, or not in its range.
-fn other_value<'a>(
-    alloc: Global,
-    resolver: &Resolver<'_, 'a>,
-    member: &'a MemberKind,
-) -> Result<Option<Violation>, AllocError>
-    ensures { IfOk result (λ found. FirstWhere (HasOtherValue (plain_definitions resolver.now) (MemberNode (member_kind_of member.now))) found) }
-{
-    match member {
-        MemberKind::Constant(constant) => other_constant_value(alloc, resolver, constant),
-        MemberKind::Attribute(_)
-        | MemberKind::Operation(_)
-        | MemberKind::Constructor(_)
-        | MemberKind::Stringifier(_)
-        | MemberKind::Iterable(_)
-        | MemberKind::AsyncIterable(_)
-        | MemberKind::Maplike(_)
-        | MemberKind::Setlike(_) => Ok(None),
-    }
-}
-
-/// The place of an attribute's name whose type is a promise and that isn't read only.
-fn writable_promise<'a>(
-    alloc: Global,
-    resolver: &Resolver<'_, 'a>,
-    member: &'a MemberKind,
-) -> Result<Option<Violation>, AllocError>
-    ensures { IfOk result (λ found. FirstWhere (IsWritablePromise (plain_definitions resolver.now) (MemberNode (member_kind_of member.now))) found) }
-{
-    match member {
-        MemberKind::Attribute(attribute) => promise_place(alloc, resolver, attribute),
-        MemberKind::Constant(_)
-        | MemberKind::Operation(_)
-        | MemberKind::Constructor(_)
-        | MemberKind::Stringifier(_)
-        | MemberKind::Iterable(_)
-        | MemberKind::AsyncIterable(_)
-        | MemberKind::Maplike(_)
-        | MemberKind::Setlike(_) => Ok(None),
-    }
+    let found = writable_promise(alloc, resolver, attribute)?;
+    Ok(first(best, ValidityRule::WritablePromise, found))
 }
 
 /// The place of the name of an attribute, if its type is a promise and it isn't read only.
-fn promise_place<'a>(
+fn writable_promise<'a>(
     alloc: Global,
     resolver: &Resolver<'_, 'a>,
     attribute: &'a Attribute,
@@ -148,35 +128,8 @@ fn promise_place<'a>(
     }
 }
 
-fn is_promise(t: &IdlType) -> bool
-    ensures { result ≡ is_promise (type_term t.now) }
-{
-    matches!(t, IdlType::Promise(_))
-}
-
 /// The place of the word `stringifier` before an attribute that is neither a DOMString nor a USVString.
 fn other_stringifier<'a>(
-    alloc: Global,
-    resolver: &Resolver<'_, 'a>,
-    member: &'a MemberKind,
-) -> Result<Option<Violation>, AllocError>
-    ensures { IfOk result (λ found. FirstWhere (IsOtherStringifier (plain_definitions resolver.now) (MemberNode (member_kind_of member.now))) found) }
-{
-    match member {
-        MemberKind::Attribute(attribute) => stringifier_place(alloc, resolver, attribute),
-        MemberKind::Constant(_)
-        | MemberKind::Operation(_)
-        | MemberKind::Constructor(_)
-        | MemberKind::Stringifier(_)
-        | MemberKind::Iterable(_)
-        | MemberKind::AsyncIterable(_)
-        | MemberKind::Maplike(_)
-        | MemberKind::Setlike(_) => Ok(None),
-    }
-}
-
-/// The place of the word `stringifier` before an attribute, if that is of another type.
-fn stringifier_place<'a>(
     alloc: Global,
     resolver: &Resolver<'_, 'a>,
     attribute: &'a Attribute,

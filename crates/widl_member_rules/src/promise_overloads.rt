@@ -74,7 +74,8 @@ fn returns_promise<'a>(
     Ok(is_promise(&returned))
 }
 
-fn is_promise(ty: &IdlType) -> bool
+/// Whether a type is a promise.
+pub fn is_promise(ty: &IdlType) -> bool
     ensures { result ≡ is_promise (type_term ty.now) }
 {
     match ty {

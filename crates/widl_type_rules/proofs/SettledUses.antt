@@ -1,5 +1,5 @@
 -- The types of which the rules on types aren't asked break none of them.
-use Rattle.std.proofs.Common.{◌≡◌, Bool, true, false, ℕ, ◌++◌, List, [], ◌∷◌, length, map, eqb-true, Option, None, Some, arith, refl, sym, ap, subst, ◌∙◌}
+use Rattle.std.proofs.Common.{◌≡◌, Bool, true, false, ℕ, ◌++◌, List, [], ◌∷◌, length, map, slice_get, zero, suc, eqb-true, Option, None, Some, arith, refl, sym, ap, subst, ◌∙◌}
 use Rattle.std.specs.Prelude.{◌&&◌, ◌||◌, ◌==◌, not, Contains}
 use Rattle.std.specs.List.{list_any}
 use Rattle.widl_text.specs.declared.place.Place.{Place}
@@ -18,63 +18,73 @@ use Rattle.widl_idl.specs.WrittenTypes.{meaning_of_type, notes_of, number_among,
 use Rattle.widl_overload.specs.declared.type_role.TypeRole.{TypeRole}
 use Rattle.widl_overload.specs.declared.validity_rule.ValidityRule.{ValidityRule}
 use Rattle.widl_overload.specs.declared.validity_rule.ValidityRule.TheVariants as rule
-use Rattle.widl_overload.specs.rules.TypeRules.{HasClampAndEnforceRange, HasMisplacedAnnotation, HaveIndistinguishableMembers, HaveNullableAndDictionary, HaveSeveralNullable, IsAnnotatedMember, IsCopiedAttribute, IsNullableDictionary, IsOtherConstantType, IsUndefinedInside, IsWronglyNullable, OfUnion, all_notes, has_question, is_annotated, is_attribute_role, is_constant_role, is_copied, is_nullable_dictionary, is_undefined_form, is_undefined_word, is_union_form, is_written_union, is_wrongly_nullable, notes_after, notes_in, takes_undefined}
+use Rattle.widl_overload.specs.rules.TypeRules.{HasClampAndEnforceRange, HasMisplacedAnnotation, HaveIndistinguishableMembers, HaveNullableAndDictionary, HaveSeveralNullable, IsOtherConstantType, IsUndefinedInside, OfUnion, all_notes, has_question, is_annotated, is_attribute_role, is_constant_role, is_copied, is_nullable_dictionary, is_undefined_form, is_undefined_word, is_union_form, is_written_union, is_wrongly_nullable, notes_after, notes_in, takes_undefined}
 use Rattle.widl_overload.specs.rules.TypeUses.{TypeUse, meaning_of_use}
 use Rattle.widl_type_rules.specs.SettledUses.{are_none, is_settled, is_settled_form, is_settled_kind, is_settled_type}
 use Rattle.widl_overload.specs.rules.OnTypes.{BreaksUse}
 
--- what the rules ask of what such a type means
-record Settled (role : TypeRole) (t : TypeTerm) : Type 0 where
-  copied : is_attribute_role role ≡ true → list_any is_copied (flattened_member t) ≡ true → ⊥
-  wrongly_nullable : is_wrongly_nullable t ≡ false
-  annotated : is_annotated t ≡ false
-  nullable_dictionary : is_nullable_dictionary t ≡ false
+-- what the rules ask of what a type means, a question in each line
+abbrev questions : TypeRole → TypeTerm → List Bool
+questions role t =
+    (list_any is_copied (flattened_member t) && is_attribute_role role)
+    ∷ is_wrongly_nullable t
+    ∷ is_annotated t
+    ∷ is_nullable_dictionary t
+    ∷ []
+
+abbrev is_any : List Bool → Bool
+is_any answers = list_any (λ yes. yes) answers
+
+-- no rule asks for such a type
+abbrev Settled : TypeRole → TypeTerm → Type 0
+Settled role t = is_any (questions role t) ≡ false
+
+-- none of the answers is yes, so this one isn't
+not_this : (answers : List Bool) (n : ℕ) → is_any answers ≡ false → slice_get answers n ≡ Some true → ⊥
+not_this [] n no yes = cc
+not_this (true ∷ more) n no yes = cc
+not_this (false ∷ more) zero no yes = cc
+not_this (false ∷ more) (suc n) no yes = not_this more n no yes
 
 abbrev meaning_of_word : List PlainDefinition → PlainForm → TypeTerm
 meaning_of_word definitions form = resolve (typedefs definitions) [] (written_form definitions form)
 
-not_both : (b : Bool) → b ≡ true → not b ≡ true → ⊥
-not_both true a e = cc
-not_both false a e = cc
-
 differs : (b : Bool) → b ≡ true → b ≡ false → ⊥
 differs b h n = cc
 
--- none of them holds
-unasked : (role : TypeRole) (t : TypeTerm) → list_any is_copied (flattened_member t) ≡ false → is_wrongly_nullable t ≡ false → is_annotated t ≡ false → is_nullable_dictionary t ≡ false → Settled role t
-unasked role t copied wrongly_nullable annotated nullable_dictionary = record { copied = λ a c. differs (list_any is_copied (flattened_member t)) c copied; wrongly_nullable = wrongly_nullable; annotated = annotated; nullable_dictionary = nullable_dictionary }
+not_if : (b : Bool) → not b ≡ true → (b || false) ≡ false
+not_if true e = cc
+not_if false e = refl
 
 of_kind : (definitions : List PlainDefinition) (role : TypeRole) (kind : Kind) (n : ℕ) → is_settled_kind role (Some kind) ≡ true → Settled role (resolve (typedefs definitions) [] (type_of_kind kind n))
 of_kind definitions role kinds.Typedef n e = cc
-of_kind definitions role kinds.Dictionary n e = record { copied = λ a c. not_both (is_attribute_role role) a e; wrongly_nullable = refl; annotated = refl; nullable_dictionary = refl }
-of_kind definitions role kinds.Interface n e = unasked role _ refl refl refl refl
-of_kind definitions role kinds.Enumeration n e = unasked role _ refl refl refl refl
-of_kind definitions role kinds.CallbackFunction n e = unasked role _ refl refl refl refl
-of_kind definitions role kinds.CallbackInterface n e = unasked role _ refl refl refl refl
-of_kind definitions role kinds.Mixin n e = unasked role _ refl refl refl refl
-of_kind definitions role kinds.Namespace n e = unasked role _ refl refl refl refl
-of_kind definitions role kinds.Includes n e = unasked role _ refl refl refl refl
+of_kind definitions role kinds.Dictionary n e = not_if (is_attribute_role role) e
+of_kind definitions role kind n e = refl
 
 of_meaning : (definitions : List PlainDefinition) (role : TypeRole) (number : Option ℕ) (kind : Option Kind) → is_settled_kind role kind ≡ true → Settled role (resolve (typedefs definitions) [] (type_of_meaning definitions number kind))
 of_meaning definitions role number None e = cc
-of_meaning definitions role None (Some kind) e = unasked role _ refl refl refl refl
+of_meaning definitions role None (Some kind) e = refl
 of_meaning definitions role (Some number) (Some kind) e = of_kind definitions role kind (number_among definitions kind number) e
 
 settled_word : (definitions : List PlainDefinition) (role : TypeRole) (form : PlainForm) → is_settled_form definitions role form ≡ true → Settled role (meaning_of_word definitions form)
-settled_word definitions role PlainAny e = unasked role _ refl refl refl refl
-settled_word definitions role PlainBoolean e = unasked role _ refl refl refl refl
-settled_word definitions role PlainObject e = unasked role _ refl refl refl refl
-settled_word definitions role (PlainInteger kind) e = unasked role _ refl refl refl refl
-settled_word definitions role (PlainText texts.Dom) e = unasked role _ refl refl refl refl
-settled_word definitions role (PlainText texts.Usv) e = unasked role _ refl refl refl refl
-settled_word definitions role (PlainText texts.Byte) e = unasked role _ refl refl refl refl
-settled_word definitions role PlainUndefined e = unasked role _ refl refl refl refl
+settled_word definitions role PlainAny e = refl
+settled_word definitions role PlainBoolean e = refl
+settled_word definitions role PlainObject e = refl
+settled_word definitions role (PlainInteger kind) e = refl
+settled_word definitions role (PlainText texts.Dom) e = refl
+settled_word definitions role (PlainText texts.Usv) e = refl
+settled_word definitions role (PlainText texts.Byte) e = refl
+settled_word definitions role PlainUndefined e = refl
 settled_word definitions role (PlainNamed name) e = of_meaning definitions role (meaning definitions name.text) (meant_kind definitions name.text) e
 settled_word definitions role form e = cc
 
 both_true : (a b : Bool) → (a && b) ≡ true → (a ≡ true) × (b ≡ true)
 both_true true b e = (refl, e)
 both_true false b e = cc
+
+both_are : (a b : Bool) → a ≡ true → b ≡ true → (a && b) ≡ true
+both_are true b e f = f
+both_are false b e f = cc
 
 not_true : (a : Bool) → not a ≡ true → a ≡ false
 not_true true e = cc
@@ -109,14 +119,7 @@ undefined_taken definitions role form e is h = cc
 
 notes_of_kind : (role : TypeRole) (kind : Kind) (n : ℕ) (inner : ℕ → List Note) → is_settled_kind role (Some kind) ≡ true → notes_in inner (type_of_kind kind n) ≡ []
 notes_of_kind role kinds.Typedef n inner e = cc
-notes_of_kind role kinds.Dictionary n inner e = refl
-notes_of_kind role kinds.Interface n inner e = refl
-notes_of_kind role kinds.Enumeration n inner e = refl
-notes_of_kind role kinds.CallbackFunction n inner e = refl
-notes_of_kind role kinds.CallbackInterface n inner e = refl
-notes_of_kind role kinds.Mixin n inner e = refl
-notes_of_kind role kinds.Namespace n inner e = refl
-notes_of_kind role kinds.Includes n inner e = refl
+notes_of_kind role kind n inner e = refl
 
 notes_of_meaning : (definitions : List PlainDefinition) (role : TypeRole) (number : Option ℕ) (kind : Option Kind) (inner : ℕ → List Note) → is_settled_kind role kind ≡ true → notes_in inner (type_of_meaning definitions number kind) ≡ []
 notes_of_meaning definitions role number None inner e = cc
@@ -159,26 +162,17 @@ module _ (definitions : List PlainDefinition) (u : TypeUse) (e : is_settled defi
   settled : Settled u.role (meaning_of_use definitions u)
   settled = subst (Settled u.role) (sym meaning_is) (settled_word definitions u.role word.form word.settled)
 
+  not_so : (n : ℕ) → slice_get (questions u.role (meaning_of_use definitions u)) n ≡ Some true → ⊥
+  not_so n yes = not_this (questions u.role (meaning_of_use definitions u)) n settled yes
+
   no_other_constant_type : (s : Violation) → IsOtherConstantType (meaning_of_use definitions u) u s → ⊥
   no_other_constant_type s h = differs (is_constant_role u.role) h.0.0 no_constant
-
-  no_copied_attribute : (s : Violation) → IsCopiedAttribute (meaning_of_use definitions u) u s → ⊥
-  no_copied_attribute s h = settled.copied h.0.0 h.0.1
 
   no_undefined_inside : (s : Violation) → IsUndefinedInside u s → ⊥
   no_undefined_inside s h = undefined_taken definitions u.role word.form word.settled (subst (λ t. is_undefined_word t ≡ true) word.is h.0.0) (subst (λ t. (not (takes_undefined u.role) || has_question t) ≡ true) word.is h.0.1)
 
-  no_wrongly_nullable : (s : Violation) → IsWronglyNullable (meaning_of_use definitions u) u s → ⊥
-  no_wrongly_nullable s h = differs (is_wrongly_nullable (meaning_of_use definitions u)) h.0 settled.wrongly_nullable
-
   of_no_union : (P : TypeTerms → Type 0) (s : Violation) → OfUnion P (meaning_of_use definitions u) u s → ⊥
   of_no_union P s h = differs (is_union_form word.form) (subst (λ t. is_written_union t ≡ true) word.is h.0.0) (no_union definitions u.role word.form word.settled)
-
-  no_annotated_member : (s : Violation) → IsAnnotatedMember (meaning_of_use definitions u) u s → ⊥
-  no_annotated_member s h = differs (is_annotated (meaning_of_use definitions u)) h.0.1 settled.annotated
-
-  no_nullable_dictionary : (s : Violation) → IsNullableDictionary (meaning_of_use definitions u) u s → ⊥
-  no_nullable_dictionary s h = differs (is_nullable_dictionary (meaning_of_use definitions u)) h.0.1 settled.nullable_dictionary
 
   no_misplaced_annotation : (s : Violation) → HasMisplacedAnnotation (meaning_of_use definitions u) u s → ⊥
   no_misplaced_annotation s h = nothing_listed u.attributes h.item no_attributes h.listed
@@ -192,13 +186,13 @@ module _ (definitions : List PlainDefinition) (u : TypeUse) (e : is_settled defi
   -- it breaks no rule on types
   pub no_type_rule : (ifaces : List IfaceTerm) (which : ValidityRule) (s : Violation) → BreaksUse ifaces definitions which u s → ⊥
   no_type_rule ifaces rule.OtherConstantType = no_other_constant_type
-  no_type_rule ifaces rule.CopiedAttribute = no_copied_attribute
+  no_type_rule ifaces rule.CopiedAttribute = λ s h. not_so 0 (ap Some (both_are _ _ h.0.1 h.0.0))
   no_type_rule ifaces rule.UndefinedInside = no_undefined_inside
-  no_type_rule ifaces rule.WronglyNullable = no_wrongly_nullable
+  no_type_rule ifaces rule.WronglyNullable = λ s h. not_so 1 (ap Some h.0)
   no_type_rule ifaces rule.SeveralNullableMembers = of_no_union HaveSeveralNullable
   no_type_rule ifaces rule.NullableBesideDictionary = of_no_union HaveNullableAndDictionary
-  no_type_rule ifaces rule.AnnotatedUnionMember = no_annotated_member
-  no_type_rule ifaces rule.NullableDictionary = no_nullable_dictionary
+  no_type_rule ifaces rule.AnnotatedUnionMember = λ s h. not_so 2 (ap Some h.0.1)
+  no_type_rule ifaces rule.NullableDictionary = λ s h. not_so 3 (ap Some h.0.1)
   no_type_rule ifaces rule.MisplacedAnnotation = no_misplaced_annotation
   no_type_rule ifaces rule.ClampAndEnforceRange = no_clamp_and_enforce
   no_type_rule ifaces rule.IndistinguishableUnionMembers = of_no_union (HaveIndistinguishableMembers ifaces)

@@ -3,11 +3,11 @@
 ghost use Rattle.std.specs.Prelude.{◌≡◌, ◌++◌, map, IfOk};
 ghost use Rattle.widl_idl.specs.PlainTrees.{plain_definitions};
 ghost use Rattle.widl_idl.specs.PlainTypes.{attribute_of, form_term, type_of};
-ghost use Rattle.widl_overload.specs.rules.TypeRules.{is_constant_role, takes_undefined};
 ghost use Rattle.widl_type_rules.specs.SettledUses.{are_none, is_settled, is_settled_form, is_settled_kind, is_settled_type};
 ghost use Rattle.widl_overload.specs.rules.OnTypes.{with_meaning};
 ghost use Rattle.widl_type_rules.specs.UsesListed.{resolved_use, use_of};
 
+use crate::role_rules::{is_attribute_role, is_constant_role, takes_undefined};
 use crate::type_uses::TypeUse;
 use std::alloc::{AllocError, Global};
 use widl_idl::tree::{ExtendedAttribute, TypeForm, WrittenType};
@@ -29,7 +29,7 @@ pub struct ResolvedUse<'a> {
 pub fn is_settled(meanings: &Meanings<'_, '_>, written: &TypeUse<'_>) -> bool
     ensures { result ≡ is_settled (plain_definitions meanings.now) (use_of written.now) }
 {
-    !is_constant(written.role)
+    !is_constant_role(written.role)
         && are_none(written.outer, written.own)
         && is_settled_type(meanings, written.role, written.ty)
 }
@@ -43,12 +43,6 @@ fn are_none(outer: &[ExtendedAttribute], own: &[ExtendedAttribute]) -> bool
     } else {
         false
     }
-}
-
-fn is_constant(role: TypeRole) -> bool
-    ensures { result ≡ is_constant_role role }
-{
-    matches!(role, TypeRole::Constant)
 }
 
 fn is_settled_type(meanings: &Meanings<'_, '_>, role: TypeRole, ty: &WrittenType) -> bool
@@ -88,15 +82,9 @@ fn is_settled_kind(role: TypeRole, kind: Option<Kind>) -> bool
 {
     match kind {
         None | Some(Kind::Typedef) => false,
-        Some(Kind::Dictionary) => !matches!(role, TypeRole::Attribute),
+        Some(Kind::Dictionary) => !is_attribute_role(role),
         Some(_) => true,
     }
-}
-
-fn takes_undefined(role: TypeRole) -> bool
-    ensures { result ≡ takes_undefined role }
-{
-    matches!(role, TypeRole::Returned | TypeRole::Promised)
 }
 
 /// A type with what it means.

@@ -25,7 +25,8 @@ pub fn other_constant_type(ty: &ResolvedUse<'_>) -> Option<Violation>
     }
 }
 
-fn is_constant_role(role: TypeRole) -> bool
+/// Whether a type is that of a constant.
+pub fn is_constant_role(role: TypeRole) -> bool
     ensures { result ≡ is_constant_role role }
 {
     matches!(role, TypeRole::Constant)
@@ -48,7 +49,8 @@ pub fn copied_attribute(ty: &ResolvedUse<'_>) -> Option<Violation>
     }
 }
 
-fn is_attribute_role(role: TypeRole) -> bool
+/// Whether a type is that of an attribute.
+pub fn is_attribute_role(role: TypeRole) -> bool
     ensures { result ≡ is_attribute_role role }
 {
     matches!(role, TypeRole::Attribute)
@@ -74,7 +76,8 @@ fn is_undefined(form: &TypeForm) -> bool
     matches!(form, TypeForm::Undefined)
 }
 
-fn takes_undefined(role: TypeRole) -> bool
+/// Whether `undefined` may be the whole type.
+pub fn takes_undefined(role: TypeRole) -> bool
     ensures { result ≡ takes_undefined role }
 {
     matches!(role, TypeRole::Returned | TypeRole::Promised)
