@@ -56,8 +56,8 @@ impl<'d, 'a> Parts<'d, 'a> {
         ensures { IfOk result (λ parts. parts ≡ meanings.now) }
     {
         let definitions = meanings.all();
-        let partials = group_partials(alloc, meanings, definitions)?;
-        let mixins = group_mixins(alloc, meanings, definitions)?;
+        let partials = group_partials(alloc, meanings)?;
+        let mixins = group_mixins(alloc, meanings)?;
         Ok(Parts {
             definitions,
             partials,
@@ -163,11 +163,10 @@ pub fn group_at<T>(groups: &[Items<T>], number: usize) -> &[T]
 fn group_partials<'a>(
     alloc: Global,
     meanings: &Meanings<'_, 'a>,
-    definitions: &[&'a Definition],
 ) -> Result<Vec<Items<&'a DefinitionKind>>, AllocError>
-    requires { map (λ d. d.now) definitions.now ≡ meanings.now }
     ensures { IfOk result (λ groups. PartialsGrouped groups.items (plain_definitions meanings.now)) }
 {
+    let definitions = meanings.all();
     let mut groups = no_groups(alloc, definitions.len())?;
     for definition in definitions {
         add_partial(meanings, &mut groups, &definition.kind)?;
@@ -176,14 +175,10 @@ fn group_partials<'a>(
 }
 
 /// The mixins of each interface.
-fn group_mixins(
-    alloc: Global,
-    meanings: &Meanings,
-    definitions: &[&Definition],
-) -> Result<Vec<Items<usize>>, AllocError>
-    requires { map (λ d. d.now) definitions.now ≡ meanings.now }
+fn group_mixins(alloc: Global, meanings: &Meanings) -> Result<Vec<Items<usize>>, AllocError>
     ensures { IfOk result (λ groups. MixinsGrouped groups.items (plain_definitions meanings.now)) }
 {
+    let definitions = meanings.all();
     let mut groups = no_groups(alloc, definitions.len())?;
     for definition in definitions {
         add_mixin(meanings, &mut groups, &definition.kind)?;
