@@ -8,7 +8,7 @@ use Rattle.widl_dialog.specs.Dialog.{End, Steps}
 use Rattle.widl_idl.specs.declared.callee.Callee.{Callee}
 use Rattle.widl_idl.specs.DefinitionTerms.{DefsTerm, SigTerm}
 use Rattle.widl_overload.specs.sets.Entries.{declared_args, entry_for, overloads_of}
-use Rattle.widl_overload.specs.sets.Sets.{TupleTerm}
+use Rattle.widl_overload.specs.sets.Sets.{TupleTerm, longest}
 use Rattle.widl_value.specs.Classes.{class_of}
 use Rattle.widl_value.specs.declared.class.Class.{Class}
 use Rattle.widl_value.specs.declared.value.Value.{Value}
@@ -16,7 +16,7 @@ use Rattle.widl_value.specs.IdlTerms.{IdlTerm}
 use Rattle.widl_tables.specs.declared.kept_type.Kept.{Kept}
 use Rattle.widl_tables.specs.declared.pick.Pick.{Pick}
 use Rattle.widl_tables.specs.declared.pick.Pick.TheVariants.{Entry, Probe, Refuse}
-use Rattle.widl_tables.specs.Kept.{argcount_of, entries_for, entries_of, entry_alone, kept_tuples, longest, numbers_of, telling_place, choosing_place}
+use Rattle.widl_tables.specs.Kept.{argcount_of, entries_for, entries_of, entry_alone, kept_tuples, numbers_of, telling_place, choosing_place}
 use Rattle.widl_tables.specs.Picks.{pick_kept, pick_of}
 use Rattle.widl_tables.specs.EntriesByNumber.{has_entry}
 use Rattle.widl_tables.proofs.Entries.{number_of_entry, numbers_more}

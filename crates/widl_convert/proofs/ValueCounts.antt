@@ -14,7 +14,7 @@ use Rattle.widl_idl.specs.declared.text_kind.TextKind.TheVariants as texts
 use Rattle.widl_idl.specs.DefinitionTerms.{DefsTerm, ArgTerm, SigTerm}
 use Rattle.widl_idl.specs.Terms.{TypeTerm, IntegerType, StringType, EnumerationType, ObjectType, TypeTerms, AnyType, SequenceType, RecordType, DictionaryType, NullableType, UnionType}
 use Rattle.widl_overload.specs.sets.Entries.{declared_args, is_variadic_list, optionality_at, overloads_of, type_at}
-use Rattle.widl_overload.specs.sets.Sets.{TupleTerm, is_variadic}
+use Rattle.widl_overload.specs.sets.Sets.{TupleTerm, is_variadic, longest}
 use Rattle.widl_value.specs.Classes.{class_of}
 use Rattle.widl_value.specs.declared.number.Number.{Number}
 use Rattle.widl_value.specs.declared.object.ObjRef.{ObjRef}
@@ -35,7 +35,7 @@ use Rattle.widl_trace.specs.declared.code.Code.{Code}
 use Rattle.widl_trace.specs.declared.code.Code.TheVariants as code
 use Rattle.widl_tables.specs.declared.pick.Pick.{Pick}
 use Rattle.widl_tables.specs.declared.pick.Pick.TheVariants.{Entry, Probe, Refuse}
-use Rattle.widl_tables.specs.Kept.{argcount_of, counted_args, entry_alone, kept_tuples, longest}
+use Rattle.widl_tables.specs.Kept.{argcount_of, counted_args, entry_alone, kept_tuples}
 use Rattle.widl_tables.specs.Picks.{pick_of, pick_member_of}
 use Rattle.widl_convert.specs.declared.hint.Hint.{Hint}
 use Rattle.widl_convert.specs.declared.hint.Hint.TheVariants.{PrefersNumber, PrefersString}

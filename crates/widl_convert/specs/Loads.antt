@@ -7,7 +7,7 @@ use Rattle.widl_value.specs.declared.value.Value.{Value}
 use Rattle.widl_value.specs.declared.value.Value.TheVariants as values
 use Rattle.widl_value.specs.IdlTerms.{IdlTerm, IdlTerms, EntryTerms, MemberTerms, UndefinedValue, NullValue, MissingValue, BooleanValue, IntegerValue, StringValue, EnumerationValue, ObjectValue, AnyValue, SequenceValue, RecordValue, DictionaryValue, PromiseValue, no_values, more_values, no_entries, more_entries, no_members, more_members, idl_terms, member_terms, packed_entries, packed_members}
 use Rattle.widl_overload.specs.sets.Entries.{declared_args, overloads_of}
-use Rattle.widl_tables.specs.Kept.{longest}
+use Rattle.widl_overload.specs.sets.Sets.{longest}
 use Rattle.widl_convert.specs.declared.frames.Frame.{Frame}
 use Rattle.widl_convert.specs.declared.frames.Frame.TheVariants as frames
 use Rattle.widl_convert.specs.declared.frames.IdlFrame.{IdlFrame}

@@ -11,15 +11,9 @@ use Rattle.widl_overload.specs.rules.DefaultRules.{has_value}
 use Rattle.widl_fits.specs.ChoiceValues.{KeepValues, has_text, holds, is_kept}
 use Rattle.widl_fits.specs.declared.choice_values.ChoiceValues.{ChoiceValues}
 
-or_turned : (a b : Bool) → cond a true b ≡ (b || a)
-or_turned true true = refl
-or_turned true false = refl
-or_turned false true = refl
-or_turned false false = refl
-
 -- the texts of a set with one text more
 pub text_added : {S : Type 0} (old new : IndexSet (Bor (List ℕ)) S) (text other : List ℕ) → contains_by (λ k. bytes_eq other k.now) new ≡ cond (bytes_eq text other) true (contains_by (λ k. bytes_eq other k.now) old) → has_text new other ≡ (has_text old other || bytes_eq text other)
-text_added old new text other e = e ∙ or_turned (bytes_eq text other) (has_text old other)
+text_added old new text other e = grind (arith, e)
 
 -- the longest of the values, one more of them
 pub longest_more : (values : List (List ℕ)) (i : ℕ) (value : List ℕ) (longest now : ℕ) → i < length values → value ≡ get_or values i value → now ≡ max longest (length value)

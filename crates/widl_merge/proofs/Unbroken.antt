@@ -10,7 +10,6 @@ use Rattle.widl_idl.specs.declared.kind.Kind.TheVariants as kinds
 use Rattle.widl_idl.specs.declared.merging_rule.MergingRule.{MergingRule}
 use Rattle.widl_idl.specs.declared.merging_rule.MergingRule.TheVariants as rule
 use Rattle.widl_idl.specs.declared.profile_rule.ProfileRule.{ProfileRule}
-use Rattle.widl_idl.specs.declared.profile_rule.ProfileRule.TheVariants as unsupported
 use Rattle.widl_idl.specs.declared.refusal.Refusal.{Refusal}
 use Rattle.widl_idl.specs.First.{AtOne, violation_at}
 use Rattle.widl_idl.specs.FirstRefusal.{FirstBroken, refusal_at}
@@ -28,6 +27,7 @@ use Rattle.widl_merge.specs.MergedDefs.{AreMerged, BreakNone}
 use Rattle.widl_merge.specs.Refusals.{IsRefusal, IsRefusalAfter}
 use Rattle.widl_merge.proofs.MemberTotals.{interface_few, namespace_few}
 use Rattle.widl_merge.proofs.NumberedLists.{numbered_list, own_text}
+use Rattle.widl_merge.proofs.Unsupported.{every_rule}
 
 -- a name of which the first definitions have none means the next one that has it
 first_meant : (k : ℕ) (definitions : List PlainDefinition) (n : ℕ) (d : PlainDefinition) (text : List ℕ) → slice_get definitions n ≡ Some d → is_text_of text (main_name d.kind) ≡ true → is_some (meaning_from k (take n definitions) text) ≡ false → meaning_from k definitions text ≡ Some (k + n)
@@ -116,21 +116,6 @@ means_itself all n kind kept there = by_case (slice_get all n) refl there
     by_case None is e = absurd (cc)
     by_case (Some d) is e = subst (MeansItself all n) (some_is e) (record { itself = it_itself all kept n d is; parent = its_parent all kept n d is })
 
-profile_listed : (r : ProfileRule) → Contains profile_rules r
-profile_listed unsupported.FloatingPoint = (0, omega arith, refl)
-profile_listed unsupported.BigInt = (1, omega arith, refl)
-profile_listed unsupported.Buffer = (2, omega arith, refl)
-profile_listed unsupported.Symbol = (3, omega arith, refl)
-profile_listed unsupported.Asynchronous = (4, omega arith, refl)
-profile_listed unsupported.ObservableArray = (5, omega arith, refl)
-profile_listed unsupported.MapOrSet = (6, omega arith, refl)
-profile_listed unsupported.ValueIterable = (7, omega arith, refl)
-profile_listed unsupported.SpecialOperation = (8, omega arith, refl)
-profile_listed unsupported.InheritedAttribute = (9, omega arith, refl)
-profile_listed unsupported.CallbackInterfaceConstant = (10, omega arith, refl)
-profile_listed unsupported.UnlistedAttribute = (11, omega arith, refl)
-profile_listed unsupported.FrozenArray = (12, omega arith, refl)
-
 merging_listed : (r : MergingRule) → Contains merging_rules r
 merging_listed rule.SecondDefinition = (0, omega arith, refl)
 merging_listed rule.ReservedName = (1, omega arith, refl)
@@ -178,6 +163,6 @@ breaks_none all none = by_profile none.profile none.profile_is none.after
     by_profile : (found : Option Refusal) → FirstBroken profile_number (BreaksProfile all) profile_rules found → IsRefusalAfter all found None → BreakNone all
     by_profile (Some first) is after = absurd (cc)
     by_profile None is after = record {
-      profile = λ r s broken. is (refusal_at (profile_number r) s) (record { which = r; listed = profile_listed r; numbered = refl; breaks = broken });
+      profile = λ r s broken. is (refusal_at (profile_number r) s) (record { which = r; listed = every_rule r; numbered = refl; breaks = broken });
       merging = λ r s broken. after (refusal_at (merging_number r) s) (record { which = r; listed = merging_listed r; numbered = refl; breaks = broken });
     }

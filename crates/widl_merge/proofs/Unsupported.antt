@@ -18,7 +18,7 @@ use Rattle.widl_merge.specs.Refusals.{join_form}
 use Rattle.widl_names.specs.Listings.{node_of, nodes_listed}
 
 -- each rule is one of the rules
-every_rule : (rule : ProfileRule) → Contains profile_rules rule
+pub every_rule : (rule : ProfileRule) → Contains profile_rules rule
 every_rule unsupported.FloatingPoint = (0, omega arith, refl)
 every_rule unsupported.BigInt = (1, omega arith, refl)
 every_rule unsupported.Buffer = (2, omega arith, refl)

@@ -56,7 +56,7 @@ impl<'d, 'a> DictionaryParts<'d, 'a> {
         ensures { IfOk result (λ parts. parts ≡ meanings.now) }
     {
         let definitions = meanings.all();
-        let partials = group_dictionaries(alloc, meanings, definitions)?;
+        let partials = group_dictionaries(alloc, meanings)?;
         Ok(DictionaryParts {
             definitions,
             partials,
@@ -136,11 +136,10 @@ fn dictionary_members_in(part: &DefinitionKind) -> &[DictionaryMember]
 fn group_dictionaries<'a>(
     alloc: Global,
     meanings: &Meanings<'_, 'a>,
-    definitions: &[&'a Definition],
 ) -> Result<Vec<Items<&'a DefinitionKind>>, AllocError>
-    requires { map (λ d. d.now) definitions.now ≡ meanings.now }
     ensures { IfOk result (λ groups. DictionariesGrouped groups.items (plain_definitions meanings.now)) }
 {
+    let definitions = meanings.all();
     let mut groups = no_groups(alloc, definitions.len())?;
     for definition in definitions {
         add_dictionary(meanings, &mut groups, &definition.kind)?;

@@ -1,6 +1,6 @@
 -- Lists of definitions as plain terms.
-use Rattle.std.proofs.Common.{◌≡◌, ℕ, ◌+◌, ◌<◌, ◌++◌, List, [], ◌∷◌, length, take, map, get_or, slice_get, option_map, Some, refl, sym, ap, ◌∙◌, Bor}
-use Rattle.std.proofs.lemmas.List.{take_more, map-append}
+use Rattle.std.proofs.Common.{◌≡◌, ℕ, ◌+◌, ◌<◌, ◌^◌, ◌++◌, List, [], ◌∷◌, length, take, map, get_or, slice_get, option_map, Some, arith, refl, sym, ap, ◌∙◌, Bor}
+use Rattle.std.proofs.lemmas.List.{length-map, take_more, map-append}
 use Rattle.widl_idl.specs.declared.tree.definitions.Definition.{Definition}
 use Rattle.std.proofs.lemmas.Option.{slice_get-map, slice_get_read}
 use Rattle.widl_idl.specs.PlainTrees.{PlainDefinition, definition_of, plain_definitions}
@@ -13,6 +13,14 @@ listed_twice (d ∷ list) = ap (λ ds. definition_of d.now ∷ ds) (listed_twice
 
 pub listed_same : (list : List (Bor Definition)) (definitions : List Definition) → map (λ d. d.now) list ≡ definitions → listed_definitions list ≡ plain_definitions definitions
 listed_same list definitions e = listed_twice list ∙ ap plain_definitions e
+
+-- the scope of files has their definitions
+pub scope_declares : (list items : List (Bor Definition)) (declared : List PlainDefinition) (scope : List Definition) → list ≡ items → listed_definitions items ≡ declared → scope ≡ map (λ d. d.now) list → plain_definitions scope ≡ declared
+scope_declares list items declared scope same listed is = sym (listed_same list scope (sym is)) ∙ ap listed_definitions same ∙ listed
+
+-- a list of what is seen as few items is short
+pub short_list : {X Y : Type 0} (f : X → Y) (list items : List X) (seen : List Y) → list ≡ items → map f items ≡ seen → length seen < 2 ^ 32 → length list < 2 ^ 32
+short_list f list items seen same is few = let size = length-map list f in let sizes = ap length (ap (map f) same ∙ is) in omega (arith, size, sizes, few)
 
 -- the list up to the next definition
 pub listed_more : (list : List (Bor Definition)) (i : ℕ) (d : Bor Definition) → i < length list → d ≡ get_or list i d → listed_definitions (take (i + 1) list) ≡ listed_definitions (take i list) ++ definition_of d.now ∷ []

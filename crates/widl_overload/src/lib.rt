@@ -38,7 +38,7 @@ pub use inheritance::inherits;
 pub use operations_alone::has_operations_alone;
 pub use overload_rules::first_overload_violations;
 pub use overload_violations::OverloadViolations;
-pub use sets::{all_free, effective_set, effective_set_is_as_constructed, is_free};
+pub use sets::{all_free, effective_set, effective_set_is_as_constructed, is_free, longest_list};
 pub use standing::{Standing, standing_in, type_at};
 pub use tuple::{OverloadSet, Tuple};
 pub use type_role::TypeRole;

@@ -74,10 +74,9 @@ fn greatest_length(sigs: &[Sig], n: u32) -> usize
 }
 
 /// The length of the longest list of arguments.
-pub(crate) fn longest_list(sigs: &[Sig]) -> usize
-    requires { AreNumbered (map sig_term sigs.now) }
+pub fn longest_list(sigs: &[Sig]) -> usize
     ensures is { result ≡ longest (map sig_term sigs.now) }
-    ensures few { result < 4294967296 }
+    ensures few { AreNumbered (map sig_term sigs.now) → result < 4294967296 }
 {
     let mut most = 0usize;
     for sig in sigs {

@@ -1,20 +1,16 @@
 -- The entries of a callee's effective overload set that a number of arguments keeps, and the argument that tells them apart.
 -- Source: Web IDL, "compute the effective overload set"; "distinguishing argument index"; "overload resolution algorithm", steps 1 to 8.
-use Rattle.std.specs.Prelude.{ℕ, ◌+◌, min, max, zero, suc, List, [], ◌∷◌, length, filter, map, nat_lt, nat_eq, if◌then◌else◌, Bool, Option, None, Some}
+use Rattle.std.specs.Prelude.{ℕ, ◌+◌, min, zero, suc, List, [], ◌∷◌, length, filter, map, nat_lt, nat_eq, if◌then◌else◌, Bool, Option, None, Some}
 use Rattle.std.specs.List.{list_any}
 use Rattle.widl_idl.specs.declared.callee.Callee.{Callee}
 use Rattle.widl_idl.specs.DefinitionTerms.{DefsTerm, SigTerm, IfaceTerm}
 use Rattle.widl_overload.specs.sets.Entries.{declared_args, entry_for, entry_of, is_variadic_list, overloads_of}
 use Rattle.widl_overload.specs.sets.Index.{apart_at, each_two}
 use Rattle.widl_overload.specs.sets.Inheritance.{inherits}
-use Rattle.widl_overload.specs.sets.Sets.{TupleTerm, with_tuple}
+use Rattle.widl_overload.specs.sets.Sets.{TupleTerm, longest, with_tuple}
 
 -- 1. How many arguments count: as many as the longest type list of the set has, at most. With a variadic overload the set for n
 -- arguments has type lists of length n at least.
-
-abbrev pub longest : List SigTerm → ℕ
-longest [] = 0
-longest (s ∷ sigs) = max (length s.args) (longest sigs)
 
 abbrev pub counted_args : List SigTerm → ℕ → ℕ
 counted_args sigs n = if list_any (λ (s : SigTerm). is_variadic_list s.args) sigs then n else min n (longest sigs)

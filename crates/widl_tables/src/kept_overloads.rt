@@ -5,14 +5,14 @@ ghost use Rattle.std.specs.List.{list_any};
 ghost use Rattle.widl_idl.specs.DefinitionTerms.{arg_term, defs_term, sig_term};
 ghost use Rattle.widl_overload.specs.sets.Entries.{entry_of, is_variadic_list, optionalities_of, overloads_of};
 ghost use Rattle.widl_overload.specs.sets.Sets.{are_free};
-ghost use Rattle.widl_tables.specs.Kept.{argcount_of, choosing_place as choosing_place_of, counted_args, entries_for, entries_of, kept_tuples, longest as longest_of, numbers_of};
+ghost use Rattle.widl_tables.specs.Kept.{argcount_of, choosing_place as choosing_place_of, counted_args, entries_for, entries_of, kept_tuples, numbers_of};
 ghost use Rattle.widl_tables.specs.EntriesByNumber.{has_entry as has_entry_of};
 
 use crate::kept_type::Kept;
 use crate::telling::choosing_place;
 use std::alloc::{AllocError, Global};
 use widl_idl::{Arg, Callee, Defs, Optionality, Sig};
-use widl_overload::{all_free, overload_list};
+use widl_overload::{all_free, longest_list, overload_list};
 use widl_text::Items;
 
 /// The overloads of a callee that `args` arguments keep, with the place that tells them apart: the entries
@@ -52,7 +52,7 @@ fn counted(sigs: &[Sig], args: u32) -> u32
     if any_variadic(sigs) {
         args
     } else {
-        lesser(args, longest(sigs))
+        lesser(args, longest_list(sigs))
     }
 }
 
@@ -86,17 +86,6 @@ fn is_variadic(args: &[Arg]) -> bool
         None => false,
         Some(arg) => arg.opt == Optionality::Variadic,
     }
-}
-
-/// The length of the longest list of arguments.
-fn longest(sigs: &[Sig]) -> usize
-    ensures { result ≡ longest_of (map sig_term sigs.now) }
-{
-    let mut most = 0usize;
-    for sig in sigs {
-        most = most.max(sig.args.len());
-    }
-    most
 }
 
 /// The numbers of the overloads that have an entry of a length.

@@ -2,38 +2,18 @@
 -- Source: Web IDL, "compute the effective overload set".
 use Rattle.std.specs.Prelude.{ℕ, ◌-◌, ◌++◌, Bool, List, [], length, take, drop, replicate, map, slice_get, nat_lt, if◌then◌else◌, Option, None, Some}
 use Rattle.std.specs.List.{list_any}
-use Rattle.std.specs.Option.{option_map_or}
+use Rattle.std.specs.Option.{option_map_or, unwrap_or}
 use Rattle.widl_idl.specs.declared.argument.Optionality.{Optionality}
 use Rattle.widl_idl.specs.declared.argument.Optionality.TheVariants.{Required, Variadic}
 use Rattle.widl_idl.specs.declared.callee.Callee.{Callee}
-use Rattle.widl_idl.specs.declared.callee.Owner.{Owner}
-use Rattle.widl_idl.specs.declared.callee.Owner.TheVariants as owners
-use Rattle.widl_idl.specs.declared.callee.Part.{Part}
-use Rattle.widl_idl.specs.declared.callee.Part.TheVariants as parts
-use Rattle.widl_idl.specs.DefinitionTerms.{DefsTerm, ArgTerm, SigTerm, OpNameTerm, MembersTerm, IfaceTerm, SpaceTerm}
+use Rattle.widl_idl.specs.DefinitionTerms.{DefsTerm, ArgTerm, SigTerm}
 use Rattle.widl_idl.specs.Terms.{TypeTerm, AnyType}
-use Rattle.widl_overload.specs.sets.Sets.{TupleTerm, are_free, is_variadic}
+use Rattle.widl_overload.specs.sets.Sets.{TupleTerm, are_free, is_variadic, overloads_of as overloads_if_any}
 
 -- 1. The overloads of a callee: of an operation name or of constructors. Anything else has none.
 
-abbrev pub overloads_named : MembersTerm → ℕ → List SigTerm
-overloads_named members n = option_map_or (λ (o : OpNameTerm). o.sigs) (slice_get members.ops n) []
-
-abbrev pub interface_overloads : Part → IfaceTerm → List SigTerm
-interface_overloads (parts.Op n) i = overloads_named i.members n
-interface_overloads parts.Constructor i = i.ctors
-interface_overloads _ i = []
-
-abbrev pub namespace_overloads : Part → SpaceTerm → List SigTerm
-namespace_overloads (parts.Op n) s = overloads_named s.members n
-namespace_overloads _ s = []
-
-abbrev pub owned_overloads : DefsTerm → Part → Owner → List SigTerm
-owned_overloads list part (owners.Iface n) = option_map_or (interface_overloads part) (slice_get list.ifaces n) []
-owned_overloads list part (owners.Space n) = option_map_or (namespace_overloads part) (slice_get list.spaces n) []
-
 abbrev pub overloads_of : DefsTerm → Callee → List SigTerm
-overloads_of list callee = owned_overloads list callee.part callee.owner
+overloads_of list callee = unwrap_or (overloads_if_any list callee) []
 
 -- the arguments that an overload declares
 abbrev pub declared_args : DefsTerm → Callee → ℕ → List ArgTerm

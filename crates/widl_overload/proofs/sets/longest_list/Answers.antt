@@ -14,6 +14,5 @@ loop-sig-preserved c =
     let below : i < length sigs = omega (arith, length-map c.args.sigs.now sig_term) in
     let is = item_term sig_term c.args.sigs.now i c.sig-item.result (omega arith) c.sig-item.is in
     let size : length s.args ≡ length c.sig-item.result.args = length-map c.sig-item.result.args arg_term in
-    let few : length s.args < 4294967296 = args_few sigs i s c.requires below is in
     let more : longest (take (i + 1) sigs) ≡ max (longest (take i sigs)) (length s.args) = longest_more sigs i s below is in
-    (omega arith, omega arith)
+    (omega arith, λ numbered. let few : length s.args < 4294967296 = args_few sigs i s numbered below is in let before = c.loop-sig.invariant.1 numbered in omega arith)
