@@ -9,9 +9,8 @@ ghost use Rattle.widl_idl.specs.Nodes.{MemberNode};
 ghost use Rattle.widl_overload.specs.rules.TypeRules.{HasOtherValue, takes_value};
 
 use std::alloc::{AllocError, Global};
-use widl_fits::is_in_range;
 use widl_idl::tree::{Constant, LiteralValue};
-use widl_idl::{IdlType, Violation};
+use widl_idl::{IdlType, Violation, is_in_range};
 use widl_names::{MOST_TYPES, Resolver};
 use widl_text::integer_of;
 
