@@ -1,6 +1,8 @@
 -- A script has at most one first break.
 use Rattle.std.proofs.Common.{◌≡◌, ℕ, zero, suc, ◌+◌, ◌<◌, ◌≤◌, List, [], ◌∷◌, ◌++◌, length, take, Option, Some, None, refl, sym, ◌∙◌, ap, subst, arith, append_assoc, append-nil, inl, inr}
+use Rattle.std.proofs.lemmas.Bool.{cases_order}
 use Rattle.std.specs.Prelude.{IsUtf8, Result, Ok, Err, IfErr, OnOk, IsOkUnless}
+use Rattle.widl_first.specs.Keys.{IsFirst}
 use Rattle.widl_lex.specs.Utf8.{IsUtf8Fault, BeginsUtf8}
 use Rattle.widl_lines.specs.declared.blocks.Block.{Block}
 use Rattle.widl_lines.specs.declared.line_break.LineBreak.{LineBreak}
@@ -9,9 +11,9 @@ use Rattle.widl_lines.specs.declared.script_place.ScriptFault.{ScriptFault}
 use Rattle.widl_lines.specs.declared.script_place.ScriptFault.TheVariants.{Refused, Memory}
 use Rattle.widl_lines.specs.Refusals.{IsRefusal, IsErrWith}
 use Rattle.widl_lines.specs.Blocks.{blocks_after}
-use Rattle.widl_lines.specs.Breaks.{Breaks, IsFirst, LineBreaks}
+use Rattle.widl_lines.specs.Breaks.{Breaks, LineBreaks, break_key}
 use Rattle.widl_lines.specs.TextBreaks.{Line, place_in, TextBreak, here, later, unclosed, closed, ScriptBreak, not_utf8, in_lines, utf8_place}
-use Rattle.widl_lines.proofs.BreakOrder.{one_first, order, Order, less, same, more}
+use Rattle.widl_lines.proofs.BreakOrder.{one_first}
 
 nothing : (k : ℕ) → take {A = ℕ} k [] ≡ []
 nothing zero = refl
@@ -37,22 +39,16 @@ not_before : (text : List ℕ) (j k : ℕ) → IsUtf8Fault text j → IsUtf8Faul
 not_before text j k a b lt = a.fault (omega (arith, lt, b.within)) (begins_less text (j + 1) k (omega (arith, lt)) b.before)
 
 one_fault : (text : List ℕ) (j k : ℕ) → IsUtf8Fault text j → IsUtf8Fault text k → j ≡ k
-one_fault text j k a b = by (order j k)
-  where
-    by : Order j k → j ≡ k
-    by (less x) = absurd (not_before text j k a b x)
-    by (same x) = x
-    by (more x) = absurd (not_before text k j b a x)
+one_fault text j k a b = elim (cases_order j k) [ inl same ↦ same | inr (inl below) ↦ absurd (not_before text j k a b below) | inr (inr above) ↦ absurd (not_before text k j b a above) ]
 
 no_fault : (text : List ℕ) (k : ℕ) → IsUtf8 text → IsUtf8Fault text k → ⊥
-no_fault text k utf8 f = by (order k (length text))
-  where
-    by : Order k (length text) → ⊥
-    by (less x) = f.fault x (begins_less text (k + 1) (length text) (omega (arith, x)) ([], subst IsUtf8 (sym (append-nil (take (length text) text) ∙ take_all text)) utf8))
-    by (same x) = f.at_end x utf8
-    by (more x) = let le : k ≤ length text = f.within in omega (arith, x, le)
+no_fault text k utf8 f = elim (cases_order k (length text)) [
+    | inl end ↦ f.at_end end utf8
+    | inr (inl below) ↦ f.fault below (begins_less text (k + 1) (length text) (omega (arith, below)) ([], subst IsUtf8 (sym (append-nil (take (length text) text) ∙ take_all text)) utf8))
+    | inr (inr above) ↦ (let within : k ≤ length text = f.within in omega (arith, above, within))
+  ]
 
-as_first : (blocks : List Block) (line : Line) (found : Option LineBreak) → LineBreaks blocks line.words found → IsFirst (Breaks blocks line.words) found
+as_first : (blocks : List Block) (line : Line) (found : Option LineBreak) → LineBreaks blocks line.words found → IsFirst break_key (Breaks blocks line.words) found
 as_first blocks line None h = h.0
 as_first blocks line (Some b) h = h
 

@@ -1,5 +1,6 @@
 -- The first rule that a line breaks, among open blocks.
-use Rattle.std.specs.Prelude.{◌≡◌, ℕ, ◌<◌, ◌≤◌, ◌⊎◌, ◌||◌, ◌&&◌, nat_lt, nat_eq, if◌then◌else◌, List, length, map, get_or, Bool, true, false, Option, Some, None}
+use Rattle.std.specs.Prelude.{◌≡◌, ℕ, ◌<◌, ◌≤◌, ◌⊎◌, List, [], ◌∷◌, length, map, get_or, Bool, true, false, Option, Some, None}
+use Rattle.widl_first.specs.Keys.{IsFirst}
 use Rattle.widl_predictive.specs.Grammar.{SyntaxPlace, DeepPlace, IsAccepted}
 use Rattle.widl_lines.specs.declared.grammar.Terminal.{Terminal}
 use Rattle.widl_lines.specs.declared.grammar.Rule.{Rule}
@@ -45,24 +46,13 @@ abbrev pub Breaks : List Block → List Lexeme → LineBreak → Type 0
 Breaks blocks words b = BreaksAt blocks words b.rule b.word
 
 -- by word, then rule
-abbrev pub no_later : LineBreak → LineBreak → Bool
-no_later a b = nat_lt a.word b.word || (nat_eq a.word b.word && (nat_lt (number a.rule) (number b.rule) || nat_eq (number a.rule) (number b.rule)))
-
--- the first of two
-abbrev pub first_of : Option LineBreak → Option LineBreak → Option LineBreak
-first_of None b = b
-first_of (Some a) None = Some a
-first_of (Some a) (Some b) = if no_later a b then Some a else Some b
-
--- the first of the breaks, or none where there is none
-abbrev pub IsFirst : (LineBreak → Type 0) → Option LineBreak → Type 0
-IsFirst P None = (b : LineBreak) → P b → ⊥
-IsFirst P (Some a) = P a × ((b : LineBreak) → P b → no_later a b ≡ true)
+abbrev pub break_key : LineBreak → List ℕ
+break_key b = b.word ∷ number b.rule ∷ []
 
 -- what a line breaks first; a line that breaks nothing is a line of the grammar
 abbrev pub LineBreaks : List Block → List Lexeme → Option LineBreak → Type 0
-LineBreaks blocks words None = IsFirst (Breaks blocks words) None × IsAccepted grammar (start_of (innermost blocks)) (terminals_of words)
-LineBreaks blocks words (Some b) = IsFirst (Breaks blocks words) (Some b)
+LineBreaks blocks words None = IsFirst break_key (Breaks blocks words) None × IsAccepted grammar (start_of (innermost blocks)) (terminals_of words)
+LineBreaks blocks words (Some b) = IsFirst break_key (Breaks blocks words) (Some b)
 
 abbrev pub WordsAt : Rule → List Lexeme → LineRule → ℕ → Type 0
 WordsAt start words NoForm k = SyntaxPlace grammar start (terminals_of words) k
@@ -87,5 +77,5 @@ abbrev pub NoneLarge : List Lexeme → ℕ → Type 0
 NoneLarge words k = (j : ℕ) → j < k → get_or (large_of words) j false ≡ true → ⊥
 
 abbrev pub WordBreaks : Rule → List Lexeme → Option LineBreak → Type 0
-WordBreaks start words None = IsFirst (ByWords start words) None × IsAccepted grammar start (terminals_of words)
-WordBreaks start words (Some b) = IsFirst (ByWords start words) (Some b)
+WordBreaks start words None = IsFirst break_key (ByWords start words) None × IsAccepted grammar start (terminals_of words)
+WordBreaks start words (Some b) = IsFirst break_key (ByWords start words) (Some b)

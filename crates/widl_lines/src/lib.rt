@@ -1,10 +1,10 @@
 //! The lines of a script: its bytes cut into lines and words, each line read by the grammar of a script's lines,
 //! blocks by a stack, and the first rule of form that the script breaks at its exact line and column.
 //!
-//! It stands on `widl_lex`, which tells where bytes stop being UTF-8, and on `widl_predictive`, whose machine
-//! reads the grammar of [`Rule`]. The one contract that the crates above use is that of [`ScriptWords::read`]:
-//! `Ok` exactly for the scripts without a break, with the words of every line, and otherwise the first break.
-//! That a script has at most one is a law of [`laws`].
+//! It stands on `widl_lex`, which tells where bytes stop being UTF-8, on `widl_predictive`, whose machine reads the
+//! grammar of [`Rule`], and on `widl_first`, by which breaks come in order. The one contract that the crates above
+//! use is that of [`ScriptWords::read`]: `Ok` exactly for the scripts without a break, with the words of every
+//! line, and otherwise the first break. That a script has at most one is a law of [`laws`].
 #![tactic(auto)]
 
 mod blocks;

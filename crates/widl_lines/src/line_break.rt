@@ -1,13 +1,14 @@
 //! The first rule that a line breaks, among open blocks.
 
 ghost use Rattle.std.specs.Prelude.{◌≡◌, ℕ, ◌<◌, ◌≤◌, ◌+◌, List, length, get_or, map, IfOk, OnOk, MatchOption, true, false};
+ghost use Rattle.widl_first.specs.Keys.{IsFirst, first_of, precedes};
 ghost use Rattle.widl_lines.specs.declared.words.Word.{Word};
 ghost use Rattle.widl_lines.specs.Grammar.{grammar};
 ghost use Rattle.widl_lines.specs.Terminals.{is_large};
 ghost use Rattle.widl_lines.specs.WordTerms.{lexeme_of};
 ghost use Rattle.widl_lines.specs.Stacks.{blocks_of};
 ghost use Rattle.widl_lines.specs.Blocks.{first_word, change_by};
-ghost use Rattle.widl_lines.specs.Breaks.{number, terminals_of, large_of, no_later, first_of, IsFirst, WordBreaks, ByBlocks, LineBreaks, NoneLarge};
+ghost use Rattle.widl_lines.specs.Breaks.{number, terminals_of, large_of, break_key, WordBreaks, ByBlocks, LineBreaks, NoneLarge};
 
 use crate::blocks::{Block, Change, change_of, innermost, is_opening, start_of};
 use crate::{Rule, Terminal, Word, is_large};
@@ -52,21 +53,19 @@ pub fn number(rule: LineRule) -> u8
     }
 }
 
-fn no_later(a: LineBreak, b: LineBreak) -> bool
-    ensures { result ≡ no_later a b }
+fn precedes(a: LineBreak, b: LineBreak) -> bool
+    ensures { result ≡ precedes break_key a b }
 {
-    a.word < b.word
-        || (a.word == b.word
-            && (number(a.rule) < number(b.rule) || number(a.rule) == number(b.rule)))
+    a.word < b.word || (a.word == b.word && number(a.rule) < number(b.rule))
 }
 
 fn first_of(a: Option<LineBreak>, b: Option<LineBreak>) -> Option<LineBreak>
-    ensures { result ≡ first_of a b }
+    ensures { result ≡ first_of break_key a b }
 {
     match (a, b) {
         (None, b) => b,
         (Some(a), None) => Some(a),
-        (Some(a), Some(b)) => { if no_later(a, b) { Some(a) } else { Some(b) } }
+        (Some(a), Some(b)) => { if precedes(b, a) { Some(b) } else { Some(a) } }
     }
 }
 
@@ -152,7 +151,7 @@ pub fn change_by(words: &[Word<'_>], blocks: &[Block]) -> Option<Change>
 
 /// The rule that a line's first word breaks among the open blocks.
 fn break_by_blocks(blocks: &[Block], words: &[Word<'_>]) -> Option<LineBreak>
-    ensures { IsFirst (ByBlocks (blocks_of blocks.now) (map lexeme_of words.now)) result }
+    ensures { IsFirst break_key (ByBlocks (blocks_of blocks.now) (map lexeme_of words.now)) result }
 {
     let change = change_by(words, blocks);
     if change.is_none() {
