@@ -11,12 +11,12 @@ use Rattle.widl_lines.specs.Breaks.{number, break_key}
 -- no break precedes one at no higher a word, and at the same word of no higher a rule
 pub comes_first : (a b : LineBreak) → (b.word < a.word → ⊥) → (a.word ≡ b.word → number a.rule ≤ number b.rule) → Precedes break_key b a → ⊥
 comes_first a b none le h = elim (or_cases _ _ h) [
-    | inl lower ↦ none (ltb-true b.word a.word lower)
-    | inr level ↦ (let at = and_parts (nat_eq b.word a.word) _ level in elim (or_cases (nat_lt (number b.rule) (number a.rule)) _ at.1) [
-        | inl lower ↦ omega (arith, ltb-true (number b.rule) (number a.rule) lower, le (sym (eqb-true b.word a.word at.0)))
-        | inr past ↦ (let end = (and_parts (nat_eq (number b.rule) (number a.rule)) _ past).1 in cc)
-      ])
-  ]
+  | inl lower ↦ none (ltb-true b.word a.word lower)
+  | inr level ↦ (let at = and_parts (nat_eq b.word a.word) _ level in elim (or_cases (nat_lt (number b.rule) (number a.rule)) _ at.1) [
+    | inl lower ↦ omega (arith, ltb-true (number b.rule) (number a.rule) lower, le (sym (eqb-true b.word a.word at.0)))
+    | inr past ↦ (let end = (and_parts (nat_eq (number b.rule) (number a.rule)) _ past).1 in cc)
+  ])
+]
 
 same_rule : (p q : LineRule) → number p ≡ number q → p ≡ q
 same_rule NoForm NoForm e = refl

@@ -43,10 +43,10 @@ one_fault text j k a b = elim (cases_order j k) [ inl same ↦ same | inr (inl b
 
 no_fault : (text : List ℕ) (k : ℕ) → IsUtf8 text → IsUtf8Fault text k → ⊥
 no_fault text k utf8 f = elim (cases_order k (length text)) [
-    | inl end ↦ f.at_end end utf8
-    | inr (inl below) ↦ f.fault below (begins_less text (k + 1) (length text) (omega (arith, below)) ([], subst IsUtf8 (sym (append-nil (take (length text) text) ∙ take_all text)) utf8))
-    | inr (inr above) ↦ (let within : k ≤ length text = f.within in omega (arith, above, within))
-  ]
+  | inl end ↦ f.at_end end utf8
+  | inr (inl below) ↦ f.fault below (begins_less text (k + 1) (length text) (omega (arith, below)) ([], subst IsUtf8 (sym (append-nil (take (length text) text) ∙ take_all text)) utf8))
+  | inr (inr above) ↦ (let within : k ≤ length text = f.within in omega (arith, above, within))
+]
 
 as_first : (blocks : List Block) (line : Line) (found : Option LineBreak) → LineBreaks blocks line.words found → IsFirst break_key (Breaks blocks line.words) found
 as_first blocks line None h = h.0
