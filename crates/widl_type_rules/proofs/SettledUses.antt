@@ -41,10 +41,10 @@ Settled role t = is_any (questions role t) ≡ false
 
 -- none of the answers is yes, so this one isn't
 not_this : (answers : List Bool) (n : ℕ) → is_any answers ≡ false → slice_get answers n ≡ Some true → ⊥
-not_this [] n no yes = cc
-not_this (true ∷ more) n no yes = cc
-not_this (false ∷ more) zero no yes = cc
-not_this (false ∷ more) (suc n) no yes = not_this more n no yes
+not_this [] n none this = cc
+not_this (true ∷ more) n none this = cc
+not_this (false ∷ more) zero none this = cc
+not_this (false ∷ more) (suc n) none this = not_this more n none this
 
 abbrev meaning_of_word : List PlainDefinition → PlainForm → TypeTerm
 meaning_of_word definitions form = resolve (typedefs definitions) [] (written_form definitions form)
@@ -163,7 +163,7 @@ module _ (definitions : List PlainDefinition) (u : TypeUse) (e : is_settled defi
   settled = subst (Settled u.role) (sym meaning_is) (settled_word definitions u.role word.form word.settled)
 
   not_so : (n : ℕ) → slice_get (questions u.role (meaning_of_use definitions u)) n ≡ Some true → ⊥
-  not_so n yes = not_this (questions u.role (meaning_of_use definitions u)) n settled yes
+  not_so n this = not_this (questions u.role (meaning_of_use definitions u)) n settled this
 
   no_other_constant_type : (s : Violation) → IsOtherConstantType (meaning_of_use definitions u) u s → ⊥
   no_other_constant_type s h = differs (is_constant_role u.role) h.0.0 no_constant
