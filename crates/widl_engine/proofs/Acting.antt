@@ -1,13 +1,14 @@
 -- For proofs alone. Actions that take no unit, as what they do to the world of a place.
 use Rattle.std.proofs.Common.{◌≡◌, ℕ, ◌+◌, Bool, List, [], ◌∷◌, ◌++◌, Option, Some, length, sym, ap, ◌∙◌, refl, arith, length-append, nat_lt, if◌then◌else◌}
 use Rattle.widl_dialog.specs.Runs.{Did, Went, Stops}
+use Rattle.widl_text.specs.Limits.{most_open_calls}
 use Rattle.widl_value.specs.declared.object.ObjRef.{ObjRef}
 use Rattle.widl_script_tree.specs.Tables.{Tables}
 use Rattle.widl_store.specs.Objects.{StoreState}
 use Rattle.widl_trace.specs.EventTerms.{EventTerm}
 use Rattle.widl_runs.specs.declared.stop.Stop.{Stop}
 use Rattle.widl_runs.specs.declared.stop.Stop.TheVariants as stops
-use Rattle.widl_runs.specs.Actions.{Reply, IsDone, IsObject, TestDepth, act, most_calls}
+use Rattle.widl_runs.specs.Actions.{Reply, IsDone, IsObject, TestDepth, act}
 use Rattle.widl_engine.specs.declared.due.Due.TheVariants as due
 use Rattle.widl_engine.specs.declared.due.Made.{Made}
 use Rattle.widl_engine.specs.declared.due.New.{New}
@@ -41,7 +42,7 @@ length_outer : (s : Tables) (cs : List Context) → length (outer_of s cs) ≡ l
 length_outer s [] = refl
 length_outer s (c ∷ cs) = let e = length-append (outer_of s cs) (context_of s c ∷ []) in let h = length_outer s cs in omega (arith, e, h)
 
-pub room : (s : Tables) (x : Place) (c : Context) (n : ℕ) → x.here ≡ Some c → n ≡ length x.outer.items → nat_lt (n + 1) 100 ≡ nat_lt (length (contexts_in s x)) most_calls
+pub room : (s : Tables) (x : Place) (c : Context) (n : ℕ) → x.here ≡ Some c → n ≡ length x.outer.items → nat_lt (n + 1) 100 ≡ nat_lt (length (contexts_in s x)) most_open_calls
 room s x c n here size =
     let open_calls : n + 1 ≡ length (contexts_in s x) = (
     let e : length (contexts_in s x) ≡ length (context_of s c ∷ outer_of s x.outer.items) = ap (λ (h : Option Context). length (contexts_of s h x.outer.items)) here in
@@ -50,7 +51,7 @@ room s x c n here size =
     omega (arith, e, f, g, size)) in
     ap (λ (m : ℕ). nat_lt m 100) open_calls
 
-pub has_depth : (s : Tables) (t : StoreState) (x : Place) (p : Program) (b : Bool) (k : ℕ) (ls : List EventTerm) → nat_lt (length (contexts_in s x)) most_calls ≡ b → act p.list TestDepth (world_of s t x k ls) ≡ (let d : Done = if b then Went (world_of s t x k ls) IsDone else Stops stops.Depth in d)
+pub has_depth : (s : Tables) (t : StoreState) (x : Place) (p : Program) (b : Bool) (k : ℕ) (ls : List EventTerm) → nat_lt (length (contexts_in s x)) most_open_calls ≡ b → act p.list TestDepth (world_of s t x k ls) ≡ (let d : Done = if b then Went (world_of s t x k ls) IsDone else Stops stops.Depth in d)
 has_depth s t x p b k ls is = ap (λ (c : Bool). let d : Done = if c then Went (world_of s t x k ls) IsDone else Stops stops.Depth in d) is
 
 pub added_performed : (p : Program) (s : Tables) (t u : StoreState) (x : Place) (new : New) (what : Made) (object : ObjRef) (next : Move) → IsAdded t u object (new_of s new) → move_of p s next ≡ after_add s what (IsObject object) → Performed p s (due.Add new what) t x u x next

@@ -1,9 +1,10 @@
 //! Actions that take no unit, done.
 
 ghost use Rattle.std.specs.Prelude.{◌≡◌, ◌∷◌, ◌<◌, ◌^◌, ◌-◌, [], length, nat_lt, Bool, IfOk, IfSome, IfNone, OnOk, ◌++◌, Ok};
+ghost use Rattle.widl_text.specs.Limits.{most_open_calls};
 ghost use Rattle.widl_script_tree.specs.Tables.{Tables};
 ghost use Rattle.widl_store.specs.Objects.{IsLive, StoreState};
-ghost use Rattle.widl_runs.specs.Actions.{body_at, most_calls, IsDone, IsObject};
+ghost use Rattle.widl_runs.specs.Actions.{body_at, IsDone, IsObject};
 ghost use Rattle.widl_runs.specs.Calls.{construct_body};
 ghost use Rattle.widl_runs.specs.Jobs.{Program};
 ghost use Rattle.widl_runs.specs.Worlds.{this_value};
@@ -23,6 +24,7 @@ use std::alloc::AllocError;
 use widl_runs::Stop;
 use widl_script_tree::Script;
 use widl_store::{Builtin, Inner, Store};
+use widl_text::limits::MOST_OPEN_CALLS;
 use widl_trace::{Code, Event};
 use widl_value::{ObjRef, Value, Values};
 
@@ -37,17 +39,14 @@ pub enum Acted {
     Memory,
 }
 
-/// The most calls that may be open.
-const MOST_CALLS: usize = 100;
-
 /// Whether one more call may be open.
 #[inline(always)]
 fn has_room(place: &Place) -> bool
-    ensures { (s : Tables) → result ≡ nat_lt (length (contexts_in s place.now)) most_calls }
+    ensures { (s : Tables) → result ≡ nat_lt (length (contexts_in s place.now)) most_open_calls }
 {
     match place.here {
         None => true,
-        Some(_) => place.outer.len() + 1 < MOST_CALLS,
+        Some(_) => place.outer.len() + 1 < MOST_OPEN_CALLS,
     }
 }
 

@@ -13,16 +13,11 @@ use crate::errors::fails;
 use crate::frames::{Frame, ValueFrame};
 use crate::jobs::{Job, MemberUse, RowUse};
 use crate::moves::{Move, gives};
+use crate::new_objects::OBJECT_PROTOTYPE;
 use std::alloc::{AllocError, Global};
 use widl_script_tree::{Expression, MemberKey, MemberOf, Row, Script};
 use widl_trace::Code;
-use widl_value::{ObjRef, Shape, Value, Values};
-
-/// The prototype of `object()`.
-const OBJECT_PROTOTYPE: ObjRef = ObjRef {
-    id: 0,
-    shape: Shape::Plain,
-};
+use widl_value::{Value, Values};
 
 /// A member is evaluated.
 #[inline(always)]

@@ -2,6 +2,7 @@
 
 ghost use Rattle.std.specs.Prelude.{◌≡◌, ◌+◌, ◌<◌, ◌≤◌, ◌^◌, IfOk, IsErrOf, IsTrue, length, IfSome, IsSome, IsNone, Some};
 ghost use Rattle.std.specs.Io.KnownBytes.{IsAtEnd};
+ghost use Rattle.widl_text.specs.Limits.{most_file_bytes};
 ghost use Rattle.widl_folder.specs.Files.{file_at};
 ghost use Rattle.widl_folder.specs.Folders.{Counts, IsWhole, IsTooLong, Takes, next_count};
 
@@ -43,11 +44,11 @@ pub fn fetch<F: Folder>(alloc: Global, folder: &mut F, name: &str) -> Result<Vec
     ensures long { IsErrOf result FetchError.TooLong → IfSome (F.files folder.old) (λ told. IsTooLong (file_at told name.now) × IsSome (file_at told name.now)) }
 
     // How many bytes were given: one too many exactly where the file is too long, out of memory apart.
-    ensures short { IfOk result (λ v. length v.items ≤ 1048576) }
+    ensures short { IfOk result (λ v. length v.items ≤ most_file_bytes) }
     ensures given_ok { IfOk result (λ v. F.given folder.new ≡ length v.items) }
-    ensures given_long { IsErrOf result FetchError.TooLong → F.given folder.new ≡ 1048577 }
-    ensures given_missing { IsErrOf result FetchError.Missing → F.given folder.new ≤ 1048576 }
-    ensures given_failed { IsErrOf result FetchError.Failed → F.given folder.new ≤ 1048576 }
+    ensures given_long { IsErrOf result FetchError.TooLong → F.given folder.new ≡ most_file_bytes + 1 }
+    ensures given_missing { IsErrOf result FetchError.Missing → F.given folder.new ≤ most_file_bytes }
+    ensures given_failed { IsErrOf result FetchError.Failed → F.given folder.new ≤ most_file_bytes }
 
     // The counts.
     ensures missing { Counts (IsErrOf result FetchError.Missing) (F.misses folder.old) (F.misses folder.new) }
@@ -67,12 +68,12 @@ fn read_all<F: Folder>(alloc: Global, folder: &mut F) -> Result<Vec<u8>, FetchEr
     requires started { IsTrue (F.is_started folder.old) }
     requires given { F.given folder.old ≡ 0 }
     ensures whole { IfOk result (λ v. IsWhole (F.left folder.old) v.items) }
-    ensures short { IfOk result (λ v. length v.items ≤ 1048576) }
+    ensures short { IfOk result (λ v. length v.items ≤ most_file_bytes) }
     ensures present { IsErrOf result FetchError.Missing → ⊥ }
     ensures long { IsErrOf result FetchError.TooLong → IsTooLong (F.left folder.old) }
     ensures given_ok { IfOk result (λ v. F.given folder.new ≡ length v.items) }
-    ensures given_long { IsErrOf result FetchError.TooLong → F.given folder.new ≡ 1048577 }
-    ensures given_failed { IsErrOf result FetchError.Failed → F.given folder.new ≤ 1048576 }
+    ensures given_long { IsErrOf result FetchError.TooLong → F.given folder.new ≡ most_file_bytes + 1 }
+    ensures given_failed { IsErrOf result FetchError.Failed → F.given folder.new ≤ most_file_bytes }
     ensures failed { Counts (IsErrOf result FetchError.Failed) (F.faults folder.old) (F.faults folder.new) }
     ensures misses { F.misses folder.new ≡ F.misses folder.old }
     ensures starts { F.starts folder.new ≡ F.starts folder.old }

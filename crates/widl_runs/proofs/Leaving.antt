@@ -4,6 +4,7 @@ use Rattle.std.specs.Prelude.{nat_lt}
 use Rattle.std.proofs.lemmas.Bool.{ltb-false}
 use Rattle.widl_dialog.specs.Calm.{Leaves, Calming}
 use Rattle.widl_dialog.specs.Runs.{Went, Stops}
+use Rattle.widl_text.specs.Limits.{most_open_calls}
 use Rattle.widl_idl.specs.DefinitionTerms.{DefsTerm}
 use Rattle.widl_value.specs.declared.value.Value.{Value}
 use Rattle.widl_store.specs.Objects.{Obj, own_at}
@@ -12,7 +13,7 @@ use Rattle.widl_script_tree.specs.Trees.{Text}
 use Rattle.widl_runs.specs.declared.stop.Stop.{Stop}
 use Rattle.widl_runs.specs.declared.stop.Stop.TheVariants as stops
 use Rattle.widl_runs.specs.Worlds.{World, is_local, with_local, with_value}
-use Rattle.widl_runs.specs.Actions.{Action, Pay, Write, TestDepth, Enter, Leave, FindBody, ReadThis, ReadName, BindName, TakeSymbol, AddObject, FindProperty, PutProperty, DefineProperty, DeleteProperty, FindKeys, FindOwn, FindInner, MoveCursor, Reach, Reply, IsDone, event_cost, put_result, define_result, is_put, is_made, with_store, most_calls, act}
+use Rattle.widl_runs.specs.Actions.{Action, Pay, Write, TestDepth, Enter, Leave, FindBody, ReadThis, ReadName, BindName, TakeSymbol, AddObject, FindProperty, PutProperty, DefineProperty, DeleteProperty, FindKeys, FindOwn, FindInner, MoveCursor, Reach, Reply, IsDone, event_cost, put_result, define_result, is_put, is_made, with_store, act}
 use Rattle.widl_runs.specs.Jobs.{Program}
 use Rattle.widl_runs.specs.Rules.{rule}
 use Rattle.widl_runs.proofs.Ranks.{pays, ranks}
@@ -40,7 +41,7 @@ bound_leaves false w name v = omega arith
 pub leaves : (list : DefsTerm) (q : Action) (w : World) → Leaves units_of (pays q) w (act list q w)
 leaves list Pay w = paid_leaves (nat_lt w.units 1) 1 w w (omega arith) refl
 leaves list (Write event) w = paid_leaves (nat_lt w.units (event_cost list event)) (event_cost list event) w (record w { lines = w.lines ++ event ∷ [] }) (omega arith) refl
-leaves list TestDepth w = deep_leaves (nat_lt (length w.contexts) most_calls) w
+leaves list TestDepth w = deep_leaves (nat_lt (length w.contexts) most_open_calls) w
 leaves list (Enter context) w = omega arith
 leaves list Leave w = omega arith
 leaves list (FindBody object) w = omega arith

@@ -6,6 +6,7 @@ use Rattle.std.proofs.lemmas.List.Sums.{sum_by-append}
 use Rattle.widl_dialog.specs.Kept.{Grown, Holds}
 use Rattle.widl_dialog.specs.Runs.{Did, Went, Stops}
 use Rattle.widl_dialog.proofs.Keeping.{runs_keep, grows}
+use Rattle.widl_text.specs.Limits.{most_open_calls}
 use Rattle.widl_idl.specs.DefinitionTerms.{DefsTerm}
 use Rattle.widl_value.specs.declared.value.Value.{Value}
 use Rattle.widl_store.specs.Objects.{Obj, own_at}
@@ -15,7 +16,7 @@ use Rattle.widl_trace.specs.EventTerms.{EventTerm}
 use Rattle.widl_runs.specs.declared.stop.Stop.{Stop}
 use Rattle.widl_runs.specs.declared.stop.Stop.TheVariants as stops
 use Rattle.widl_runs.specs.Worlds.{World, is_local, with_local, with_value}
-use Rattle.widl_runs.specs.Actions.{Action, Pay, Write, TestDepth, Enter, Leave, FindBody, ReadThis, ReadName, BindName, TakeSymbol, AddObject, FindProperty, PutProperty, DefineProperty, DeleteProperty, FindKeys, FindOwn, FindInner, MoveCursor, Reach, Reply, IsDone, event_cost, put_result, define_result, is_put, is_made, with_store, most_calls, act}
+use Rattle.widl_runs.specs.Actions.{Action, Pay, Write, TestDepth, Enter, Leave, FindBody, ReadThis, ReadName, BindName, TakeSymbol, AddObject, FindProperty, PutProperty, DefineProperty, DeleteProperty, FindKeys, FindOwn, FindInner, MoveCursor, Reach, Reply, IsDone, event_cost, put_result, define_result, is_put, is_made, with_store, act}
 use Rattle.widl_runs.specs.Jobs.{Program}
 use Rattle.widl_runs.specs.Rules.{rule}
 use Rattle.widl_runs.specs.Laws.{LinesGrow, LinesArePaid, cost_of_lines}
@@ -55,7 +56,7 @@ module _ (list : DefsTerm) (Kept : World → World → Type 0) (unwritten : (w v
   pub each_keeps : (q : Action) (w : World) → Holds Kept w (act list q w)
   each_keeps Pay w = pay_kept (nat_lt w.units 1) w
   each_keeps (Write event) w = write_kept (nat_lt w.units (event_cost list event)) w event refl
-  each_keeps TestDepth w = deep_kept (nat_lt (length w.contexts) most_calls) w
+  each_keeps TestDepth w = deep_kept (nat_lt (length w.contexts) most_open_calls) w
   each_keeps (Enter context) w = same_kept w _ refl refl
   each_keeps Leave w = same_kept w _ refl refl
   each_keeps (FindBody object) w = same_kept w _ refl refl

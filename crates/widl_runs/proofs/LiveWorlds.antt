@@ -20,6 +20,7 @@ use Rattle.widl_store.specs.declared.homes.Home.TheVariants as homes
 use Rattle.widl_store.specs.declared.property.Prop.{Prop}
 use Rattle.widl_store.specs.declared.property.Prop.TheVariants as props
 use Rattle.widl_text.specs.declared.key.Key.{Key}
+use Rattle.widl_text.specs.Limits.{most_open_calls}
 use Rattle.widl_store.specs.Inners.{InnerTerm}
 use Rattle.widl_store.specs.OwnKeys.{keys_at}
 use Rattle.widl_store.specs.Objects.{Obj, StoreState, IsLive, home_of, own_at}
@@ -29,7 +30,7 @@ use Rattle.widl_script_tree.specs.Trees.{Text}
 use Rattle.widl_runs.specs.declared.stop.Stop.{Stop}
 use Rattle.widl_runs.specs.declared.stop.Stop.TheVariants as stops
 use Rattle.widl_runs.specs.Worlds.{Bindings, Context, World, value_of, with_value, value_or_undefined, is_local, local_value, with_local, owner_named, owner_object, global_value, named_value, this_value, outer_contexts}
-use Rattle.widl_runs.specs.Actions.{Action, Pay, Write, TestDepth, Enter, Leave, FindBody, ReadThis, ReadName, BindName, TakeSymbol, AddObject, FindProperty, PutProperty, DefineProperty, DeleteProperty, FindKeys, FindOwn, FindInner, MoveCursor, Reach, Reply, IsDone, IsValue, IsObject, IsProperty, IsPut, IsDefined, IsDeleted, AreKeys, IsInner, own_keys_of, inner_at, with_cursor, event_cost, put_result, define_result, is_put, is_made, with_store, with_new, new_reference, most_calls, act}
+use Rattle.widl_runs.specs.Actions.{Action, Pay, Write, TestDepth, Enter, Leave, FindBody, ReadThis, ReadName, BindName, TakeSymbol, AddObject, FindProperty, PutProperty, DefineProperty, DeleteProperty, FindKeys, FindOwn, FindInner, MoveCursor, Reach, Reply, IsDone, IsValue, IsObject, IsProperty, IsPut, IsDefined, IsDeleted, AreKeys, IsInner, own_keys_of, inner_at, with_cursor, event_cost, put_result, define_result, is_put, is_made, with_store, with_new, new_reference, act}
 use Rattle.widl_runs.specs.Jobs.{Program}
 use Rattle.widl_runs.specs.Fitting.{HasPrototypes}
 use Rattle.widl_runs.proofs.LiveParts.{Grows, LiveValue, LiveFound, LiveSeen, LiveObjects, LiveBindings, LiveContexts, LivePut, LiveReply, more_bindings, more_contexts, more_put}
@@ -209,7 +210,7 @@ lives p (Write event) w l a =
     let cost : ℕ = event_cost p.list event in
     let v : World = record w { lines = w.lines ++ event ∷ [] } in
     written_lives (nat_lt w.units cost) w v (w.units - cost) refl (record { prototypes = l.prototypes; objects = l.objects; homes = l.homes; globals = l.globals; contexts = l.contexts })
-lives p TestDepth w l a = deep_lives (nat_lt (length w.contexts) most_calls) w l
+lives p TestDepth w l a = deep_lives (nat_lt (length w.contexts) most_open_calls) w l
 lives p (Enter context) w l a = record {
   grows = same_grows w.store.objects;
   world = record { prototypes = l.prototypes; objects = l.objects; homes = l.homes; globals = l.globals; contexts = (a, l.contexts) };

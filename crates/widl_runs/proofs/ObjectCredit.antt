@@ -45,6 +45,7 @@ use Rattle.widl_dialog.specs.Credit.{MovesLevel, Owes, Balanced}
 use Rattle.widl_dialog.specs.Runs.{Did, Went, Stops, Finish, Ended, Halted}
 use Rattle.widl_dialog.proofs.Crediting.{more_credit, level_kept, none_rises}
 use Rattle.widl_text.specs.declared.key.Key.TheVariants as keys
+use Rattle.widl_text.specs.Limits.{most_open_calls}
 use Rattle.widl_idl.specs.DefinitionTerms.{DefsTerm}
 use Rattle.widl_store.specs.declared.inner.Turn.{Turn}
 use Rattle.widl_store.specs.Inners.{InnerTerm, PlainPart, ArrayPart, ScriptPart}
@@ -55,7 +56,7 @@ use Rattle.widl_script_tree.specs.Trees.{ScriptTree}
 use Rattle.widl_runs.specs.declared.stop.Stop.{Stop}
 use Rattle.widl_runs.specs.declared.stop.Stop.TheVariants as stops
 use Rattle.widl_runs.specs.Worlds.{World, is_local, with_local, with_value}
-use Rattle.widl_runs.specs.Actions.{IsDone, NewObject, Ordinary, ScriptFunction, ArrayOf, TypeErrorObject, ObjectOf, ArrayIteratorOf, inner_at, moved_part, data_properties, event_cost, put_result, define_result, is_put, is_made, with_store, most_calls, act, with_items, with_properties, with_function, with_new, object_prototype, function_prototype, array_prototype}
+use Rattle.widl_runs.specs.Actions.{IsDone, NewObject, Ordinary, ScriptFunction, ArrayOf, TypeErrorObject, ObjectOf, ArrayIteratorOf, inner_at, moved_part, data_properties, event_cost, put_result, define_result, is_put, is_made, with_store, act, with_items, with_properties, with_function, with_new, object_prototype, function_prototype, array_prototype}
 use Rattle.widl_runs.specs.Jobs.{ForSet, ForDefine, ForAccessor, ForDelete, reaches}
 use Rattle.widl_runs.specs.Calls.{called, ends_talk, body}
 use Rattle.widl_runs.specs.Members.{with_getter}
@@ -159,7 +160,7 @@ bound_counts false w name v = record { objects = omega arith; symbols = omega ar
 counts : (list : DefsTerm) (q : Action) (w : World) → Counted q w (act list q w)
 counts list Pay w = pay_counts (nat_lt w.units 1) w refl
 counts list (Write event) w = write_counts (nat_lt w.units (event_cost list event)) w event (event_cost list event)
-counts list TestDepth w = deep_counts (nat_lt (length w.contexts) most_calls) w
+counts list TestDepth w = deep_counts (nat_lt (length w.contexts) most_open_calls) w
 counts list (Enter context) w = record { objects = omega arith; symbols = omega arith; units = omega arith }
 counts list Leave w = record { objects = omega arith; symbols = omega arith; units = omega arith }
 counts list (FindBody object) w = record { objects = omega arith; symbols = omega arith; units = omega arith }

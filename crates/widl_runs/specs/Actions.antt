@@ -7,6 +7,7 @@ use Rattle.std.specs.declared.result.Result.TheVariants as results
 use Rattle.widl_dialog.specs.Runs.{Did, Went, Stops}
 use Rattle.widl_text.specs.declared.key.Key.{Key}
 use Rattle.widl_text.specs.declared.key.Key.TheVariants as keys
+use Rattle.widl_text.specs.Limits.{most_open_calls}
 use Rattle.widl_idl.specs.DefinitionTerms.{DefsTerm}
 use Rattle.widl_value.specs.declared.object.ObjRef.{ObjRef}
 use Rattle.widl_value.specs.declared.object.Shape.TheVariants as shapes
@@ -288,10 +289,6 @@ with_store w objects = record w { store = with_objects w.store objects }
 abbrev pub paid : ℕ → World → World → Did World Reply Stop
 paid cost w v = if nat_lt w.units cost then Stops stops.Budget else Went (record v { units = w.units - cost }) IsDone
 
--- as many calls as may be open
-abbrev pub most_calls : ℕ
-most_calls = 100
-
 -- the units of an event's line
 abbrev pub event_cost : DefsTerm → EventTerm → ℕ
 event_cost list event = line_cost (line_of list event)
@@ -299,7 +296,7 @@ event_cost list event = line_cost (line_of list event)
 abbrev pub act : DefsTerm → Action → World → Did World Reply Stop
 act list Pay w = paid 1 w w
 act list (Write event) w = paid (event_cost list event) w (record w { lines = w.lines ++ event ∷ [] })
-act list TestDepth w = if nat_lt (length w.contexts) most_calls then Went w IsDone else Stops stops.Depth
+act list TestDepth w = if nat_lt (length w.contexts) most_open_calls then Went w IsDone else Stops stops.Depth
 act list (Enter context) w = Went (record w { contexts = context ∷ w.contexts }) IsDone
 act list Leave w = Went (record w { contexts = outer_contexts w.contexts }) IsDone
 act list (FindBody object) w = Went w (IsBody (body_at w.store.objects object))

@@ -29,9 +29,9 @@ AreWithinShares = (set : MergedSet) → IsMerged set.defs set.fragments → firs
 abbrev pub AreSharesKept : Type 0
 AreSharesKept = (set : MergedSet) → IsMerged set.defs set.fragments → namespace_shares (definitions_of set.fragments) ≤ most_members
 
--- so there are at most 1,000,018 objects
+-- so there are at most as many, and the 18
 abbrev pub AreFewObjects : Type 0
-AreFewObjects = (set : MergedSet) → IsMerged set.defs set.fragments → first_objects set ≤ 1000018
+AreFewObjects = (set : MergedSet) → IsMerged set.defs set.fragments → first_objects set ≤ 18 + most_members
 
 -- how many objects stand for a namespace: its own, and one for each operation name
 abbrev pub objects_for : SpaceTerm → ℕ

@@ -32,3 +32,27 @@ most_members = 1000000
 -- units of a budget
 abbrev pub most_units : ℕ
 most_units = 2000000
+
+-- levels of blocks of a script that lie in one another
+abbrev pub most_nested_blocks : ℕ
+most_nested_blocks = 32
+
+-- levels of brackets on one line of a script
+abbrev pub most_nested_brackets : ℕ
+most_nested_brackets = 32
+
+-- units of a text that is written in a script
+abbrev pub most_text_units : ℕ
+most_text_units = 1000
+
+-- calls that are open at a time
+abbrev pub most_open_calls : ℕ
+most_open_calls = 100
+
+-- objects that are there before a script
+abbrev pub most_first_objects : ℕ
+most_first_objects = 6000018
+
+-- the greatest number that a workload is made from
+abbrev pub most_work : ℕ
+most_work = 1000

@@ -24,3 +24,21 @@ pub const MOST_MEMBERS: u32 = 1_000_000;
 
 /// The most units of a budget.
 pub const MOST_UNITS: u64 = 2_000_000;
+
+/// The most levels of blocks of a script that lie in one another.
+pub const MOST_NESTED_BLOCKS: usize = 32;
+
+/// The most levels of brackets on one line of a script.
+pub const MOST_NESTED_BRACKETS: usize = 32;
+
+/// The most units of a text that is written in a script.
+pub const MOST_TEXT_UNITS: usize = 1_000;
+
+/// The most calls that are open at a time.
+pub const MOST_OPEN_CALLS: usize = 100;
+
+/// The most objects that are there before a script.
+pub const MOST_FIRST_OBJECTS: usize = 6_000_018;
+
+/// The greatest number that a workload is made from.
+pub const MOST_WORK: u32 = 1_000;
