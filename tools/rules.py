@@ -1,17 +1,15 @@
 #!/usr/bin/env python3
-"""Compares docs/RULES.md, README.md and docs/EXAMPLES.md with the program and with the sources.
+"""Compares docs/RULES.md with the program and with the sources.
 
     python3 tools/rules.py [PROGRAM]
 
 Run at the top of the repository, after the program is built (crates/widl_cli/out/widl_cli, if none is named). Each
-example of RULES.md is given to `check`, and each command of the other two is run; what is written must be what stands there.
-Each rule's identifier must be a variant with the rule's number, and its predicate's file must name the rule. Nothing is
-proved by this: it keeps the documents from telling what isn't so.
+example is given to `check`, and what is written must be what stands there. Each rule's identifier must be a variant with
+the rule's number, and its predicate's file must name the rule. Nothing is proved by this: it keeps the documents from
+telling what isn't so.
 """
 import os
 import re
-import shlex
-import shutil
 import subprocess
 import sys
 import tempfile
@@ -19,7 +17,6 @@ import tempfile
 TOP = os.path.dirname(os.path.dirname(os.path.abspath(__file__)))
 PROGRAM = os.path.join(TOP, "crates", "widl_cli", "out", "widl_cli")
 SECONDS = 120
-PAGES = ["README.md", "docs/EXAMPLES.md"]
 ENUMS = {
     "Finding": "crates/widl_front/src/finding.rt",
     "ProfileRule": "crates/widl_idl/src/profile_rule.rt",
@@ -69,11 +66,11 @@ def read(path):
 
 
 def rules():
-    """The rows of RULES.md with seven columns, which are those of rules."""
+    """The rows of RULES.md with seven columns or, for the profile, eight: these are those of rules."""
     found = []
     for line in read("docs/RULES.md").splitlines():
         cells = [cell.strip() for cell in line.strip().strip("|").split(" | ")]
-        if line.startswith("|") and len(cells) == 7 and cells[0] != "rule":
+        if line.startswith("|") and len(cells) in (7, 8) and cells[0] != "rule":
             found.append(Rule(cells))
     return found
 
@@ -101,44 +98,6 @@ def run_rules(program, faults):
             if written != rule.output:
                 faults.append(f"rule {rule.name}: the program writes '{written}', docs/RULES.md says '{rule.output}'")
     return len(rules())
-
-
-def commands(text):
-    """The commands of a page, each with its lines of output: `    $ COMMAND` and the indented lines after it."""
-    found, lines = [], None
-    for line in text.splitlines():
-        if line.startswith("    $ "):
-            lines = []
-            found.append((shlex.split(line[6:]), lines))
-        elif lines is not None and line.startswith("    "):
-            lines.append(line[4:])
-        else:
-            lines = None
-    return found
-
-
-def run_page(page, program, faults):
-    """Runs each `./widl` of a page beside the examples and the files that `cat` shows. The number of runs."""
-    count = 0
-    with tempfile.TemporaryDirectory() as folder:
-        shutil.copytree(os.path.join(TOP, "examples"), os.path.join(folder, "examples"))
-        for words, lines in commands(read(page)):
-            shown = "\n".join(lines)
-            if words[0] == "cat":
-                name = os.path.join(folder, words[1])
-                if not os.path.exists(name):
-                    with open(name, "w", encoding="utf-8") as file:
-                        file.write(shown + "\n")
-                with open(name, encoding="utf-8") as file:
-                    written = file.read().rstrip("\n")
-            elif words[0] == "./widl":
-                written = run(program, words[1:], folder)
-            else:
-                continue
-            count += 1
-            if written != shown:
-                faults.append(f"{page}: '{' '.join(words)}' gives\n{written}\nand the page says\n{shown}")
-    return count
 
 
 def number_of(rule):
@@ -193,7 +152,7 @@ def main():
     if not os.access(program, os.X_OK):
         sys.exit(f"rules: there is no program {program}; `rt run` in crates/widl_cli builds it")
     faults = []
-    examples = run_rules(program, faults) + sum(run_page(page, program, faults) for page in PAGES)
+    examples = run_rules(program, faults)
     identifiers = compare_names(faults)
     for fault in faults:
         print(f"rules: {fault}")
