@@ -21,7 +21,7 @@ part_at r v = Nonterminal (r, v) ∷ []
 
 -- one level further in
 abbrev pub inside : ℕ → ℕ
-inside v = gr.next_level 33 v
+inside v = gr.next_level grammar.deep_level v
 
 abbrev pub Derived : Symbols → List Terminal → Type 0
 Derived s w = Derives (gr.rows grammar) s w
