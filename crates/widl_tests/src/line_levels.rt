@@ -1,53 +1,41 @@
 //! How deep brackets and blocks nest: each kind of bracket and of block at 32 levels, which fit, and at 33, which are
-//! one too many. The places were worked by hand: the column is that of the bracket of level 33, the line that of the
-//! word that opens block 33.
+//! one too many. The rows were worked by hand: where level 33 begins is the bracket, or the word that opens the block.
 
 use std::alloc::Global;
 use std::process::Abort;
 use widl_lines::{ScriptFault, ScriptWords};
 
-/// What comes first in a line of 32 levels of brackets, what opens a level, how often it stands there, what stands in
-/// the last of these, what closes each of them, and the column of the bracket that opens level 33 where it stands
-/// there once more.
-type Brackets = (
-    &'static str,
-    &'static str,
-    usize,
-    &'static str,
-    &'static str,
-    u32,
-);
+/// What comes first, what opens a level, what stands in the last one, and what closes a level.
+type Parts = [&'static str; 4];
 
-const BRACKETS: [Brackets; 17] = [
-    ("do ", "f(", 32, "", ")", 69),
-    ("do ", "f(1,", 32, "1", ")", 133),
-    ("do ", "f(1)(", 32, "", ")", 165),
-    ("do ", "o.f(", 32, "", ")", 135),
-    ("do ", "o[", 32, "1", "]", 69),
-    ("do ", "o.a[", 32, "1", "]", 135),
-    ("delete ", "o[", 32, "1", "]", 73),
-    ("do ", "array(", 32, "", ")", 201),
-    ("do ", "array(1,", 32, "1", ")", 265),
-    ("do ", "object(", 32, "", ")", 234),
-    ("do ", "call(", 32, "1", ",1)", 168),
-    ("do ", "call(1,", 32, "1", ")", 232),
-    ("do ", "call(1,1,", 32, "1", ")", 296),
-    ("do ", "new(", 32, "1", ")", 135),
-    ("do ", "new(1,", 32, "1", ")", 199),
-    ("do ", "f(", 31, "symbol()", ")", 74),
-    ("do ", "f(", 31, "object()", ")", 74),
-];
+/// The parts of a script, how often a level is opened for 32 in all, how many lines with words the script then has, and
+/// the line and the column where level 33 begins.
+type Nest = (Parts, usize, usize, usize, usize);
 
-/// What opens a level of blocks, the lines of it, what closes it, and the lines of that.
-type Blocks = (&'static str, u32, &'static str, u32);
-
-const BLOCKS: [Blocks; 6] = [
-    ("try\n", 1, "catch e\nend\n", 2),
-    ("try\ncatch e\n", 2, "end\n", 1),
-    ("if 1 is 1\n", 1, "end\n", 1),
-    ("if 1 is 1\nelse\n", 2, "end\n", 1),
-    ("function f(a)\n", 1, "end\n", 1),
-    ("steps N.f#0\n", 1, "end\n", 1),
+const NESTS: &[Nest] = &[
+    (["do ", "f(", "", ")"], 32, 1, 1, 69),
+    (["do ", "f(1,", "1", ")"], 32, 1, 1, 133),
+    (["do ", "f(1)(", "", ")"], 32, 1, 1, 165),
+    (["do ", "o.f(", "", ")"], 32, 1, 1, 135),
+    (["do ", "o[", "1", "]"], 32, 1, 1, 69),
+    (["do ", "o.a[", "1", "]"], 32, 1, 1, 135),
+    (["delete ", "o[", "1", "]"], 32, 1, 1, 73),
+    (["do ", "array(", "", ")"], 32, 1, 1, 201),
+    (["do ", "array(1,", "1", ")"], 32, 1, 1, 265),
+    (["do ", "object(", "", ")"], 32, 1, 1, 234),
+    (["do ", "call(", "1", ",1)"], 32, 1, 1, 168),
+    (["do ", "call(1,", "1", ")"], 32, 1, 1, 232),
+    (["do ", "call(1,1,", "1", ")"], 32, 1, 1, 296),
+    (["do ", "new(", "1", ")"], 32, 1, 1, 135),
+    (["do ", "new(1,", "1", ")"], 32, 1, 1, 199),
+    (["do ", "f(", "symbol()", ")"], 31, 1, 1, 74),
+    (["do ", "f(", "object()", ")"], 31, 1, 1, 74),
+    (["", "try\n", "", "catch e\nend\n"], 32, 96, 33, 1),
+    (["", "try\ncatch e\n", "", "end\n"], 32, 96, 65, 1),
+    (["", "if 1 is 1\n", "", "end\n"], 32, 64, 33, 1),
+    (["", "if 1 is 1\nelse\n", "", "end\n"], 32, 96, 65, 1),
+    (["", "function f(a)\n", "", "end\n"], 32, 64, 33, 1),
+    (["", "steps N.f#0\n", "", "end\n"], 32, 64, 33, 1),
 ];
 
 fn push_times(rt: &impl Abort, script: &mut Vec<u8>, text: &str, times: usize) {
@@ -58,16 +46,8 @@ fn push_times(rt: &impl Abort, script: &mut Vec<u8>, text: &str, times: usize) {
     }
 }
 
-/// The head, what opens a level so many times, what stands inside, and what closes a level as often.
-fn nested(
-    rt: &impl Abort,
-    alloc: Global,
-    head: &str,
-    opening: &str,
-    times: usize,
-    inner: &str,
-    closing: &str,
-) -> Vec<u8> {
+fn script_of(rt: &impl Abort, alloc: Global, parts: &Parts, times: usize) -> Vec<u8> {
+    let [head, opening, inner, closing] = parts;
     let mut script = Vec::new(alloc);
     push_times(rt, &mut script, head, 1);
     push_times(rt, &mut script, opening, times);
@@ -76,43 +56,48 @@ fn nested(
     script
 }
 
-/// The script has so many lines with words, and breaks no rule on form.
-fn expect_lines(rt: &impl Abort, alloc: Global, script: &[u8], lines: u32) {
+/// The rule that a script breaks first, its line and its column; rule 0 where it breaks none, and the number of its lines
+/// with words.
+fn read_of(rt: &impl Abort, alloc: Global, script: &[u8]) -> (u8, usize, usize) {
     assert!(rt; script.len() <= 10_000);
-    let Ok(words) = ScriptWords::read(alloc, script) else {
-        panic!(rt; "{script:?} breaks a rule");
-    };
-    assert!(rt; words.lines().len() == lines as usize, "{script:?}");
+    match ScriptWords::read(alloc, script) {
+        Ok(words) => (0, words.lines().len(), 1),
+        Err(ScriptFault::Refused(place)) => (
+            place.rule,
+            place.line as usize,
+            place.column as usize,
+        ),
+        Err(ScriptFault::Memory) => panic!(rt; "no memory"),
+    }
 }
 
-/// The script nests too deep, first at this place.
-fn expect_too_deep(rt: &impl Abort, alloc: Global, script: &[u8], line: u32, column: u32) {
-    assert!(rt; script.len() <= 10_000);
-    let Err(ScriptFault::Refused(place)) = ScriptWords::read(alloc, script) else {
-        panic!(rt; "{script:?} breaks no rule");
-    };
+/// Reads the script in which a level is opened so often.
+fn expect_read(
+    rt: &impl Abort,
+    alloc: Global,
+    parts: &Parts,
+    times: usize,
+    wanted: (u8, usize, usize),
+) {
+    let script = script_of(rt, alloc, parts, times);
+    let (rule, line, column) = read_of(rt, alloc, &script);
+    let (wanted_rule, wanted_line, wanted_column) = wanted;
     assert!(rt;
-        place.rule == 3 && place.line == line && place.column == column,
+        rule == wanted_rule && line == wanted_line && column == wanted_column,
         "{script:?}"
     );
 }
 
-#[test]
-fn brackets_nest_32_levels(rt: HostRuntime) {
-    for (head, opening, times, inner, closing, column) in &BRACKETS {
-        let whole = nested(&rt, rt.alloc(), head, opening, *times, inner, closing);
-        expect_lines(&rt, rt.alloc(), &whole, 1);
-        let deep = nested(&rt, rt.alloc(), head, opening, *times + 1, inner, closing);
-        expect_too_deep(&rt, rt.alloc(), &deep, 1, *column);
+/// Reads the script of each row with 32 levels, and with one more.
+fn expect_nests(rt: &impl Abort, alloc: Global, nests: &[Nest]) {
+    for (parts, times, lines, line, column) in nests {
+        assert!(rt; *times <= 32);
+        expect_read(rt, alloc, parts, *times, (0, *lines, 1));
+        expect_read(rt, alloc, parts, *times + 1, (3, *line, *column));
     }
 }
 
 #[test]
-fn blocks_nest_32_levels(rt: HostRuntime) {
-    for (opening, opened, closing, closed) in &BLOCKS {
-        let whole = nested(&rt, rt.alloc(), "", opening, 32, "", closing);
-        expect_lines(&rt, rt.alloc(), &whole, 32 * (*opened + *closed));
-        let deep = nested(&rt, rt.alloc(), "", opening, 33, "", closing);
-        expect_too_deep(&rt, rt.alloc(), &deep, 32 * *opened + 1, 1);
-    }
+fn brackets_and_blocks_nest_32_levels(rt: HostRuntime) {
+    expect_nests(&rt, rt.alloc(), NESTS);
 }
