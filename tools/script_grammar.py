@@ -14,7 +14,6 @@ from row_tables import HERE, NO_ROW, Rows, coded, constant, symbol_text, variant
 
 CRATE = os.path.join(HERE, "..", "crates", "widl_lines")
 STARTS = ["Line", "StepLine"]
-DEEP_LEVEL = 33
 CLASSES = {
     "name": "Name", "underscored": "UnderscoredName", "dashed": "DashedName", "natural": "Natural",
     "negative": "Negative", "other_integer": "OtherInteger", "text": "Text",
@@ -68,6 +67,7 @@ ghost use Rattle.widl_lines.specs.Tables.{{picked}};
 use crate::picks::picks;
 use crate::rows::rows;
 use widl_predictive::Symbol;
+use widl_text::limits::MOST_NESTED_BRACKETS;
 
 /// A word as the grammar sees it: one of the words and signs that the grammar quotes, or the class of any
 /// other word.
@@ -158,7 +158,7 @@ impl widl_predictive::Rule for Rule {{
     ghost sets = {{ sets }};
 
     fn deep_level() -> u8 {{
-        {DEEP_LEVEL}
+        MOST_NESTED_BRACKETS as u8 + 1
     }}
 
     fn begins_level(self) -> bool {{
@@ -291,7 +291,8 @@ def cases(name, type_, value, of):
 def write_specs(rows):
     rule_use = f"use {DECLARED}.Rule.{{Rule}}\nuse {DECLARED}.Rule.TheVariants.{variants(rows.rules)}\n"
     write("specs/Grammar.antt", "--", f"""-- The grammar of a script's lines, as the constants of the source have its rows.
-use Rattle.std.specs.Prelude.{{List, [], ◌∷◌, Bool, true, false}}
+use Rattle.std.specs.Prelude.{{List, [], ◌∷◌, ◌+◌, Bool, true, false}}
+use Rattle.widl_text.specs.Limits.{{most_nested_brackets}}
 {rule_use}use {DECLARED}.Terminal.{{Terminal}}
 use Rattle.widl_predictive.specs.declared.grammar.Symbol.{{Symbol}}
 use Rattle.widl_predictive.specs.Grammar.{{Grammar}}
@@ -311,9 +312,9 @@ abbrev pub is_start : Rule → Bool
 abbrev pub begins_bracket : Rule → Bool
 {"".join(f"begins_bracket {n} = true{chr(10)}" for n in rows.begins)}begins_bracket _ = false
 
--- a bracket of level {DEEP_LEVEL} is too deep
+-- a bracket one level further in than brackets may nest is too deep
 abbrev pub grammar : Grammar Terminal Rule
-grammar = record {{ rows = rows_of; starts = is_start; begins_level = begins_bracket; deep_level = {DEEP_LEVEL} }}
+grammar = record {{ rows = rows_of; starts = is_start; begins_level = begins_bracket; deep_level = most_nested_brackets + 1 }}
 """)
     terminals = [rows.terminal[s] for s in rows.terminals]
     write("specs/TerminalNumbers.antt", "--", f"""-- The terminals by their numbers.

@@ -3,6 +3,7 @@ use Rattle.std.proofs.Common.{◌≡◌, ℕ, ◌+◌, ◌*◌, ◌≤◌, Bool,
 use Rattle.std.specs.Prelude.{is_some, option_map}
 use Rattle.std.specs.Char.Escape.{encode_utf16}
 use Rattle.std.specs.Str.{chars}
+use Rattle.widl_text.specs.Limits.{most_text_units}
 use Rattle.widl_lines.specs.Spelled.{Spells}
 use Rattle.widl_lines.specs.Terminals.{has_many_units}
 use Rattle.widl_lines.specs.Texts.{then_units, units_of_characters}
@@ -43,9 +44,9 @@ gathered_more units old code text rest more escapes before is grown =
     before ∙ ap (then_units old) is.0 ∙ then_then old (encode_utf16 code) later ∙ ap (λ u. then_units u later) (sym grown)
 
 -- what a count says of the units
-pub many_counted : (units : Option (List ℕ)) (n : ℕ) → option_map length units ≡ Some n → nat_lt 1000 n ≡ has_many_units units
+pub many_counted : (units : Option (List ℕ)) (n : ℕ) → option_map length units ≡ Some n → nat_lt most_text_units n ≡ has_many_units units
 many_counted None n e = cc
-many_counted (Some u) n e = let same : length u ≡ n = cc in ap (nat_lt 1000) (sym same)
+many_counted (Some u) n e = let same : length u ≡ n = cc in ap (nat_lt most_text_units) (sym same)
 
 pub none_counted : (units : Option (List ℕ)) → option_map length units ≡ None → false ≡ has_many_units units
 none_counted None e = refl

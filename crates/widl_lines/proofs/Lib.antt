@@ -13,3 +13,4 @@ pub mod Leaving
 pub mod OneBreak
 pub mod WordBytes
 pub mod FewWords
+pub mod Marks

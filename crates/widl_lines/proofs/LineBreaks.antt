@@ -2,6 +2,7 @@
 use Rattle.std.proofs.Common.{◌≡◌, ℕ, zero, suc, ◌<◌, ◌≤◌, ◌⊎◌, inl, inr, Bool, true, false, List, [], ◌∷◌, length, get_or, Option, Some, None, refl, sym, ◌∙◌, ap, arith, lit≤}
 use Rattle.std.proofs.lemmas.Bool.{cases_order}
 use Rattle.std.specs.Prelude.{is_some, not}
+use Rattle.widl_text.specs.Limits.{most_nested_blocks}
 use Rattle.widl_first.specs.Keys.{IsFirst, Precedes, first_of}
 use Rattle.widl_first.proofs.KeyFirsts.{first_either, first_same}
 use Rattle.widl_predictive.specs.Grammar.{SyntaxPlace, DeepPlace, IsFault, IsAccepted}
@@ -114,7 +115,7 @@ module _ (blocks : List Block) (words : List Lexeme) where
       least TooLarge j h = absurd h
       least NoBlock j h = comes_first (broken_at NoBlock 0) (broken_at NoBlock j) (λ lt. omega (arith, lt)) (λ e. lit≤ tt)
 
-  pub too_deep : is_opening (change_by words blocks) ≡ true → 32 ≤ length blocks → IsFirst break_key (ByBlocks blocks words) (Some (broken_at TooDeep 0))
+  pub too_deep : is_opening (change_by words blocks) ≡ true → most_nested_blocks ≤ length blocks → IsFirst break_key (ByBlocks blocks words) (Some (broken_at TooDeep 0))
   too_deep e le = record { holds = (refl, e, le); first = λ b h. least b.rule b.word h }
     where
       least : (rule : LineRule) (j : ℕ) → BlocksAt blocks words rule j → Precedes break_key (broken_at rule j) (broken_at TooDeep 0) → ⊥
@@ -123,7 +124,7 @@ module _ (blocks : List Block) (words : List Lexeme) where
       least TooLarge j h = absurd h
       least NoBlock j h = comes_first (broken_at TooDeep 0) (broken_at NoBlock j) (λ lt. omega (arith, lt)) (λ e. lit≤ tt)
 
-  pub not_by_blocks : (change_by words blocks ≡ None → ⊥) → (is_opening (change_by words blocks) ≡ true → 32 ≤ length blocks → ⊥) → IsFirst break_key (ByBlocks blocks words) None
+  pub not_by_blocks : (change_by words blocks ≡ None → ⊥) → (is_opening (change_by words blocks) ≡ true → most_nested_blocks ≤ length blocks → ⊥) → IsFirst break_key (ByBlocks blocks words) None
   not_by_blocks there shallow = λ b h. nothing b.rule b.word h
     where
       nothing : (rule : LineRule) (j : ℕ) → BlocksAt blocks words rule j → ⊥

@@ -1,5 +1,6 @@
 -- The first rule that a line breaks, among open blocks.
 use Rattle.std.specs.Prelude.{◌≡◌, ℕ, ◌<◌, ◌≤◌, ◌⊎◌, List, [], ◌∷◌, length, map, get_or, Bool, true, false, Option, Some, None}
+use Rattle.widl_text.specs.Limits.{most_nested_blocks}
 use Rattle.widl_first.specs.Keys.{IsFirst}
 use Rattle.widl_predictive.specs.Grammar.{SyntaxPlace, DeepPlace, IsAccepted}
 use Rattle.widl_lines.specs.declared.grammar.Terminal.{Terminal}
@@ -27,9 +28,9 @@ terminals_of words = map (λ word. word.terminal) words
 abbrev pub large_of : List Lexeme → List Bool
 large_of words = map (λ word. is_large word.form word.text) words
 
--- the line's first word opens a block where 32 are open
+-- the line's first word opens a block where as many are open as may be
 abbrev pub OpensTooDeep : List Block → List Lexeme → ℕ → Type 0
-OpensTooDeep blocks words k = (k ≡ 0) × (is_opening (change_by words blocks) ≡ true) × (32 ≤ length blocks)
+OpensTooDeep blocks words k = (k ≡ 0) × (is_opening (change_by words blocks) ≡ true) × (most_nested_blocks ≤ length blocks)
 
 -- the word at the number, from 0, breaks the rule in a line of these words, where these blocks are open
 -- S2: the first word up to and including which no line begins, or the end of a line that ends too early

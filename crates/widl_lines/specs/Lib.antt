@@ -1,6 +1,7 @@
 pub mod TerminalNumbers
 pub mod RuleNumbers
 pub mod Grammar
+pub mod Levels
 pub mod Tables
 pub mod Owed
 pub mod ListedWords

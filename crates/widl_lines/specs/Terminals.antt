@@ -2,6 +2,7 @@
 use Rattle.std.specs.Prelude.{ℕ, ◌&&◌, ◌||◌, nat_eq, nat_lt, bytes_eq, if◌then◌else◌, Bool, false, List, [], ◌∷◌, length, Option, Some, None, option_map, unwrap_or, is_some, find}
 use Rattle.std.specs.List.{list_all}
 use Rattle.std.specs.Char.{is_ascii_alphabetic, is_ascii_alphanumeric}
+use Rattle.widl_text.specs.Limits.{most_text_units}
 use Rattle.widl_lines.specs.declared.grammar.Terminal.{Terminal}
 use Rattle.widl_lines.specs.declared.grammar.Terminal.TheVariants as terminal
 use Rattle.widl_lines.specs.declared.word_form.WordForm.{WordForm}
@@ -63,7 +64,7 @@ terminal_of Missing text = terminal.Unknown
 -- more than 1,000 units
 abbrev pub has_many_units : Option (List ℕ) → Bool
 has_many_units None = false
-has_many_units (Some units) = nat_lt 1000 (length units)
+has_many_units (Some units) = nat_lt most_text_units (length units)
 
 -- an integer above 2 to the 64 in magnitude, or a text of more than 1,000 units
 unfoldable pub is_large : WordForm → List ℕ → Bool

@@ -12,6 +12,7 @@ ghost use Rattle.widl_lines.specs.Tables.{picked};
 use crate::picks::picks;
 use crate::rows::rows;
 use widl_predictive::Symbol;
+use widl_text::limits::MOST_NESTED_BRACKETS;
 
 /// A word as the grammar sees it: one of the words and signs that the grammar quotes, or the class of any
 /// other word.
@@ -226,7 +227,7 @@ impl widl_predictive::Rule for Rule {
     ghost sets = { sets };
 
     fn deep_level() -> u8 {
-        33
+        MOST_NESTED_BRACKETS as u8 + 1
     }
 
     fn begins_level(self) -> bool {

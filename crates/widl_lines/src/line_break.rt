@@ -14,6 +14,7 @@ use crate::blocks::{Block, Change, change_of, innermost, is_opening, start_of};
 use crate::{Rule, Terminal, Word, is_large};
 use std::alloc::{AllocError, Global};
 use widl_predictive::{Fault, read_sentence};
+use widl_text::limits::MOST_NESTED_BLOCKS;
 
 /// A rule that a line can break.
 #[derive(Clone, Copy, Debug, PartialEq, Eq)]
@@ -37,9 +38,6 @@ pub struct LineBreak {
     /// The number of the word.
     pub word: usize,
 }
-
-/// The most blocks that may be open.
-const MOST_BLOCKS: usize = 32;
 
 /// The number of the rule, which is its place in the order of the rules at one word.
 pub fn number(rule: LineRule) -> u8
@@ -157,7 +155,7 @@ fn break_by_blocks(blocks: &[Block], words: &[Word<'_>]) -> Option<LineBreak>
     if change.is_none() {
         return broken(LineRule::NoBlock, 0);
     }
-    if is_opening(change) && blocks.len() >= MOST_BLOCKS {
+    if is_opening(change) && blocks.len() >= MOST_NESTED_BLOCKS {
         return broken(LineRule::TooDeep, 0);
     }
     None

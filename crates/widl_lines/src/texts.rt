@@ -11,6 +11,7 @@ use crate::characters::split_character;
 use crate::integers::is_large_integer;
 use std::alloc::{AllocError, Global};
 use widl_text::Units;
+use widl_text::limits::MOST_TEXT_UNITS;
 
 /// What the next character or escape of a text is.
 #[derive(Clone, Copy, Debug)]
@@ -164,12 +165,12 @@ pub fn is_well_formed(text: &[u8]) -> bool
     count_units(true, between_quotes(text)).is_some()
 }
 
-/// Whether a text has more than 1,000 units.
+/// Whether a text has more units than one may have.
 fn has_many_units(escapes: bool, text: &[u8]) -> bool
     ensures { result ≡ has_many_units (units_of_characters escapes (chars (between_quotes text.now))) }
 {
     match count_units(escapes, between_quotes(text)) {
-        Some(count) => count > 1000,
+        Some(count) => count > MOST_TEXT_UNITS,
         None => false,
     }
 }

@@ -17,6 +17,8 @@ mod idl;
 #[cfg(test)]
 mod lex;
 #[cfg(test)]
+mod line_levels;
+#[cfg(test)]
 mod lines;
 #[cfg(test)]
 mod overload;

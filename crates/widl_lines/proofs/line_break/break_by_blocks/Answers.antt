@@ -8,10 +8,10 @@ use Rattle.widl_lines.proofs.LineBreaks.{too_deep, not_by_blocks, never_none, no
 use Rattle.widl_lines.proofs.Stacking.{same_length}
 use Rattle.widl_lines.proofs.line_break.break_by_blocks.Goals as goal
 
-pub returns-then-blocks-ge-MOST_BLOCKS : goal.returns-then-blocks-ge-MOST_BLOCKS
-returns-then-blocks-ge-MOST_BLOCKS c =
-    subst (IsFirst break_key (ByBlocks (blocks_of c.args.blocks.now) (map lexeme_of c.args.words.now))) (sym c.broken-then-blocks-ge-MOST_BLOCKS.ensures)
-    (too_deep (blocks_of c.args.blocks.now) (map lexeme_of c.args.words.now) (sym (ap is_opening c.change_by-change.ensures) ∙ sym c.is_opening.ensures ∙ c.if-is_opening.true) (omega (arith, same_length c.args.blocks.now, c.if-blocks-ge-MOST_BLOCKS.true)))
+pub returns-then-blocks-ge-MOST_NESTED_BLOCKS : goal.returns-then-blocks-ge-MOST_NESTED_BLOCKS
+returns-then-blocks-ge-MOST_NESTED_BLOCKS c =
+    subst (IsFirst break_key (ByBlocks (blocks_of c.args.blocks.now) (map lexeme_of c.args.words.now))) (sym c.broken-then-blocks-ge-MOST_NESTED_BLOCKS.ensures)
+    (too_deep (blocks_of c.args.blocks.now) (map lexeme_of c.args.words.now) (sym (ap is_opening c.change_by-change.ensures) ∙ sym c.is_opening.ensures ∙ c.if-is_opening.true) (omega (arith, same_length c.args.blocks.now, c.if-blocks-ge-MOST_NESTED_BLOCKS.true)))
 
 pub returns : goal.returns
 returns c =

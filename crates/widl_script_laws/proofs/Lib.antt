@@ -1,0 +1,4 @@
+pub mod Giving
+pub mod Words
+pub mod Expressions
+pub mod Lines
