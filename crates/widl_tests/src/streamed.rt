@@ -1,7 +1,5 @@
 //! How the writer of lines calls a sink, and what the sink holds where one of these calls fails.
 
-ghost use Rattle.std.specs.Prelude.{◌<◌};
-
 use std::alloc::Global;
 use std::process::Abort;
 use widl_sink::{Line, MemorySink, Numbers, WriteFailed, Writer};
@@ -114,9 +112,8 @@ fn text_of(rt: &impl Abort, alloc: Global, lines: &[usize]) -> Vec<u8> {
 }
 
 /// A sink that takes so many bytes a call and fails in one call.
-fn sink_of(rt: &impl Abort, alloc: Global, most: u32, call: u64) -> MemorySink
-    requires { 0 < most }
-{
+fn sink_of(rt: &impl Abort, alloc: Global, most: u32, call: u64) -> MemorySink {
+    assert!(rt; 0 < most);
     let mut fails = Numbers::new(alloc);
     fails.push(call).expect(rt, "memory for a number");
     MemorySink::new(alloc, 400_000, most, fails).expect(rt, "memory for a sink")
