@@ -90,22 +90,27 @@ const ROWS: [Row; 14] = [
     },
 ];
 
-/// Bytes for lines: no two of them that are less than 26 apart are the same.
+/// Letters for lines: no two of them that are less than 26 apart are the same.
 fn letters(rt: &impl Abort, alloc: Global, count: usize) -> Vec<u8> {
-    let mut bytes = Vec::new(alloc);
+    let mut letters = Vec::new(alloc);
     for place in 0..count {
         let letter = b'a' + (place % 26) as u8;
-        bytes.push(letter).expect(rt, "memory for a letter");
+        letters.push(letter).expect(rt, "memory for a letter");
     }
-    bytes
+    letters
+}
+
+/// The first letters.
+fn line_of<'t>(letters: &'t [u8], count: usize) -> &'t [u8] {
+    &letters[..count.min(letters.len())]
 }
 
 /// The lines one after another, each with its line feed.
-fn text_of(rt: &impl Abort, alloc: Global, lines: &[usize]) -> Vec<u8> {
+fn text_of(rt: &impl Abort, alloc: Global, letters: &[u8], lines: &[usize]) -> Vec<u8> {
     let mut text = Vec::new(alloc);
     for count in lines {
-        let line = letters(rt, alloc, *count);
-        text.extend_from_slice(&line).expect(rt, "memory for lines");
+        let added = text.extend_from_slice(line_of(letters, *count));
+        added.expect(rt, "memory for a line");
         text.push(b'\n').expect(rt, "memory for a line feed");
     }
     text
@@ -123,33 +128,35 @@ fn sink_of(rt: &impl Abort, alloc: Global, most: u32, call: u64) -> MemorySink {
 fn write_lines(
     rt: &impl Abort,
     alloc: Global,
+    letters: &[u8],
     lines: &[usize],
     out: &mut MemorySink,
 ) -> Result<(), WriteFailed> {
     let mut writer = Writer::new(alloc).expect(rt, "memory for a writer");
     for count in lines {
-        let line = Line::new(letters(rt, alloc, *count));
+        let bytes = Vec::from_slice(alloc, line_of(letters, *count));
+        let line = Line::new(bytes.expect(rt, "memory for a line"));
         writer.emit(&line, out)?;
     }
     writer.flush(out)
 }
 
-/// What the sink holds where a call fails: what the calls before it took.
-fn expect_torn(rt: &impl Abort, alloc: Global, row: &Row, text: &[u8], failing: usize) {
-    let call = failing as u64 + 1;
-    let mut out = sink_of(rt, alloc, row.most, call);
-    let written = write_lines(rt, alloc, row.lines, &mut out);
-    assert!(rt; written.is_err() == (failing < row.calls), "call {call}");
-    let taken = text.len().min(failing * row.most as usize);
-    assert!(rt; out.held() == &text[..taken], "call {call}");
+/// What the sink holds where the call after so many fails: what these took.
+fn expect_torn(rt: &impl Abort, alloc: Global, letters: &[u8], row: &Row, calls: usize) {
+    let text = text_of(rt, alloc, letters, row.lines);
+    let mut out = sink_of(rt, alloc, row.most, calls as u64 + 1);
+    let written = write_lines(rt, alloc, letters, row.lines, &mut out);
+    assert!(rt; written.is_err() == (calls < row.calls), "{calls} calls");
+    let taken = text.len().min(calls * row.most as usize);
+    assert!(rt; out.held() == &text[..taken], "{calls} calls");
 }
 
 /// Lets each call of the sink fail in turn, and then one more than there are.
 fn expect_rows(rt: &impl Abort, alloc: Global, rows: &[Row]) {
+    let letters = letters(rt, alloc, 200_000);
     for row in rows {
-        let text = text_of(rt, alloc, row.lines);
-        for failing in 0..=row.calls {
-            expect_torn(rt, alloc, row, &text, failing);
+        for calls in 0..=row.calls {
+            expect_torn(rt, alloc, &letters, row, calls);
         }
     }
 }
