@@ -11,7 +11,7 @@ struct Row {
     /// How many bytes the sink takes a call; each call but the last takes as many.
     most: u32,
     /// How many calls take all.
-    calls: usize,
+    calls: u32,
 }
 
 const ROWS: [Row; 14] = [
@@ -142,12 +142,14 @@ fn write_lines(
 }
 
 /// What the sink holds where the call after so many fails: what these took.
-fn expect_torn(rt: &impl Abort, alloc: Global, letters: &[u8], row: &Row, calls: usize) {
+fn expect_torn(rt: &impl Abort, alloc: Global, letters: &[u8], row: &Row, calls: u32) {
     let text = text_of(rt, alloc, letters, row.lines);
     let mut out = sink_of(rt, alloc, row.most, calls as u64 + 1);
     let written = write_lines(rt, alloc, letters, row.lines, &mut out);
     assert!(rt; written.is_err() == (calls < row.calls), "{calls} calls");
-    let taken = text.len().min(calls * row.most as usize);
+    let taken = text
+        .len()
+        .min((calls as usize).saturating_mul(row.most as usize));
     assert!(rt; out.held() == &text[..taken], "{calls} calls");
 }
 

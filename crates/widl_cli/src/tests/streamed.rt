@@ -46,7 +46,7 @@ struct Run {
     /// How many bytes the sink takes a call; each call but the last takes as many.
     most: u32,
     /// How many calls take the trace.
-    calls: usize,
+    calls: u32,
 }
 
 const RUNS: [Run; 5] = [
@@ -146,7 +146,7 @@ fn sink_of(rt: &impl Abort, alloc: Global, most: u32, call: u64) -> MemorySink {
 }
 
 /// The status of a run, and what the sink holds, where the call after so many fails.
-fn expect_torn(rt: &impl Abort, alloc: Global, run: &Run, trace: &[u8], calls: usize) {
+fn expect_torn(rt: &impl Abort, alloc: Global, run: &Run, trace: &[u8], calls: u32) {
     let words = run_words(alloc, run.budget).expect(rt, "memory for words");
     let mut folder = folder_of(rt, alloc, run);
     let mut out = sink_of(rt, alloc, run.most, calls as u64 + 1);
@@ -154,7 +154,9 @@ fn expect_torn(rt: &impl Abort, alloc: Global, run: &Run, trace: &[u8], calls: u
     let torn = calls < run.calls;
     assert!(rt; torn == (status == Status::WriteFault), "{calls} calls");
     assert!(rt; torn || status == run.status, "{calls} calls");
-    let taken = trace.len().min(calls * run.most as usize);
+    let taken = trace
+        .len()
+        .min((calls as usize).saturating_mul(run.most as usize));
     assert!(rt; out.held() == &trace[..taken], "{calls} calls");
 }
 
