@@ -6,10 +6,11 @@ Run at the top of the repository, after `./widl --version` has built the program
     python3 bench/run.py
 
 It prints the seconds of processor time that runs take which use up a budget of 2,000,000 units and one of 20,000, without the
-time of a run of the same files with a budget of one unit, and the nanoseconds a unit; then the microseconds that an item of a
+time of a run of the same files with a budget of one unit, and the nanoseconds a unit, with the seconds of the program and the
+system together where the trace goes to a file, its bytes and the calls of `write` of that run; then the microseconds that an item of a
 container takes where there are few and where there are many, without the time of a run that ends in front of the calls; then the
 milliseconds of whole runs (the reading of the files, their check, the first objects, the run); and what the start of a run over a
-file of 1 MiB takes beside its `check`. Times are of the processor, without the system's, the least of some runs.
+file of 1 MiB takes beside its `check`. Times are of the processor, without the system's where nothing else is said, the least of some runs.
 """
 import itertools
 import os
@@ -223,6 +224,20 @@ def seconds(words):
     return min(found)
 
 
+def streamed(words, path):
+    """The least user and system time together of some runs that write to a file, the bytes written, and the calls of `write`."""
+    found, calls = [], 0
+    for _ in range(RUNS):
+        before = resource.getrusage(resource.RUSAGE_CHILDREN)
+        with open(path, "wb") as trace, subprocess.Popen([PROGRAM, *words], stdout=trace) as run:
+            os.waitid(os.P_PID, run.pid, os.WEXITED | os.WNOWAIT)
+            with open(f"/proc/{run.pid}/io", encoding="ascii") as counts:
+                calls = int(counts.read().split("syscw: ")[1].split()[0])
+        after = resource.getrusage(resource.RUSAGE_CHILDREN)
+        found.append(after.ru_utime + after.ru_stime - before.ru_utime - before.ru_stime)
+    return min(found), os.path.getsize(path), calls
+
+
 def written(folder, name, text):
     """The path of a file with this text."""
     path = os.path.join(folder, name)
@@ -232,14 +247,19 @@ def written(folder, name, text):
 
 
 def budgets(folder):
-    print("| a run of | s for 2,000,000 units | ns a unit | ns a unit at 20,000 |\n|---|---|---|---|")
+    print("| a run of | s for 2,000,000 units | ns a unit | ns a unit at 20,000 | s with the system's, to a file | MB | calls of `write` |")
+    print("|---|---|---|---|---|---|---|")
     for name, (idl, once, again) in BUDGETS.items():
         script = written(folder, "s", once + nested(again, 2_000_000))
         fragment = written(folder, "n.idl", idl)
         start = seconds(["run", "1", script, fragment])
         large = seconds(["run", "2000000", script, fragment]) - start
         small = seconds(["run", "20000", script, fragment]) - start
-        print(f"| {name} | {large:.2f} | {large / 2_000_000 * 1e9:.0f} | {small / 20_000 * 1e9:.0f} |")
+        trace = os.path.join(folder, "trace")
+        empty, _, _ = streamed(["run", "1", script, fragment], trace)
+        both, size, calls = streamed(["run", "2000000", script, fragment], trace)
+        row = f"{large:.2f} | {large / 2_000_000 * 1e9:.0f} | {small / 20_000 * 1e9:.0f} | {both - empty:.2f} | {size / 1e6:.1f} | {calls:,}"
+        print(f"| {name} | {row} |")
 
 
 def items(folder):

@@ -35,6 +35,7 @@ mod scalars;
 mod scripts;
 mod served;
 mod sizes;
+mod streamed;
 mod suspended;
 mod unions;
 mod validity;

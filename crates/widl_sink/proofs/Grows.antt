@@ -102,3 +102,28 @@ sends_torn a b c w e x p q = subst (GrewByPrefix a c) (sym p.whole) (prefix_afte
 pub sends_torn_err : {T F : Type 0} (r : Result T F) (a b c : Option (List ℕ)) (w e x : List ℕ) → Sends a b w e x → OnErr r (GrewByPrefix b c x) → OnErr r (GrewByPrefix a c (w ++ e))
 sends_torn_err (Ok y) a b c w e x p q = tt
 sends_torn_err (Err y) a b c w e x p q = sends_torn a b c w e x p q
+
+-- some of what was added is kept behind what was kept
+pub sends_kept : (a b : Option (List ℕ)) (w e x moved y : List ℕ) → Sends a b w e x → y ≡ x ++ moved → Sends a b w (e ++ moved) y
+sends_kept a b w e x moved y p q = record {
+  sent = p.sent;
+  whole = sym (append_assoc w e moved) ∙ ap (λ l. l ++ moved) p.whole ∙ append_assoc p.sent x moved ∙ ap (λ l. p.sent ++ l) (sym q);
+  grew = p.grew;
+}
+
+-- what was kept is written out
+pub sends_out : (a b c : Option (List ℕ)) (w e x now : List ℕ) → Sends a b w e x → c ≡ append_known b x → now ≡ [] → Sends a c w e now
+sends_out a b c w e x now p q none = record {
+  sent = p.sent ++ x;
+  whole = p.whole ∙ sym (append-nil (p.sent ++ x)) ∙ ap (λ l. (p.sent ++ x) ++ l) (sym none);
+  grew = grown_more a b c p.sent x p.grew q;
+}
+
+-- the same, where it holds only at an end without an error, or with one
+pub sends_then_ok : {T F : Type 0} (r : Result T F) (a b c : Option (List ℕ)) (w e x f y : List ℕ) → Sends a b w e x → OnOk r (Sends b c x f y) → OnOk r (Sends a c w (e ++ f) y)
+sends_then_ok (Ok z) a b c w e x f y p q = sends_then a b c w e x f y p q
+sends_then_ok (Err z) a b c w e x f y p q = tt
+
+pub sends_prefix_err : {T F : Type 0} (r : Result T F) (a b c : Option (List ℕ)) (w e x f : List ℕ) → Sends a b w e x → OnErr r (GrewByPrefix b c (x ++ f)) → OnErr r (GrewByPrefix a c (w ++ (e ++ f)))
+sends_prefix_err (Ok z) a b c w e x f p q = tt
+sends_prefix_err (Err z) a b c w e x f p q = sends_prefix a b c w e x f p q

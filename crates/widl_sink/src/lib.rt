@@ -18,4 +18,4 @@ pub use numbers::Numbers;
 pub use sink::{Sink, WriteFailed};
 pub use stdout_sink::StdoutSink;
 pub use sure_sink::SureSink;
-pub use writer::{Writer, write_all};
+pub use writer::{Writer, keeps_few, write_all};

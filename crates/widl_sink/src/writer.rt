@@ -1,16 +1,16 @@
 //! The writer of lines.
 
-ghost use Rattle.std.specs.Prelude.{◌≡◌, ℕ, ◌<◌, ◌≤◌, List, [], ◌++◌, length, take, OnOk, OnErr, IfOk};
+ghost use Rattle.std.specs.Prelude.{◌≡◌, ℕ, ◌<◌, ◌≤◌, ◌⊎◌, List, [], ◌++◌, length, take, OnOk, OnErr, IfOk, vec_capacity};
 ghost use Rattle.std.specs.Io.KnownBytes.{append_known};
 ghost use Rattle.widl_sink.specs.Causes.{HasCause};
-ghost use Rattle.widl_sink.specs.Growth.{GrewByPrefix, Sends};
+ghost use Rattle.widl_sink.specs.Growth.{GrewByPrefix, Sends, most_kept};
 ghost use Rattle.widl_sink.specs.Lines.{ended};
 
 use crate::{Line, Sink, WriteFailed};
 use std::alloc::{AllocError, Global};
 use std::marker::Model;
 
-/// The most bytes that are handed to a sink in one piece.
+/// The most bytes that are handed to a sink in one piece, and that a writer keeps.
 const PIECE: usize = 65_536;
 
 /// Hands a sink some of the bytes, and says how many.
@@ -46,7 +46,8 @@ pub fn write_all<K: Sink>(out: &mut K, bytes: &[u8]) -> Result<(), WriteFailed>
 }
 
 /// Writes lines to a sink, which its caller gives to each call. Contracts see it as the bytes that it
-/// keeps and hasn't handed on yet.
+/// keeps and hasn't handed on yet. It has room for [`PIECE`] of them from the first on, so that no call
+/// but [`Writer::new`] takes memory, and hands all of them on where these are filled.
 ///
 /// After `WriteFailed` a writer is not used again.
 #[derive(Drop)]
@@ -58,6 +59,31 @@ impl Model for Writer {
     ghost Value = { List ℕ };
 
     ghost view = { λ w. w.kept.items };
+
+    ghost invariant = { λ w. (most_kept ≤ vec_capacity w.kept) × (length w.kept.items ≤ most_kept) };
+}
+
+/// Puts what fits of the bytes behind the kept ones, and gives those that don't fit.
+fn keep<'b>(kept: &mut Vec<u8>, bytes: &'b [u8]) -> &'b [u8]
+    requires room { most_kept ≤ vec_capacity kept.old }
+    requires few { length kept.old.items ≤ most_kept }
+    ensures moved { (moved : List ℕ) × (kept.new.items ≡ kept.old.items ++ moved) × (bytes.now ≡ moved ++ result.now) }
+    ensures room { most_kept ≤ vec_capacity kept.new }
+    ensures few { length kept.new.items ≤ most_kept }
+    ensures full { (length kept.new.items ≡ most_kept) ⊎ (result.now ≡ []) }
+{
+    let count = bytes.len().min(PIECE - kept.len());
+    match kept.extend_from_slice(&bytes[..count]) {
+        Ok(()) => &bytes[count..],
+        Err(_) => unreachable!(),
+    }
+}
+
+/// What a writer keeps, which is lost where the program is ended from outside, has at most so many bytes.
+pub fn keeps_few(writer: &Writer)
+    ensures { length writer.now ≤ most_kept }
+{
+    let _kept = &writer.kept;
 }
 
 impl Writer {
@@ -65,17 +91,15 @@ impl Writer {
     ///
     /// # Errors
     ///
-    /// `AllocError` where there is no memory.
+    /// `AllocError` where there is no memory. No later call takes memory.
     pub fn new(alloc: Global) -> Result<Writer, AllocError>
         ensures { IfOk result (λ writer. writer ≡ []) }
     {
-        Ok(Writer {
-            kept: Vec::new(alloc),
-        })
+        let kept = Vec::with_capacity(alloc, PIECE)?;
+        Ok(Writer { kept })
     }
 
-    /// Adds a line and its line feed to what the sink holds and the writer keeps. Each line is written
-    /// through at once, so nothing is kept after `Ok`.
+    /// Adds a line and its line feed to what the sink holds and the writer keeps.
     ///
     /// # Errors
     ///
@@ -86,9 +110,24 @@ impl Writer {
         ensures err { OnErr result (GrewByPrefix (K.held out.old) (K.held out.new) (self.old ++ ended line.now)) }
         ensures cause { HasCause (K.faults out.old) (K.faults out.new) result }
     {
-        self.flush(out)?;
-        write_all(out, line.bytes())?;
-        write_all(out, b"\n")
+        self.add(line.bytes(), out)?;
+        self.add(b"\n", out)
+    }
+
+    /// Adds bytes to what the sink holds and the writer keeps.
+    fn add<K: Sink>(&mut self, bytes: &[u8], out: &mut K) -> Result<(), WriteFailed>
+        ensures ok { OnOk result (Sends (K.held out.old) (K.held out.new) self.old bytes.now self.new) }
+        ensures err { OnErr result (GrewByPrefix (K.held out.old) (K.held out.new) (self.old ++ bytes.now)) }
+        ensures cause { HasCause (K.faults out.old) (K.faults out.new) result }
+    {
+        let mut rest = bytes;
+        while !rest.is_empty() {
+            rest = keep(&mut self.kept, rest);
+            if self.kept.len() == PIECE {
+                self.flush(out)?;
+            }
+        }
+        Ok(())
     }
 
     /// Moves what the writer keeps to the sink.

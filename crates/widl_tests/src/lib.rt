@@ -35,6 +35,8 @@ mod sink;
 #[cfg(test)]
 mod store;
 #[cfg(test)]
+mod streamed;
+#[cfg(test)]
 mod tables;
 #[cfg(test)]
 mod text;
