@@ -2,8 +2,8 @@
 //! for it. What it tells and takes is answered at once.
 
 ghost use Rattle.std.specs.Prelude.{◌≡◌, ◌≤◌, IfOk, IfSome, Some, length};
+ghost use Rattle.widl_steps.specs.AskTerms.{BeginAnswer, Fits, answer_term, ask_term, kind_of};
 ghost use Rattle.widl_calls.specs.Stack.{CallExpects, call_pending};
-ghost use Rattle.widl_convert.specs.AskTerms.{BeginAnswer, Fits, answer_term, ask_term, kind_of};
 ghost use Rattle.widl_text.specs.Limits.{most_file_bytes};
 
 use crate::conversions::is_given;
@@ -13,8 +13,8 @@ use crate::numbers::number_of;
 use crate::sets::tables_of;
 use anyhow::{Result, bail};
 use std::alloc::Global;
-use widl_calls::CallAsker;
 use widl_convert::{Answer, Ask, Next};
+use widl_calls::CallAsker;
 use widl_idl::Callee;
 use widl_lines::ScriptFault;
 use widl_overload::{Accepted, has_operations_alone};

@@ -1,7 +1,7 @@
 //! Conversations of calls.
 
 ghost use Rattle.std.specs.Prelude.{◌≡◌, IfOk, IfSome, Some};
-ghost use Rattle.widl_convert.specs.AskTerms.{BeginAnswer, answer_term, ask_term, kind_of};
+ghost use Rattle.widl_steps.specs.AskTerms.{BeginAnswer, answer_term, ask_term, kind_of};
 ghost use Rattle.widl_calls.specs.Stack.{CallExpects, call_pending};
 
 use crate::answers::{Answers, tell_end};
@@ -10,8 +10,8 @@ use crate::fault::Fault;
 use crate::idl::OPERATION;
 use crate::values::{value_of, values_of};
 use std::alloc::Global;
-use widl_calls::CallAsker;
 use widl_convert::{Answer, Ask, Next};
+use widl_calls::CallAsker;
 use widl_script_tree::Script;
 use widl_store::Builtin;
 use widl_tables::Tables;

@@ -1,8 +1,8 @@
 //! The conversations of a row.
 
-ghost use Rattle.widl_calls.specs.Stack.{CallExpects};
-ghost use Rattle.widl_convert.specs.AskTerms.{BeginAnswer};
+ghost use Rattle.widl_steps.specs.AskTerms.{BeginAnswer};
 ghost use Rattle.widl_convert.specs.Stack.{Expects};
+ghost use Rattle.widl_calls.specs.Stack.{CallExpects};
 
 use crate::answers::Answers;
 use crate::asker::{callee_of, conversion, resolution, result_of, scalar, talk};
@@ -14,8 +14,8 @@ use crate::repeats::expanded;
 use crate::steps::script_of;
 use crate::task::{Task, with_steps};
 use std::alloc::Global;
-use widl_calls::CallAsker;
 use widl_convert::{Answer, Asker};
+use widl_calls::CallAsker;
 use widl_script_tree::Script;
 use widl_tables::Tables;
 
