@@ -14,8 +14,8 @@ use crate::repeats::expanded;
 use crate::steps::script_of;
 use crate::task::{Task, with_steps};
 use std::alloc::Global;
-use widl_convert::{Answer, Asker};
 use widl_calls::CallAsker;
+use widl_convert::{Answer, Asker};
 use widl_script_tree::Script;
 use widl_tables::Tables;
 
