@@ -2,8 +2,8 @@
 //! for it. What it tells and takes is answered at once.
 
 ghost use Rattle.std.specs.Prelude.{◌≡◌, ◌≤◌, IfOk, IfSome, Some, length};
+ghost use Rattle.widl_steps.specs.AskTerms.{BeginAnswer, Fits, answer_term, ask_term, kind_of};
 ghost use Rattle.widl_calls.specs.Stack.{CallExpects, call_pending};
-ghost use Rattle.widl_convert.specs.AskTerms.{BeginAnswer, Fits, answer_term, ask_term, kind_of};
 ghost use Rattle.widl_text.specs.Limits.{most_file_bytes};
 
 use crate::conversions::is_given;

@@ -2,7 +2,7 @@
 //! of the first argument of the first operation.
 
 ghost use Rattle.std.specs.Prelude.{◌≡◌, IfOk, IfSome, Some};
-ghost use Rattle.widl_convert.specs.AskTerms.{BeginAnswer, Fits, answer_term, ask_term, kind_of};
+ghost use Rattle.widl_steps.specs.AskTerms.{BeginAnswer, Fits, answer_term, ask_term, kind_of};
 ghost use Rattle.widl_convert.specs.Stack.{Expects, pending};
 
 use crate::first::{FIRST, first_type};

@@ -2,7 +2,7 @@
 //! overloads are those of the first operation, and each argument is a Number, so nothing is asked.
 
 ghost use Rattle.std.specs.Prelude.{IfOk};
-ghost use Rattle.widl_convert.specs.AskTerms.{BeginAnswer};
+ghost use Rattle.widl_steps.specs.AskTerms.{BeginAnswer};
 ghost use Rattle.widl_convert.specs.Stack.{Expects};
 
 use crate::first::FIRST;

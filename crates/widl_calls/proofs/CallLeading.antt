@@ -7,15 +7,15 @@ use Rattle.widl_idl.specs.DefinitionTerms.{DefsTerm}
 use Rattle.widl_value.specs.declared.object.ObjRef.{ObjRef}
 use Rattle.widl_value.specs.declared.value.Value.{Value}
 use Rattle.widl_store.specs.declared.inner.Builtin.{Builtin}
-use Rattle.widl_convert.specs.AskTerms.{Fits, IsFree, OfKind}
+use Rattle.widl_steps.specs.AskTerms.{Fits, IsFree, OfKind}
+use Rattle.widl_steps.specs.BuiltCalls.{calls_built_today}
+use Rattle.widl_steps.specs.CallRules.{call_rule}
+use Rattle.widl_steps.specs.CallTasks.{Function}
+use Rattle.widl_steps.specs.Operations.{StepsOf}
 use Rattle.widl_calls.specs.declared.array_turns.ArrayWait.{ArrayWait}
 use Rattle.widl_calls.specs.declared.moves.CallMove.{CallMove}
 use Rattle.widl_calls.specs.ArrayWaits.{array_kind_for, array_patience}
-use Rattle.widl_calls.specs.BuiltCalls.{calls_built_today}
-use Rattle.widl_calls.specs.CallRules.{call_rule}
-use Rattle.widl_calls.specs.CallTasks.{Function}
 use Rattle.widl_calls.specs.Frames.{CallLeads, call_dialog, call_weight}
-use Rattle.widl_calls.specs.Operations.{StepsOf}
 
 -- a function's first move is what its task leads to
 pub function_leads : (list : DefsTerm) (steps : StepsOf) (f : ObjRef) (what : Builtin) (this : Value) (args : List Value) (construct : Bool) (r : Result CallMove AllocError) → IfOk r (λ m. (steps : StepsOf) (f : ObjRef) (construct : Bool) → call_dialog list steps m ≡ call_rule calls_built_today list steps (Function f what this args construct)) → IfOk r (λ m. CallLeads list steps (call_rule calls_built_today list steps (Function f what this args construct)) (call_dialog list steps m))

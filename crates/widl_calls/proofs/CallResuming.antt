@@ -8,25 +8,25 @@ use Rattle.widl_dialog.proofs.Bind.{bind_end}
 use Rattle.widl_dialog.proofs.Positions.{here, at_then, at_bind, next_ask, next_end}
 use Rattle.widl_dialog.proofs.Stacking as stacking
 use Rattle.widl_idl.specs.DefinitionTerms.{DefsTerm}
+use Rattle.widl_steps.specs.AskTerms.{AskTerm, AskKind, AnswerTerm, BeginAnswer, Fits, IsWanted, ask_term, kind_of}
+use Rattle.widl_steps.specs.Laws.{Said}
+use Rattle.widl_steps.specs.Tasks.{TaskEnd}
+use Rattle.widl_steps.specs.BuiltCalls.{calls_built_today}
+use Rattle.widl_steps.specs.CallRules.{call_rule}
+use Rattle.widl_steps.specs.CallTasks.{CallTask, CallTalk}
+use Rattle.widl_steps.specs.Operations.{StepsOf}
 use Rattle.widl_convert.specs.declared.moves.Ending.{Ending}
 use Rattle.widl_convert.specs.declared.outcome.Next.{Next as NextAnswer}
 use Rattle.widl_convert.specs.declared.outcome.Next.TheVariants as next
-use Rattle.widl_convert.specs.AskTerms.{AskTerm, AskKind, AnswerTerm, BeginAnswer, Fits, IsWanted, ask_term, kind_of}
 use Rattle.widl_convert.specs.Frames.{end_of}
-use Rattle.widl_convert.specs.Laws.{Said}
 use Rattle.widl_convert.specs.Stack.{kind_of_last, next_said}
-use Rattle.widl_convert.specs.Tasks.{TaskEnd}
 use Rattle.widl_calls.specs.declared.call_asker.CallAsker.{CallAsker}
 use Rattle.widl_calls.specs.declared.call_asker.CallState.{CallState}
 use Rattle.widl_calls.specs.declared.call_asker.CallState.TheVariants.{Begins, Waits, Ended}
 use Rattle.widl_calls.specs.declared.frames.CallFrame.{CallFrame}
 use Rattle.widl_calls.specs.declared.moves.CallAsking.{CallAsking}
 use Rattle.widl_calls.specs.declared.moves.CallMove.{CallMove}
-use Rattle.widl_calls.specs.BuiltCalls.{calls_built_today}
-use Rattle.widl_calls.specs.CallRules.{call_rule}
-use Rattle.widl_calls.specs.CallTasks.{CallTask, CallTalk}
 use Rattle.widl_calls.specs.Frames.{CallLeads, call_after, call_dialog, call_frame_load, call_patience, call_returned_to, call_weight}
-use Rattle.widl_calls.specs.Operations.{StepsOf}
 use Rattle.widl_calls.specs.Stack.{CallAwaits, CallExpects, CallIsReached, CallIsTold, CallResumes, CallStands, CallTells, IsCallCalmer, IsCallQuiet, IsCallQuietState, call_left, call_moves_on, call_pause, call_pending, call_quiet, call_rest, call_waiting}
 use Rattle.widl_calls.specs.Waits.{call_kind_for}
 

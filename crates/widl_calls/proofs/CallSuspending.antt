@@ -7,19 +7,19 @@ use Rattle.widl_dialog.proofs.Positions.{here}
 use Rattle.widl_dialog.proofs.Stacking as stacking
 use Rattle.widl_dialog.proofs.Stacking.{load_push}
 use Rattle.widl_idl.specs.DefinitionTerms.{DefsTerm}
+use Rattle.widl_steps.specs.AskTerms.{Fits}
+use Rattle.widl_steps.specs.BuiltCalls.{calls_built_today}
+use Rattle.widl_steps.specs.CallRules.{call_rule}
+use Rattle.widl_steps.specs.CallTasks.{CallTalk}
+use Rattle.widl_steps.specs.Operations.{StepsOf}
 use Rattle.widl_convert.specs.declared.moves.Ending.{Ending}
-use Rattle.widl_convert.specs.AskTerms.{Fits}
 use Rattle.widl_convert.specs.Frames.{end_of}
 use Rattle.widl_convert.specs.Loads.{given_load}
 use Rattle.widl_calls.specs.declared.frames.CallFrame.{CallFrame}
 use Rattle.widl_calls.specs.declared.jobs.CallJob.{CallJob}
 use Rattle.widl_calls.specs.declared.moves.CallMove.{CallMove}
 use Rattle.widl_calls.specs.declared.moves.CallMove.TheVariants as moves
-use Rattle.widl_calls.specs.BuiltCalls.{calls_built_today}
-use Rattle.widl_calls.specs.CallRules.{call_rule}
-use Rattle.widl_calls.specs.CallTasks.{CallTalk}
 use Rattle.widl_calls.specs.Frames.{CallLeads, call_dialog, call_frame_load, call_job_of, call_returned_to, call_weight, job_load}
-use Rattle.widl_calls.specs.Operations.{StepsOf}
 use Rattle.widl_calls.specs.Stack.{CallFollows}
 
 -- 1. The measure

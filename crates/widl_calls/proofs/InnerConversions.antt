@@ -5,21 +5,21 @@ use Rattle.std.specs.declared.alloc.AllocError.{AllocError}
 use Rattle.widl_dialog.specs.Rename.{rename}
 use Rattle.widl_dialog.proofs.Renaming.{at_rename}
 use Rattle.widl_idl.specs.DefinitionTerms.{DefsTerm}
+use Rattle.widl_steps.specs.AskTerms.{AskKind, AnswerTerm, Fits, IsFree, IsWanted}
+use Rattle.widl_steps.specs.Built.{built_today}
+use Rattle.widl_steps.specs.Rules.{rule}
+use Rattle.widl_steps.specs.Tasks.{Talk}
+use Rattle.widl_steps.specs.BuiltCalls.{calls_built_today}
+use Rattle.widl_steps.specs.CallRules.{call_rule}
+use Rattle.widl_steps.specs.CallTasks.{Of}
+use Rattle.widl_steps.specs.Operations.{StepsOf}
 use Rattle.widl_convert.specs.declared.asker.Asker.{Asker}
 use Rattle.widl_convert.specs.declared.asker.State.{State}
 use Rattle.widl_convert.specs.declared.asker.State.TheVariants.{Begins, Waits, Ended}
-use Rattle.widl_convert.specs.AskTerms.{AskKind, AnswerTerm, Fits, IsFree, IsWanted}
-use Rattle.widl_convert.specs.Built.{built_today}
-use Rattle.widl_convert.specs.Rules.{rule}
 use Rattle.widl_convert.specs.Stack.{Awaits, Expects, IsQuiet, IsQuietState, Leads, pending, quiet, waiting}
-use Rattle.widl_convert.specs.Tasks.{Talk}
 use Rattle.widl_calls.specs.declared.moves.CallMove.{CallMove}
-use Rattle.widl_calls.specs.BuiltCalls.{calls_built_today}
-use Rattle.widl_calls.specs.CallRules.{call_rule}
-use Rattle.widl_calls.specs.CallTasks.{Of}
 use Rattle.widl_calls.specs.Frames.{CallLeads, call_weight}
 use Rattle.widl_calls.specs.Kinds.{kind_at, kind_in}
-use Rattle.widl_calls.specs.Operations.{StepsOf}
 
 -- where the tasks of a conversion lead, they lead in the call
 pub in_call : (list : DefsTerm) (steps : StepsOf) (d e : Talk) → Leads list d e → CallLeads list steps (rename Of d) (rename Of e)

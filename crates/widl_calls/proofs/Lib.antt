@@ -1,7 +1,4 @@
-pub mod CallFinishing
 pub mod InnerConversions
 pub mod CallSuspending
 pub mod CallResuming
 pub mod CallLeading
-pub mod CallLawProofs
-mod CallTalks

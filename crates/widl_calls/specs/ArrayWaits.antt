@@ -3,15 +3,15 @@ use Rattle.std.specs.Prelude.{ℕ, ◌+◌, true, false, codes}
 use Rattle.widl_dialog.specs.Dialog.{End, Say}
 use Rattle.widl_text.specs.declared.key.Key.TheVariants as keys
 use Rattle.widl_value.specs.declared.value.Value.TheVariants as values
-use Rattle.widl_convert.specs.AskTerms.{AskKind, OfGet, OfNewObject, OfNewArrayIterator, OfCursor, OfSetCursor, GetAsk, AnswerTerm}
+use Rattle.widl_steps.specs.AskTerms.{AskKind, OfGet, OfNewObject, OfNewArrayIterator, OfCursor, OfSetCursor, GetAsk, AnswerTerm}
+use Rattle.widl_steps.specs.Words.{done, normal, returns}
+use Rattle.widl_steps.specs.ArrayFunctions.{by_cursor, cursor_in, element_read, iterator_result, length_read, read_in_turn}
+use Rattle.widl_steps.specs.CallTasks.{CallTalk}
 use Rattle.widl_convert.specs.Frames.{end_of}
 use Rattle.widl_convert.specs.Loads.{given_load}
-use Rattle.widl_convert.specs.Words.{done, normal, returns}
 use Rattle.widl_calls.specs.declared.array_turns.ArrayTurn.{ArrayTurn}
 use Rattle.widl_calls.specs.declared.array_turns.ArrayWait.{ArrayWait}
 use Rattle.widl_calls.specs.declared.array_turns.ArrayWait.TheVariants as waits
-use Rattle.widl_calls.specs.ArrayFunctions.{by_cursor, cursor_in, element_read, iterator_result, length_read, read_in_turn}
-use Rattle.widl_calls.specs.CallTasks.{CallTalk}
 
 abbrev pub array_kind_for : ArrayWait → AskKind
 array_kind_for waits.NewIterator = OfNewArrayIterator

@@ -13,13 +13,22 @@ use Rattle.widl_scalar.specs.Primitives.{length_of}
 use Rattle.widl_store.specs.declared.inner.Builtin.{Builtin}
 use Rattle.widl_store.specs.declared.inner.Builtin.TheVariants as builtins
 use Rattle.widl_script_tree.specs.declared.steps.StepLine.{StepLine}
-use Rattle.widl_convert.specs.declared.outcome.Want.TheVariants as wants
-use Rattle.widl_convert.specs.AskTerms.{AnswerTerm, Fits, ask_term}
+use Rattle.widl_steps.specs.declared.want.Want.TheVariants as wants
+use Rattle.widl_steps.specs.AskTerms.{AnswerTerm, Fits, ask_term}
+use Rattle.widl_steps.specs.Tasks.{TaskEnd, Convert, Resolve, Scalar, Out}
+use Rattle.widl_steps.specs.Words.{done, normal, number}
+use Rattle.widl_steps.specs.Built.{built_today}
+use Rattle.widl_steps.specs.ArrayFunctions.{given_in_turn, with_length}
+use Rattle.widl_steps.specs.BuiltCalls.{calls_built_today}
+use Rattle.widl_steps.specs.CallRules.{call_rule}
+use Rattle.widl_steps.specs.CallTasks.{CallTask, Of, Function, Lines, CallTalk, NamedValues}
+use Rattle.widl_steps.specs.DefaultResults.{default_result}
+use Rattle.widl_steps.specs.ObjectFunctions.{by_kind, with_tag}
+use Rattle.widl_steps.specs.Operations.{StepsOf, chosen, result, result_type}
+use Rattle.widl_steps.specs.StepLines.{line}
 use Rattle.widl_convert.specs.Frames.{end_of}
 use Rattle.widl_convert.specs.Loads.{given_load, load, object_load}
 use Rattle.widl_convert.specs.Stack.{rest, quiet}
-use Rattle.widl_convert.specs.Tasks.{TaskEnd, Convert, Resolve, Scalar, Out}
-use Rattle.widl_convert.specs.Words.{done, normal, number}
 use Rattle.widl_calls.specs.declared.array_turns.ArrayTurn.{ArrayTurn}
 use Rattle.widl_calls.specs.declared.frames.CallFrame.{CallFrame}
 use Rattle.widl_calls.specs.declared.frames.CallFrame.TheVariants as frames
@@ -30,17 +39,8 @@ use Rattle.widl_calls.specs.declared.moves.CallMove.TheVariants as moves
 use Rattle.widl_calls.specs.declared.overload.Overload.{Overload}
 use Rattle.widl_calls.specs.declared.waits.CallWait.{CallWait}
 use Rattle.widl_calls.specs.declared.waits.CallWait.TheVariants as waits
-use Rattle.widl_convert.specs.Built.{built_today}
-use Rattle.widl_calls.specs.ArrayFunctions.{given_in_turn, with_length}
 use Rattle.widl_calls.specs.ArrayWaits.{array_after, array_patience, cursor_load, moved_load}
-use Rattle.widl_calls.specs.BuiltCalls.{calls_built_today}
-use Rattle.widl_calls.specs.CallRules.{call_rule}
-use Rattle.widl_calls.specs.CallTasks.{CallTask, Of, Function, Lines, CallTalk, NamedValues}
-use Rattle.widl_calls.specs.DefaultResults.{default_result}
 use Rattle.widl_calls.specs.NamedTerms.{named_terms}
-use Rattle.widl_calls.specs.ObjectFunctions.{by_kind, with_tag}
-use Rattle.widl_calls.specs.Operations.{StepsOf, chosen, result, result_type}
-use Rattle.widl_calls.specs.StepLines.{line}
 
 -- 1. Tasks
 

@@ -1,13 +1,3 @@
-pub mod CallTasks
-pub mod BuiltCalls
-pub mod DefaultResults
-pub mod StepLines
-pub mod Operations
-pub mod ObjectFunctions
-pub mod ArrayFunctions
-pub mod CallRules
-pub mod FoundSteps
-pub mod CallLaws
 pub mod NamedTerms
 pub mod Kinds
 pub mod ArrayWaits

@@ -2,8 +2,8 @@
 use Rattle.std.specs.Global.{Box}
 use Rattle.std.specs.Prelude.{List, [], ◌∷◌, Option, Some, None}
 use Rattle.widl_value.specs.IdlTerms.{idl_term}
+use Rattle.widl_steps.specs.CallTasks.{NamedValues}
 use Rattle.widl_calls.specs.declared.step_lines.NamedValue.{NamedValue}
-use Rattle.widl_calls.specs.CallTasks.{NamedValues}
 
 abbrev pub named_terms : Option (Box NamedValue) → NamedValues
 named_terms None = []

@@ -7,14 +7,18 @@ use Rattle.widl_dialog.specs.Stack.{under, stack_load, still}
 use Rattle.widl_idl.specs.DefinitionTerms.{DefsTerm}
 use Rattle.widl_store.specs.declared.inner.Builtin.{Builtin}
 use Rattle.widl_store.specs.declared.inner.Builtin.TheVariants as builtins
+use Rattle.widl_steps.specs.AskTerms.{AskTerm, AskKind, AnswerTerm, BeginAnswer, Fits, IsFree, IsWanted, ask_term, kind_of}
+use Rattle.widl_steps.specs.Laws.{Said, IsNext}
+use Rattle.widl_steps.specs.Tasks.{TaskEnd}
+use Rattle.widl_steps.specs.Words.{not_built}
+use Rattle.widl_steps.specs.BuiltCalls.{calls_built_today}
+use Rattle.widl_steps.specs.CallRules.{call_rule}
+use Rattle.widl_steps.specs.CallTasks.{CallTask, CallTalk}
+use Rattle.widl_steps.specs.Operations.{StepsOf}
 use Rattle.widl_convert.specs.declared.outcome.Next.{Next as NextAnswer}
 use Rattle.widl_convert.specs.declared.outcome.Next.TheVariants as next
-use Rattle.widl_convert.specs.AskTerms.{AskTerm, AskKind, AnswerTerm, BeginAnswer, Fits, IsFree, IsWanted, ask_term, kind_of}
 use Rattle.widl_convert.specs.Frames.{end_of}
-use Rattle.widl_convert.specs.Laws.{Said, IsNext}
 use Rattle.widl_convert.specs.Stack.{kind_of_last, next_said}
-use Rattle.widl_convert.specs.Tasks.{TaskEnd}
-use Rattle.widl_convert.specs.Words.{not_built}
 use Rattle.widl_calls.specs.declared.call_asker.CallAsker.{CallAsker}
 use Rattle.widl_calls.specs.declared.call_asker.CallState.{CallState}
 use Rattle.widl_calls.specs.declared.call_asker.CallState.TheVariants.{Begins, Waits, Ended}
@@ -22,11 +26,7 @@ use Rattle.widl_calls.specs.declared.frames.CallFrame.{CallFrame}
 use Rattle.widl_calls.specs.declared.moves.CallMove.{CallMove}
 use Rattle.widl_calls.specs.declared.settle.CallSettled.{CallSettled}
 use Rattle.widl_calls.specs.declared.settle.CallSettled.TheVariants as settled
-use Rattle.widl_calls.specs.BuiltCalls.{calls_built_today}
-use Rattle.widl_calls.specs.CallRules.{call_rule}
-use Rattle.widl_calls.specs.CallTasks.{CallTask, CallTalk}
 use Rattle.widl_calls.specs.Frames.{CallLeads, call_after, call_dialog, call_frame_load, call_job_of, call_patience, call_returned_to, call_weight, job_load}
-use Rattle.widl_calls.specs.Operations.{StepsOf}
 use Rattle.widl_calls.specs.Waits.{call_kind_for}
 
 -- what may construct

@@ -1,6 +1,6 @@
 -- For proofs and contracts alone; no step names these words. The kind of the ask whose answer a suspended call waits for.
+use Rattle.widl_steps.specs.AskTerms.{AskKind, OfGet, OfKind, OfUnit, OfNote}
 use Rattle.widl_convert.specs.declared.asker.Asker.{Asker}
-use Rattle.widl_convert.specs.AskTerms.{AskKind, OfGet, OfKind, OfUnit, OfNote}
 use Rattle.widl_calls.specs.declared.waits.CallWait.{CallWait}
 use Rattle.widl_calls.specs.declared.waits.CallWait.TheVariants as waits
 use Rattle.widl_calls.specs.ArrayWaits.{array_kind_for}

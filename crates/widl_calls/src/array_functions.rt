@@ -4,12 +4,12 @@ ghost use Rattle.std.specs.Prelude.{◌≡◌, ◌<◌, ◌≤◌, ◌+◌, deci
 ghost use Rattle.widl_dialog.specs.Dialog.{End, Say};
 ghost use Rattle.widl_text.specs.declared.key.Key.TheVariants.{Name};
 ghost use Rattle.widl_idl.specs.DefinitionTerms.{DefsTerm};
-ghost use Rattle.widl_calls.specs.Operations.{StepsOf};
-ghost use Rattle.widl_convert.specs.AskTerms.{IsFree, OfSetCursor, SetCursorAsk, answer_term, ask_term, kind_of};
+ghost use Rattle.widl_steps.specs.Operations.{StepsOf};
+ghost use Rattle.widl_steps.specs.AskTerms.{IsFree, OfSetCursor, SetCursorAsk, answer_term, ask_term, kind_of};
+ghost use Rattle.widl_steps.specs.Words.{normal, returns};
+ghost use Rattle.widl_steps.specs.ArrayFunctions.{array_iterator_next, array_values, by_cursor, by_turn, cursor_in, element_read, ends_iterator, iterator_result, length_read, read_in_turn, with_length};
 ghost use Rattle.widl_convert.specs.Frames.{end_of};
 ghost use Rattle.widl_convert.specs.Loads.{given_load};
-ghost use Rattle.widl_convert.specs.Words.{normal, returns};
-ghost use Rattle.widl_calls.specs.ArrayFunctions.{array_iterator_next, array_values, by_cursor, by_turn, cursor_in, element_read, ends_iterator, iterator_result, length_read, read_in_turn, with_length};
 ghost use Rattle.widl_calls.specs.ArrayWaits.{array_after, array_kind_for, array_patience, cursor_load, moved_load, with_turn};
 ghost use Rattle.widl_calls.specs.Frames.{call_dialog, call_weight, length_load, length_to};
 
@@ -21,8 +21,9 @@ use crate::moves::{CallAsking, CallMove};
 use crate::waits::CallWait;
 use itoa::Buffer;
 use std::alloc::{AllocError, Global};
-use widl_convert::{Answer, Ask, CursorState, Ending, Outcome, ScriptEntries};
+use widl_convert::{Ending, Outcome};
 use widl_scalar::length_of_number;
+use widl_steps::{Answer, Ask, CursorState, ScriptEntries};
 use widl_store::Turn;
 use widl_text::{Key, Units};
 use widl_trace::Code;

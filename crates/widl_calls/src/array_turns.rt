@@ -6,7 +6,7 @@ use widl_convert::Ending;
 use widl_value::{ObjRef, Value};
 
 /// A turn of an Array Iterator, which gives one element (ECMA-262, "%ArrayIteratorPrototype%.next").
-#[derive(Clone, Copy, Debug, PartialEq, Eq)]
+#[derive(Clone, Copy)]
 pub struct ArrayTurn {
     /// The iterator.
     pub iterator: ObjRef,

@@ -4,11 +4,11 @@ ghost use Rattle.std.specs.Prelude.{◌≡◌, ◌≤◌, IfOk, Some};
 ghost use Rattle.widl_dialog.specs.Dialog.{Say};
 ghost use Rattle.widl_dialog.specs.Rename.{rename};
 ghost use Rattle.widl_idl.specs.DefinitionTerms.{DefsTerm, defs_term};
-ghost use Rattle.widl_calls.specs.Operations.{StepsOf};
-ghost use Rattle.widl_convert.specs.AskTerms.{BeginAnswer, IsFree, IsWanted, answer_term, ask_term, kind_of};
+ghost use Rattle.widl_steps.specs.Operations.{StepsOf};
+ghost use Rattle.widl_steps.specs.AskTerms.{BeginAnswer, IsFree, IsWanted, answer_term, ask_term, kind_of};
+ghost use Rattle.widl_steps.specs.Tasks.{Talk};
+ghost use Rattle.widl_steps.specs.CallTasks.{Of};
 ghost use Rattle.widl_convert.specs.Stack.{Expects, IsCalmer, IsQuiet, Resumes, pending, quiet, rest};
-ghost use Rattle.widl_convert.specs.Tasks.{Talk};
-ghost use Rattle.widl_calls.specs.CallTasks.{Of};
 ghost use Rattle.widl_calls.specs.Frames.{CallLeads, call_dialog, call_weight, inner_load};
 ghost use Rattle.widl_calls.specs.Kinds.{kind_in};
 
@@ -16,7 +16,8 @@ use crate::inside::Inside;
 use crate::moves::{CallAsking, CallMove};
 use crate::waits::CallWait;
 use std::alloc::{AllocError, Global};
-use widl_convert::{Answer, Ask, Asker, Ending, Next};
+use widl_convert::{Asker, Ending, Next};
+use widl_steps::{Answer, Ask};
 use widl_tables::Tables;
 
 /// A conversion begins. Only one that asks is kept, in a box: most end at once.

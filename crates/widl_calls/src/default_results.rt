@@ -3,10 +3,10 @@
 ghost use Rattle.std.specs.Prelude.{◌≡◌, ◌≤◌, IfOk};
 ghost use Rattle.widl_idl.specs.DefinitionTerms.{defs_term};
 ghost use Rattle.widl_idl.specs.Terms.{DictionaryType, type_term};
-ghost use Rattle.widl_convert.specs.Built.{built_today};
-ghost use Rattle.widl_calls.specs.Operations.{StepsOf, result_type};
+ghost use Rattle.widl_steps.specs.Built.{built_today};
+ghost use Rattle.widl_steps.specs.Operations.{StepsOf, result_type};
+ghost use Rattle.widl_steps.specs.DefaultResults.{default_result, dictionary_result};
 ghost use Rattle.widl_calls.specs.Frames.{call_dialog, call_weight, default_load};
-ghost use Rattle.widl_calls.specs.DefaultResults.{default_result, dictionary_result};
 
 use crate::ends::{fails, gives};
 use crate::jobs::CallJob;

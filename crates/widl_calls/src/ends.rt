@@ -3,10 +3,10 @@
 ghost use Rattle.std.specs.Prelude.{◌≡◌};
 ghost use Rattle.widl_dialog.specs.Dialog.{End};
 ghost use Rattle.widl_idl.specs.DefinitionTerms.{DefsTerm};
-ghost use Rattle.widl_calls.specs.Operations.{StepsOf};
+ghost use Rattle.widl_steps.specs.Operations.{StepsOf};
 ghost use Rattle.widl_value.specs.IdlTerms.{idl_term};
-ghost use Rattle.widl_convert.specs.Tasks.{Profile};
-ghost use Rattle.widl_convert.specs.Words.{fails, gives, returns};
+ghost use Rattle.widl_steps.specs.Tasks.{Profile};
+ghost use Rattle.widl_steps.specs.Words.{fails, gives, returns};
 ghost use Rattle.widl_convert.specs.Loads.{value_load};
 ghost use Rattle.widl_calls.specs.Frames.{call_dialog, call_weight};
 

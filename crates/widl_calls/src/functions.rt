@@ -2,13 +2,13 @@
 
 ghost use Rattle.std.specs.Prelude.{◌≡◌, ◌≤◌, Bool, IfOk, if◌then◌else◌};
 ghost use Rattle.widl_idl.specs.DefinitionTerms.{DefsTerm, defs_term};
-ghost use Rattle.widl_calls.specs.Operations.{StepsOf};
+ghost use Rattle.widl_steps.specs.Operations.{StepsOf};
 ghost use Rattle.widl_value.specs.declared.object.ObjRef.{ObjRef as FunctionRef};
-ghost use Rattle.widl_convert.specs.Words.{not_built};
+ghost use Rattle.widl_steps.specs.Words.{not_built};
+ghost use Rattle.widl_steps.specs.BuiltCalls.{calls_built_today, is_built_function};
+ghost use Rattle.widl_steps.specs.CallRules.{call_rule, intrinsic};
+ghost use Rattle.widl_steps.specs.CallTasks.{Function};
 ghost use Rattle.widl_calls.specs.ArrayWaits.{cursor_load};
-ghost use Rattle.widl_calls.specs.BuiltCalls.{calls_built_today, is_built_function};
-ghost use Rattle.widl_calls.specs.CallRules.{call_rule, intrinsic};
-ghost use Rattle.widl_calls.specs.CallTasks.{Function};
 ghost use Rattle.widl_calls.specs.Frames.{call_dialog, call_weight, function_load};
 
 use crate::arguments::Arguments;

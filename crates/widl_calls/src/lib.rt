@@ -1,13 +1,10 @@
-//! Calls of operations and of the functions that are there before a script begins, by definition: as
-//! conversations.
+//! Calls of operations and of the functions that are there before a script begins.
 //!
-//! It stands on the conversions (`widl_convert`), whose steps are parts of a call's, and on the trees and
-//! tables of scripts for the steps blocks. The steps are in `specs/`, a file for each subject, with the
-//! section of the standard at its head: `call_rule` (`specs/CallRules.antt`) gives each task its steps. A
-//! [`CallAsker`] is a call that is suspended at each ask. The contract that the crates above use: what
-//! [`CallAsker::resume`] answers is exactly what comes next in the talk of its task, tasks alone lead to it
-//! from what was left, and less is left after each ask that takes no charge. The laws are the contracts of
-//! the functions of [`laws`].
+//! It stands on the steps of calls (`widl_steps`), where `call_rule` gives each task its steps, on the
+//! conversions (`widl_convert`), which are parts of a call, and on the tables of scripts for the steps
+//! blocks. A [`CallAsker`] is a call that is suspended at each ask. The contract that the crates above use:
+//! what [`CallAsker::resume`] answers is exactly what comes next in the talk of its task, tasks alone lead to
+//! it from what was left, and less is left after each ask that takes no charge.
 #![tactic(auto)]
 
 mod arguments;
@@ -21,7 +18,6 @@ mod frames;
 mod functions;
 mod inside;
 mod jobs;
-pub mod laws;
 mod moves;
 mod object_functions;
 mod operations;

@@ -1,13 +1,14 @@
 //! Moves: the next step of a call.
 
 ghost use Rattle.std.specs.Prelude.{◌≡◌};
-ghost use Rattle.widl_convert.specs.AskTerms.{ask_term, kind_of};
+ghost use Rattle.widl_steps.specs.AskTerms.{ask_term, kind_of};
 ghost use Rattle.widl_calls.specs.Waits.{call_kind_for};
 
 use crate::frames::CallFrame;
 use crate::jobs::CallJob;
 use crate::waits::CallWait;
-use widl_convert::{Ask, Ending};
+use widl_convert::Ending;
+use widl_steps::Ask;
 
 /// An ask that goes out, with what waits for its answer.
 #[derive(Drop)]

@@ -3,17 +3,18 @@
 ghost use Rattle.std.specs.Prelude.{◌≡◌, ◌++◌, codes, IfOk};
 ghost use Rattle.std.specs.Str.{IsAscii};
 ghost use Rattle.widl_idl.specs.DefinitionTerms.{DefsTerm};
-ghost use Rattle.widl_calls.specs.Operations.{StepsOf};
-ghost use Rattle.widl_convert.specs.AskTerms.{answer_term};
-ghost use Rattle.widl_convert.specs.Words.{normal, returns};
+ghost use Rattle.widl_steps.specs.Operations.{StepsOf};
+ghost use Rattle.widl_steps.specs.AskTerms.{answer_term};
+ghost use Rattle.widl_steps.specs.Words.{normal, returns};
+ghost use Rattle.widl_steps.specs.ObjectFunctions.{by_kind, kind_in, kind_tag, object_to_string, object_value_of, tagged, with_tag};
 ghost use Rattle.widl_calls.specs.Frames.{call_dialog, call_weight};
-ghost use Rattle.widl_calls.specs.ObjectFunctions.{by_kind, kind_in, kind_tag, object_to_string, object_value_of, tagged, with_tag};
 
 use crate::ends::{JOINS_LONG_TEXT, PRIMITIVE_THIS, fails, reaches, returns};
 use crate::moves::{CallAsking, CallMove};
 use crate::waits::CallWait;
 use std::alloc::{AllocError, Global};
-use widl_convert::{Answer, Ask, Ending, KindName};
+use widl_convert::Ending;
+use widl_steps::{Answer, Ask, KindName};
 use widl_text::{Key, Units};
 use widl_trace::Code;
 use widl_value::{ObjRef, Value};

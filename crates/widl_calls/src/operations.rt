@@ -2,14 +2,14 @@
 
 ghost use Rattle.std.specs.Prelude.{◌≡◌, ◌≤◌, ◌<◌, ◌+◌, ℕ, IfOk};
 ghost use Rattle.widl_idl.specs.DefinitionTerms.{DefsTerm, defs_term};
-ghost use Rattle.widl_calls.specs.Operations.{StepsOf};
+ghost use Rattle.widl_steps.specs.Operations.{StepsOf};
 ghost use Rattle.widl_value.specs.IdlTerms.{idl_terms};
+ghost use Rattle.widl_steps.specs.Tasks.{Picks};
+ghost use Rattle.widl_steps.specs.FoundSteps.{steps_over};
+ghost use Rattle.widl_steps.specs.Operations.{chosen, operation, owned_operation, result as to_script, result_type};
 ghost use Rattle.widl_convert.specs.Frames.{end_of};
 ghost use Rattle.widl_convert.specs.Loads.{given_load};
-ghost use Rattle.widl_convert.specs.Tasks.{Picks};
-ghost use Rattle.widl_calls.specs.FoundSteps.{steps_over};
 ghost use Rattle.widl_calls.specs.Frames.{call_dialog, call_weight, operation_load, result_load};
-ghost use Rattle.widl_calls.specs.Operations.{chosen, operation, owned_operation, result as to_script, result_type};
 
 use crate::arguments::Arguments;
 use crate::ends::{NOT_BUILT, reaches};
@@ -20,9 +20,10 @@ use crate::overload::{Overload, gives_promise};
 use crate::step_lines::read_value;
 use crate::waits::CallWait;
 use std::alloc::{AllocError, Global};
-use widl_convert::{Ask, Ending, Outcome};
+use widl_convert::{Ending, Outcome};
 use widl_idl::{Callee, Owner};
 use widl_script_tree::Script;
+use widl_steps::Ask;
 use widl_tables::Tables;
 use widl_trace::Event;
 use widl_value::IdlValues;

@@ -6,8 +6,8 @@ ghost use Rattle.std.specs.Option.{option_copied, option_map_or};
 ghost use Rattle.widl_idl.specs.DefinitionTerms.{defs_term, sig_term};
 ghost use Rattle.widl_idl.specs.Terms.{UndefinedType, type_term};
 ghost use Rattle.widl_overload.specs.sets.Entries.{overloads_of};
-ghost use Rattle.widl_calls.specs.FoundSteps.{lines_found, steps_over};
-ghost use Rattle.widl_calls.specs.Operations.{is_promise, lines_of, result_type, returns_promise};
+ghost use Rattle.widl_steps.specs.FoundSteps.{lines_found, steps_over};
+ghost use Rattle.widl_steps.specs.Operations.{is_promise, lines_of, result_type, returns_promise};
 
 use widl_idl::{Callee, Defs, IdlType, Part, Sig};
 use widl_overload::overload_list;
@@ -15,7 +15,7 @@ use widl_script_tree::{Script, StepLine};
 use widl_tables::Tables;
 
 /// An overload of an operation.
-#[derive(Clone, Copy, Debug, PartialEq, Eq)]
+#[derive(Clone, Copy)]
 pub struct Overload {
     /// The operations of its name.
     pub callee: Callee,

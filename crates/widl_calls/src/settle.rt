@@ -3,8 +3,8 @@
 ghost use Rattle.std.specs.Prelude.{ℕ, ◌≡◌, ◌+◌, ◌<◌, ◌++◌, [], ◌∷◌, IfNone, IfOk, IfSome};
 ghost use Rattle.widl_dialog.specs.Stack.{stack_load};
 ghost use Rattle.widl_idl.specs.DefinitionTerms.{defs_term};
-ghost use Rattle.widl_calls.specs.CallTasks.{CallTalk};
-ghost use Rattle.widl_calls.specs.FoundSteps.{steps_over};
+ghost use Rattle.widl_steps.specs.CallTasks.{CallTalk};
+ghost use Rattle.widl_steps.specs.FoundSteps.{steps_over};
 ghost use Rattle.widl_calls.specs.Frames.{call_frame_load, call_weight};
 ghost use Rattle.widl_calls.specs.Stack.{CallFollows, CallSettles, call_moves_on};
 

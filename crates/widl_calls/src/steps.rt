@@ -2,13 +2,13 @@
 
 ghost use Rattle.std.specs.Prelude.{◌≡◌, ◌≤◌, ◌<◌, ◌+◌, IfOk};
 ghost use Rattle.widl_idl.specs.DefinitionTerms.{DefsTerm, defs_term};
-ghost use Rattle.widl_calls.specs.Operations.{StepsOf};
-ghost use Rattle.widl_convert.specs.AskTerms.{IsFree, IsWanted, answer_term};
+ghost use Rattle.widl_steps.specs.Operations.{StepsOf};
+ghost use Rattle.widl_steps.specs.AskTerms.{IsFree, IsWanted, answer_term};
+ghost use Rattle.widl_steps.specs.BuiltCalls.{calls_built_today};
+ghost use Rattle.widl_steps.specs.CallRules.{call_rule};
+ghost use Rattle.widl_steps.specs.FoundSteps.{steps_over};
 ghost use Rattle.widl_convert.specs.Frames.{end_of};
 ghost use Rattle.widl_convert.specs.Loads.{given_load};
-ghost use Rattle.widl_calls.specs.BuiltCalls.{calls_built_today};
-ghost use Rattle.widl_calls.specs.CallRules.{call_rule};
-ghost use Rattle.widl_calls.specs.FoundSteps.{steps_over};
 ghost use Rattle.widl_calls.specs.Frames.{CallLeads, call_after, call_dialog, call_frame_load, call_job_of, call_patience, call_returned_to, call_weight, job_load};
 ghost use Rattle.widl_calls.specs.Waits.{call_kind_for};
 
@@ -26,9 +26,10 @@ use crate::overload::Overload;
 use crate::step_lines::{first_line, lines};
 use crate::waits::CallWait;
 use std::alloc::{AllocError, Global};
-use widl_convert::{Answer, Asker, Ending, Want};
+use widl_convert::{Asker, Ending};
 use widl_idl::{Callee, IdlType};
 use widl_script_tree::Script;
+use widl_steps::{Answer, Want};
 use widl_tables::Tables;
 use widl_value::{IdlValue, Value};
 

@@ -17,9 +17,9 @@ use Rattle.widl_script_tree.specs.Tables.{Tables, script_tree}
 use Rattle.widl_script_tree.specs.Trees.{StatementTrees, no_statements, then_more, LetT, DoT, ReturnT, ThrowT, ShowT, SetT, DefineT, DefineAccessorT, DeleteT, TryT, IfT, FunctionT, StepsT}
 use Rattle.widl_script.specs.Scripts as scripts
 use Rattle.widl_script.specs.Scripts.{Answers, callee_of, is_target_of, lines_of_first}
-use Rattle.widl_calls.specs.FoundSteps.{lines_found}
-use Rattle.widl_calls.specs.Operations.{named_operation, operation_in, overload_of}
-use Rattle.widl_calls.specs.StepLines.{Operation, is_target, lines_for}
+use Rattle.widl_steps.specs.FoundSteps.{lines_found}
+use Rattle.widl_steps.specs.Operations.{named_operation, operation_in, overload_of}
+use Rattle.widl_steps.specs.StepLines.{Operation, is_target, lines_for}
 use Rattle.widl_runs.specs.Worlds.{owner_or}
 use Rattle.widl_engine.specs.ReadOver.{IsReadOver}
 

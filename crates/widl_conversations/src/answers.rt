@@ -4,7 +4,7 @@
 //! told and an iterator is set without one.
 
 ghost use Rattle.std.specs.Prelude.{IfOk, IfSome};
-ghost use Rattle.widl_convert.specs.AskTerms.{Fits, IsCompletion, answer_term, ask_term};
+ghost use Rattle.widl_steps.specs.AskTerms.{Fits, IsCompletion, answer_term, ask_term};
 
 use crate::fault::Fault;
 use crate::replies::{cursor_of, flags_of, keys_of, kind_of, new_object_of};

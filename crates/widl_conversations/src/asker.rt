@@ -1,7 +1,7 @@
 //! Conversations of conversions, resolutions and results.
 
 ghost use Rattle.std.specs.Prelude.{◌≡◌, IfOk, IfSome, Some};
-ghost use Rattle.widl_convert.specs.AskTerms.{BeginAnswer, answer_term, ask_term, kind_of};
+ghost use Rattle.widl_steps.specs.AskTerms.{BeginAnswer, answer_term, ask_term, kind_of};
 ghost use Rattle.widl_convert.specs.Stack.{Expects, pending};
 
 use crate::answers::{Answers, tell_end};

@@ -1,7 +1,7 @@
 //! Many conversions that wait at once.
 
 ghost use Rattle.std.specs.Prelude.{◌≡◌, Some};
-ghost use Rattle.widl_convert.specs.AskTerms.{ask_term, kind_of};
+ghost use Rattle.widl_steps.specs.AskTerms.{ask_term, kind_of};
 ghost use Rattle.widl_convert.specs.Stack.{pending};
 
 use crate::answers::Answers;

@@ -5,7 +5,7 @@
 //! `idle`, `running` or `ended`: the object that it iterates over, and the next index.
 
 ghost use Rattle.std.specs.Prelude.{IfOk};
-ghost use Rattle.widl_convert.specs.AskTerms.{IsNewObject, answer_term};
+ghost use Rattle.widl_steps.specs.AskTerms.{IsNewObject, answer_term};
 
 use crate::fault::Fault;
 use crate::values::values_of;

@@ -1,8 +1,8 @@
 //! The conversations of a row.
 
-ghost use Rattle.widl_calls.specs.Stack.{CallExpects};
-ghost use Rattle.widl_convert.specs.AskTerms.{BeginAnswer};
+ghost use Rattle.widl_steps.specs.AskTerms.{BeginAnswer};
 ghost use Rattle.widl_convert.specs.Stack.{Expects};
+ghost use Rattle.widl_calls.specs.Stack.{CallExpects};
 
 use crate::answers::Answers;
 use crate::asker::{callee_of, conversion, resolution, result_of, scalar, talk};

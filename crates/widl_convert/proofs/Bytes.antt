@@ -5,7 +5,7 @@ use Rattle.std.specs.List.{All}
 use Rattle.std.proofs.lemmas.Bool.{le-leb, leb-true}
 use Rattle.std.proofs.lemmas.List.Elements.{All-weaker}
 use Rattle.std.proofs.lemmas.List.Sums.{AllPass-from_list_all, list_all-from_AllPass}
-use Rattle.widl_convert.specs.Scalars.{is_bytes}
+use Rattle.widl_steps.specs.Scalars.{is_bytes}
 
 untrue : (b : Bool) → (b ≡ true → false ≡ true) → b ≡ false
 untrue true h = sym (h refl)

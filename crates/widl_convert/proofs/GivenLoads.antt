@@ -8,11 +8,11 @@ use Rattle.widl_idl.specs.DefinitionTerms.{DefsTerm}
 use Rattle.widl_idl.specs.Flattened.{flattened_member}
 use Rattle.widl_idl.specs.Terms.{TypeTerm, AnyType, UndefinedType, BooleanType, IntegerType, StringType, EnumerationType, InterfaceType, CallbackFunctionType, CallbackInterfaceType, DictionaryType, ObjectType, SequenceType, RecordType, PromiseType, NullableType, UnionType}
 use Rattle.widl_value.specs.IdlTerms.{IdlTerm, StringValue}
-use Rattle.widl_convert.specs.Defaults.{enumeration_among, literal_value, null_of, text_of, value_of_text}
+use Rattle.widl_steps.specs.Defaults.{enumeration_among, literal_value, null_of, text_of, value_of_text}
+use Rattle.widl_steps.specs.Records.{with_entry}
+use Rattle.widl_steps.specs.Tasks.{Talk}
+use Rattle.widl_steps.specs.Words.{gives}
 use Rattle.widl_convert.specs.Loads.{item_load, made_entries_load, made_members_load, value_load}
-use Rattle.widl_convert.specs.Records.{with_entry}
-use Rattle.widl_convert.specs.Tasks.{Talk}
-use Rattle.widl_convert.specs.Words.{gives}
 
 -- 1. An entry, a member
 

@@ -1,15 +1,3 @@
-pub mod OneNexts
-pub mod WordCases
-pub mod MemberChains
-pub mod Finishing
-pub mod Faulting
-pub mod ContainerAsks
-pub mod NameOrder
-pub mod MemberReads
-pub mod MemberValues
-pub mod Turning
-pub mod ResultSays
-pub mod ValidChains
 pub mod Bytes
 pub mod Suspending
 pub mod Resuming
@@ -20,11 +8,7 @@ pub mod RecordEntries
 pub mod OutgoingItems
 pub mod GivenLoads
 pub mod UnionWalks
-pub mod UnionMembers
 pub mod ScalarTypes
 pub mod ServedTypes
 pub mod TypeLoads
-pub mod ValueCounts
-pub mod Worked
-mod Talks
 pub mod LevelMembers

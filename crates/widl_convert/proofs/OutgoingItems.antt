@@ -9,9 +9,9 @@ use Rattle.widl_text.specs.declared.key.Key.TheVariants as keys
 use Rattle.widl_idl.specs.DefinitionTerms.{DefsTerm}
 use Rattle.widl_value.specs.declared.value.Value.{Value}
 use Rattle.widl_value.specs.IdlTerms.{IdlTerm, IdlTerms, EntryTerms, MemberTerms, no_values, more_values, no_entries, more_entries, no_members, more_members, packed_entries, packed_members, packed_values}
+use Rattle.widl_steps.specs.Results.{entry_items, member_items, properties}
 use Rattle.widl_convert.specs.Loads.{entry_items_load, item_load, items_load, member_items_load, value_load, weight}
 use Rattle.widl_convert.specs.declared.moves.Move.{Move}
-use Rattle.widl_convert.specs.Results.{entry_items, member_items, properties}
 
 -- 1. One is taken, and another stands in its place
 

@@ -8,7 +8,7 @@ use Rattle.indexmap.specs.IndexMap.{insert_entry}
 use Rattle.widl_text.specs.declared.key.Key.{Key}
 use Rattle.widl_value.specs.declared.idl_value.IdlValue.{IdlValue}
 use Rattle.widl_value.specs.IdlTerms.{entry_term, idl_term}
-use Rattle.widl_convert.specs.Records.{with_entry}
+use Rattle.widl_steps.specs.Records.{with_entry}
 use Rattle.widl_convert.proofs.Resolving.{next_argument}
 
 -- the next key is taken, and another stands in its place

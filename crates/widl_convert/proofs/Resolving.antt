@@ -23,10 +23,10 @@ use Rattle.widl_tables.proofs.Entries.{number_of_entry, numbers_more}
 use Rattle.widl_tables.proofs.FewOverloads.{place_or_0}
 use Rattle.widl_tables.proofs.PickLaws.{entry_is_kept, probe_is_kept}
 use Rattle.widl_tables.proofs.Picking.{of_several}
+use Rattle.widl_steps.specs.Built.{built_today}
+use Rattle.widl_steps.specs.Resolution.{argument, argument_given, argument_task, arguments, looked_for, of_several as several_by, picked, resolve, with_entries, without_method}
+use Rattle.widl_steps.specs.Tasks.{Arguments, Defaults, Talk}
 use Rattle.widl_convert.specs.Entries.{AreSeveral, IsAtPlace, IsOpen, after_arguments, entries_left, entry_in, left_from, place_in, rise, sole}
-use Rattle.widl_convert.specs.Built.{built_today}
-use Rattle.widl_convert.specs.Resolution.{argument, argument_given, argument_task, arguments, looked_for, of_several as several_by, picked, resolve, with_entries, without_method}
-use Rattle.widl_convert.specs.Tasks.{Arguments, Defaults, Talk}
 
 -- 1. The arguments
 

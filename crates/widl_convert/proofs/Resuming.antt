@@ -8,6 +8,11 @@ use Rattle.widl_dialog.proofs.Bind.{bind_end}
 use Rattle.widl_dialog.proofs.Positions.{here, at_bind, at_then, next_ask, next_end}
 use Rattle.widl_dialog.proofs.Stacking as stacking
 use Rattle.widl_idl.specs.DefinitionTerms.{DefsTerm}
+use Rattle.widl_steps.specs.AskTerms.{AskTerm, AskKind, AnswerTerm, BeginAnswer, Fits, IsWanted, ask_term, kind_of}
+use Rattle.widl_steps.specs.Built.{built_today}
+use Rattle.widl_steps.specs.Laws.{Said}
+use Rattle.widl_steps.specs.Rules.{rule}
+use Rattle.widl_steps.specs.Tasks.{Task, TaskEnd, Talk}
 use Rattle.widl_convert.specs.declared.asker.Asker.{Asker}
 use Rattle.widl_convert.specs.declared.asker.State.{State}
 use Rattle.widl_convert.specs.declared.asker.State.TheVariants.{Begins, Waits, Ended}
@@ -17,14 +22,9 @@ use Rattle.widl_convert.specs.declared.moves.Ending.{Ending}
 use Rattle.widl_convert.specs.declared.moves.Move.{Move}
 use Rattle.widl_convert.specs.declared.outcome.Next.{Next as NextAnswer}
 use Rattle.widl_convert.specs.declared.outcome.Next.TheVariants as next
-use Rattle.widl_convert.specs.AskTerms.{AskTerm, AskKind, AnswerTerm, BeginAnswer, Fits, IsWanted, ask_term, kind_of}
-use Rattle.widl_convert.specs.Built.{built_today}
 use Rattle.widl_convert.specs.Frames.{after, end_of, move_dialog, outcome_end, returned_to}
-use Rattle.widl_convert.specs.Laws.{Said}
 use Rattle.widl_convert.specs.Loads.{frame_load, given_load, patience, weight}
-use Rattle.widl_convert.specs.Rules.{rule}
 use Rattle.widl_convert.specs.Stack.{Awaits, Expects, IsCalmer, IsQuietState, IsReached, IsTold, Leads, Resumes, Stands, Tells, kind_of_last, left, moves_on, next_said, pause, pending, quiet, rest, waiting}
-use Rattle.widl_convert.specs.Tasks.{Task, TaskEnd, Talk}
 use Rattle.widl_convert.specs.Waits.{kind_for}
 
 -- 1. By what was left

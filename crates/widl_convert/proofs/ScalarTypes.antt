@@ -14,20 +14,20 @@ use Rattle.widl_value.specs.IdlTerms.{NullValue}
 use Rattle.widl_tables.specs.declared.pick.Pick.{Pick}
 use Rattle.widl_tables.specs.declared.pick.Pick.TheVariants.{Entry}
 use Rattle.widl_tables.specs.Picks.{pick_member_of}
+use Rattle.widl_steps.specs.AskTerms.{BeginAnswer, Fits}
+use Rattle.widl_steps.specs.Built.{built_today}
+use Rattle.widl_steps.specs.Rules.{rule}
+use Rattle.widl_steps.specs.Scalars.{convert, convert_plain}
+use Rattle.widl_steps.specs.Tasks.{Talk, Task}
+use Rattle.widl_steps.specs.Unions.{member_picked, to_member}
+use Rattle.widl_steps.specs.Words.{gives}
 use Rattle.widl_convert.specs.declared.scalar_types.Given.{Given}
 use Rattle.widl_convert.specs.declared.scalar_types.Given.TheVariants as givens
 use Rattle.widl_convert.specs.declared.scalar_types.ScalarType.{ScalarType}
 use Rattle.widl_convert.specs.declared.scalar_types.ScalarType.TheVariants as scalars
 use Rattle.widl_convert.specs.AtOnce.{AreSame, class_given, scalar_type}
-use Rattle.widl_convert.specs.AskTerms.{BeginAnswer, Fits}
 use Rattle.widl_convert.specs.declared.asker.Asker.{Asker}
-use Rattle.widl_convert.specs.Built.{built_today}
-use Rattle.widl_convert.specs.Rules.{rule}
-use Rattle.widl_convert.specs.Scalars.{convert, convert_plain}
 use Rattle.widl_convert.specs.Stack.{Stands, rest}
-use Rattle.widl_convert.specs.Tasks.{Talk, Task}
-use Rattle.widl_convert.specs.Unions.{member_picked, to_member}
-use Rattle.widl_convert.specs.Words.{gives}
 
 -- 1. Members
 

@@ -4,15 +4,15 @@ use Rattle.widl_dialog.specs.Conversation.{Next, Asks}
 use Rattle.widl_dialog.proofs.Nexts.{one_next}
 use Rattle.widl_dialog.proofs.Positions.{next_ask}
 use Rattle.widl_idl.specs.DefinitionTerms.{DefsTerm}
+use Rattle.widl_steps.specs.AskTerms.{AskTerm, AskKind, Fits}
+use Rattle.widl_steps.specs.Built.{built_today}
+use Rattle.widl_steps.specs.Laws.{Said, IsNext, IsTalk}
+use Rattle.widl_steps.specs.Rules.{rule}
+use Rattle.widl_steps.specs.Tasks.{Task, TaskEnd}
+use Rattle.widl_steps.proofs.Finishing.{all_talked}
+use Rattle.widl_steps.proofs.OneNexts.{beginnings}
 use Rattle.widl_convert.specs.declared.asker.Asker.{Asker}
-use Rattle.widl_convert.specs.AskTerms.{AskTerm, AskKind, Fits}
-use Rattle.widl_convert.specs.Built.{built_today}
-use Rattle.widl_convert.specs.Laws.{Said, IsNext, IsTalk}
-use Rattle.widl_convert.specs.Rules.{rule}
 use Rattle.widl_convert.specs.Stack.{HasOneLast, EachAnswerGoesOn, Stands, pending, rest}
-use Rattle.widl_convert.specs.Tasks.{Task, TaskEnd}
-use Rattle.widl_convert.proofs.Finishing.{all_talked}
-use Rattle.widl_convert.proofs.OneNexts.{beginnings}
 
 module _ (list : DefsTerm) where
   -- the ask that is out comes next

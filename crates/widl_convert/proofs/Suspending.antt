@@ -14,19 +14,19 @@ use Rattle.widl_idl.specs.Terms.{IntegerType, StringType}
 use Rattle.widl_value.specs.declared.number.Number.{Number}
 use Rattle.widl_value.specs.declared.value.Value.TheVariants as values
 use Rattle.widl_scalar.specs.Scalars.{integer_of}
+use Rattle.widl_steps.specs.AskTerms.{Fits}
+use Rattle.widl_steps.specs.Built.{built_today}
+use Rattle.widl_steps.specs.Rules.{rule}
+use Rattle.widl_steps.specs.Scalars.{convert, integer_result, string_result}
+use Rattle.widl_steps.specs.Tasks.{TaskEnd, Gives, Plain, Picks, Throw, Rethrow, Profile, Talk}
 use Rattle.widl_convert.specs.declared.frames.Frame.{Frame}
 use Rattle.widl_convert.specs.declared.jobs.Job.{Job}
 use Rattle.widl_convert.specs.declared.moves.Ending.{Ending}
 use Rattle.widl_convert.specs.declared.moves.Move.{Move}
 use Rattle.widl_convert.specs.declared.moves.Move.TheVariants as moves
-use Rattle.widl_convert.specs.AskTerms.{Fits}
-use Rattle.widl_convert.specs.Built.{built_today}
 use Rattle.widl_convert.specs.Frames.{end_of, job_of, move_dialog, returned_to}
 use Rattle.widl_convert.specs.Loads.{end_load, frame_load, given_load, load, weight}
-use Rattle.widl_convert.specs.Rules.{rule}
-use Rattle.widl_convert.specs.Scalars.{convert, integer_result, string_result}
 use Rattle.widl_convert.specs.Stack.{Follows, Leads}
-use Rattle.widl_convert.specs.Tasks.{TaskEnd, Gives, Plain, Picks, Throw, Rethrow, Profile, Talk}
 
 -- 0. Over one list
 

@@ -6,12 +6,12 @@ use Rattle.widl_value.specs.declared.class.Class.{Class}
 use Rattle.widl_value.specs.declared.class.Class.TheVariants as classes
 use Rattle.widl_value.specs.declared.number.Number.{Number}
 use Rattle.widl_value.specs.declared.value.Value.TheVariants as values
+use Rattle.widl_steps.specs.Built.{built_today}
+use Rattle.widl_steps.specs.Scalars.{convert}
 use Rattle.widl_convert.specs.declared.scalar_types.Given.{Given}
 use Rattle.widl_convert.specs.declared.scalar_types.Given.TheVariants as givens
 use Rattle.widl_convert.specs.declared.scalar_types.ScalarType.{ScalarType}
 use Rattle.widl_convert.specs.declared.scalar_types.ScalarType.TheVariants as scalars
-use Rattle.widl_convert.specs.Built.{built_today}
-use Rattle.widl_convert.specs.Scalars.{convert}
 
 abbrev pub class_given : Given → Class
 class_given givens.Number = classes.Num

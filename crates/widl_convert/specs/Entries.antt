@@ -13,8 +13,8 @@ use Rattle.widl_value.specs.IdlTerms.{IdlTerm}
 use Rattle.widl_trace.specs.declared.code.Code.TheVariants as code
 use Rattle.widl_tables.specs.declared.kept_type.Kept.{Kept}
 use Rattle.widl_tables.specs.Kept.{entries_for}
-use Rattle.widl_convert.specs.Tasks.{Defaults, Talk}
-use Rattle.widl_convert.specs.Words.{fails}
+use Rattle.widl_steps.specs.Tasks.{Defaults, Talk}
+use Rattle.widl_steps.specs.Words.{fails}
 
 -- 1. The entries that are left
 

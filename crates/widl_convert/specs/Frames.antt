@@ -19,6 +19,17 @@ use Rattle.widl_scalar.specs.Enumerations.{value_place}
 use Rattle.widl_scalar.specs.Scalars.{integer_of}
 use Rattle.widl_tables.specs.MemberOrder.{members_in_order}
 use Rattle.widl_trace.specs.declared.code.Code.TheVariants as code
+use Rattle.widl_steps.specs.AskTerms.{AnswerTerm, ask_term}
+use Rattle.widl_steps.specs.Dictionaries.{member_value, with_value}
+use Rattle.widl_steps.specs.Primitives.{found_method, found_ordinary, primitive_result, tried, try_method}
+use Rattle.widl_steps.specs.Built.{built_today}
+use Rattle.widl_steps.specs.Records.{entry_value, key_value, keys_in, named_entry, own_entry, with_entry}
+use Rattle.widl_steps.specs.Resolution.{default_at, probed}
+use Rattle.widl_steps.specs.Scalars.{convert_plain, enumeration_result, integer_result, length_value, string_result}
+use Rattle.widl_steps.specs.Sequences.{element, found_iterator_method, if_sequences, told_done, turn_given, with_iterator, with_next}
+use Rattle.widl_steps.specs.Tasks.{Container, ArrayOf, ObjectOf, Task, Primitive, Scalar, Convert, SequenceFrom, Turns, Entries, Members, Resolve, Arguments, Default, Defaults, Out, OutItems, OutUnits, TaskEnd, Gives, Plain, Picks, Throw, Rethrow, Profile, Talk}
+use Rattle.widl_steps.specs.Unions.{member_from, to_member}
+use Rattle.widl_steps.specs.Words.{done, fails, given, method_or, normal, number, returned, returns, text}
 use Rattle.widl_convert.specs.declared.containers.Container.{Container as MadeOf}
 use Rattle.widl_convert.specs.declared.containers.Container.TheVariants as containers
 use Rattle.widl_convert.specs.declared.containers.Filled.{Filled}
@@ -59,19 +70,8 @@ use Rattle.widl_convert.specs.declared.waits.ValueWait.{ValueWait}
 use Rattle.widl_convert.specs.declared.waits.ValueWait.TheVariants as value_waits
 use Rattle.widl_convert.specs.declared.waits.Wait.{Wait}
 use Rattle.widl_convert.specs.declared.waits.Wait.TheVariants as waits
-use Rattle.widl_convert.specs.AskTerms.{AnswerTerm, ask_term}
-use Rattle.widl_convert.specs.Dictionaries.{member_value, with_value}
 use Rattle.widl_convert.specs.Members.{declared_at, member_at, members_left}
 use Rattle.widl_convert.specs.Entries.{declared_type, entries_left, left_from, place_in}
-use Rattle.widl_convert.specs.Primitives.{found_method, found_ordinary, primitive_result, tried, try_method}
-use Rattle.widl_convert.specs.Built.{built_today}
-use Rattle.widl_convert.specs.Records.{entry_value, key_value, keys_in, named_entry, own_entry, with_entry}
-use Rattle.widl_convert.specs.Resolution.{default_at, probed}
-use Rattle.widl_convert.specs.Scalars.{convert_plain, enumeration_result, integer_result, length_value, string_result}
-use Rattle.widl_convert.specs.Sequences.{element, found_iterator_method, if_sequences, told_done, turn_given, with_iterator, with_next}
-use Rattle.widl_convert.specs.Tasks.{Container, ArrayOf, ObjectOf, Task, Primitive, Scalar, Convert, SequenceFrom, Turns, Entries, Members, Resolve, Arguments, Default, Defaults, Out, OutItems, OutUnits, TaskEnd, Gives, Plain, Picks, Throw, Rethrow, Profile, Talk}
-use Rattle.widl_convert.specs.Unions.{member_from, to_member}
-use Rattle.widl_convert.specs.Words.{done, fails, given, method_or, normal, number, returned, returns, text}
 
 -- 1. Tasks and their ends
 

@@ -4,8 +4,8 @@ use Rattle.widl_dialog.specs.Dialog.{End, Steps}
 use Rattle.widl_idl.specs.Terms.{TypeTerm}
 use Rattle.widl_value.specs.declared.value.Value.TheVariants as values
 use Rattle.widl_value.specs.IdlTerms.{IdlTerm}
-use Rattle.widl_convert.specs.Tasks.{Convert, Talk}
-use Rattle.widl_convert.specs.Words.{gives}
+use Rattle.widl_steps.specs.Tasks.{Convert, Talk}
+use Rattle.widl_steps.specs.Words.{gives}
 
 -- the end with a value; without one, the conversion of undefined, which gives the dictionary
 abbrev pub given_or_dictionary : TypeTerm → Option IdlTerm → Talk

@@ -8,6 +8,9 @@ use Rattle.widl_value.specs.declared.value.Value.TheVariants as values
 use Rattle.widl_value.specs.IdlTerms.{IdlTerm, IdlTerms, EntryTerms, MemberTerms, UndefinedValue, NullValue, MissingValue, BooleanValue, IntegerValue, StringValue, EnumerationValue, ObjectValue, AnyValue, SequenceValue, RecordValue, DictionaryValue, PromiseValue, no_values, more_values, no_entries, more_entries, no_members, more_members, idl_terms, member_terms, packed_entries, packed_members}
 use Rattle.widl_overload.specs.sets.Entries.{declared_args, overloads_of}
 use Rattle.widl_overload.specs.sets.Sets.{longest}
+use Rattle.widl_steps.specs.declared.want.Want.{Want}
+use Rattle.widl_steps.specs.declared.want.Want.TheVariants as wants
+use Rattle.widl_steps.specs.Tasks.{Task, Primitive, Scalar, Convert, Resolve, Arguments, Default, Defaults, Out, TaskEnd, Gives, Plain, SequenceFrom, Turns, Entries, Members, OutItems, OutUnits}
 use Rattle.widl_convert.specs.declared.frames.Frame.{Frame}
 use Rattle.widl_convert.specs.declared.frames.Frame.TheVariants as frames
 use Rattle.widl_convert.specs.declared.frames.IdlFrame.{IdlFrame}
@@ -16,14 +19,11 @@ use Rattle.widl_convert.specs.declared.frames.ValueFrame.{ValueFrame}
 use Rattle.widl_convert.specs.declared.frames.ValueFrame.TheVariants as plains
 use Rattle.widl_convert.specs.declared.moves.Move.{Move}
 use Rattle.widl_convert.specs.declared.moves.Move.TheVariants as moves
-use Rattle.widl_convert.specs.declared.outcome.Want.{Want}
-use Rattle.widl_convert.specs.declared.outcome.Want.TheVariants as wants
 use Rattle.widl_convert.specs.declared.resolution.Resolution.{Resolution}
 use Rattle.widl_convert.specs.declared.waits.Wait.{Wait}
 use Rattle.widl_convert.specs.declared.waits.Wait.TheVariants as waits
 use Rattle.widl_convert.specs.Entries.{left_from}
 use Rattle.widl_convert.specs.Frames.{entries_in, items_left, job_of, end_of, keys_left}
-use Rattle.widl_convert.specs.Tasks.{Task, Primitive, Scalar, Convert, Resolve, Arguments, Default, Defaults, Out, TaskEnd, Gives, Plain, SequenceFrom, Turns, Entries, Members, OutItems, OutUnits}
 
 -- 1. Conversions
 

@@ -5,6 +5,12 @@ use Rattle.widl_dialog.specs.Dialog.{End, Say, bind}
 use Rattle.widl_dialog.specs.Position.{At}
 use Rattle.widl_dialog.specs.Stack.{under, stack_load, still}
 use Rattle.widl_idl.specs.DefinitionTerms.{DefsTerm}
+use Rattle.widl_steps.specs.AskTerms.{AskTerm, AskKind, AnswerTerm, BeginAnswer, Fits, IsFree, IsWanted, ask_term, kind_of}
+use Rattle.widl_steps.specs.Built.{built_today}
+use Rattle.widl_steps.specs.Laws.{Said, ChainsEnd, IsNext, HasOneNext}
+use Rattle.widl_steps.specs.Rules.{rule}
+use Rattle.widl_steps.specs.Tasks.{Task, TaskEnd, Throw, Rethrow, Profile, Talk}
+use Rattle.widl_steps.specs.Words.{not_built}
 use Rattle.widl_convert.specs.declared.asker.Asker.{Asker}
 use Rattle.widl_convert.specs.declared.asker.State.{State}
 use Rattle.widl_convert.specs.declared.asker.State.TheVariants.{Begins, Waits, Ended}
@@ -14,15 +20,9 @@ use Rattle.widl_convert.specs.declared.outcome.Next.{Next as NextAnswer}
 use Rattle.widl_convert.specs.declared.outcome.Next.TheVariants as next
 use Rattle.widl_convert.specs.declared.settle.Settled.{Settled}
 use Rattle.widl_convert.specs.declared.settle.Settled.TheVariants as settled
-use Rattle.widl_convert.specs.AskTerms.{AskTerm, AskKind, AnswerTerm, BeginAnswer, Fits, IsFree, IsWanted, ask_term, kind_of}
-use Rattle.widl_convert.specs.Built.{built_today}
 use Rattle.widl_convert.specs.Frames.{after, end_of, job_of, move_dialog, outcome_end, returned_to}
-use Rattle.widl_convert.specs.Laws.{Said, ChainsEnd, IsNext, HasOneNext}
 use Rattle.widl_convert.specs.Loads.{frame_load, given_load, load, patience, weight}
-use Rattle.widl_convert.specs.Rules.{rule}
-use Rattle.widl_convert.specs.Tasks.{Task, TaskEnd, Throw, Rethrow, Profile, Talk}
 use Rattle.widl_convert.specs.Waits.{kind_for}
-use Rattle.widl_convert.specs.Words.{not_built}
 
 -- 1. What is left
 

@@ -1,4 +1,5 @@
 -- For proofs and contracts alone; no step names these words. The kind of the ask whose answer a suspended conversation waits for.
+use Rattle.widl_steps.specs.AskTerms.{AskKind, OfGet, OfCall, OfOwnKeys, OfOwn, OfUnit, OfNewArray, OfNewObject}
 use Rattle.widl_convert.specs.declared.primitive.PrimitiveWait.{PrimitiveWait}
 use Rattle.widl_convert.specs.declared.primitive.PrimitiveWait.TheVariants.{Method, MethodResult, Ordinary, OrdinaryResult}
 use Rattle.widl_convert.specs.declared.sequence.SequenceWait.{SequenceWait}
@@ -7,7 +8,6 @@ use Rattle.widl_convert.specs.declared.waits.ValueWait.{ValueWait}
 use Rattle.widl_convert.specs.declared.waits.ValueWait.TheVariants as values
 use Rattle.widl_convert.specs.declared.waits.Wait.{Wait}
 use Rattle.widl_convert.specs.declared.waits.Wait.TheVariants as waits
-use Rattle.widl_convert.specs.AskTerms.{AskKind, OfGet, OfCall, OfOwnKeys, OfOwn, OfUnit, OfNewArray, OfNewObject}
 
 abbrev pub kind_for_primitive : PrimitiveWait → AskKind
 kind_for_primitive (Method hint o) = OfGet

@@ -6,12 +6,12 @@ ghost use Rattle.widl_idl.specs.DefinitionTerms.{DefsTerm, defs_term};
 ghost use Rattle.widl_idl.specs.Flattened.{flattened_member, flattened_members};
 ghost use Rattle.widl_idl.specs.Terms.{packed, type_term, type_terms};
 ghost use Rattle.widl_value.specs.IdlTerms.{idl_term, idl_terms};
-ghost use Rattle.widl_convert.specs.Defaults.{default, defaults, enumeration_among, literal_value, null_of, text_of};
+ghost use Rattle.widl_steps.specs.Defaults.{default, defaults, enumeration_among, literal_value, null_of, text_of};
+ghost use Rattle.widl_steps.specs.Resolution.{default_at};
+ghost use Rattle.widl_steps.specs.Tasks.{Picks};
 ghost use Rattle.widl_convert.specs.Entries.{after_arguments, declared_type};
 ghost use Rattle.widl_convert.specs.Frames.{idl_to, move_dialog};
 ghost use Rattle.widl_convert.specs.Loads.{default_load, defaults_load, idl_frame_load, room, weight};
-ghost use Rattle.widl_convert.specs.Resolution.{default_at};
-ghost use Rattle.widl_convert.specs.Tasks.{Picks};
 
 use crate::convert::gives;
 use crate::entry::declared;

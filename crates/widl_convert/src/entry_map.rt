@@ -2,8 +2,8 @@
 
 ghost use Rattle.std.specs.Prelude.{◌≡◌, [], IfOk, OnOk};
 ghost use Rattle.widl_value.specs.IdlTerms.{entry_terms, idl_term};
+ghost use Rattle.widl_steps.specs.Records.{with_entry};
 ghost use Rattle.widl_convert.specs.Frames.{entries_in};
-ghost use Rattle.widl_convert.specs.Records.{with_entry};
 
 use indexmap::IndexMap;
 use std::alloc::{AllocError, Global};

@@ -4,12 +4,12 @@
 
 use crate::containers::Outgoing;
 use crate::jobs::Beginning;
-use crate::outcome::Want;
 use crate::record::{NamedProperty, Property};
 use crate::resolution::Resolution;
 use crate::sequence::Iteration;
 use crate::waits::MemberWait;
 use widl_idl::{IntKind, Mode, TextKind};
+use widl_steps::Want;
 
 /// What goes on with a value of the script.
 #[derive(Drop)]

@@ -1,13 +1,12 @@
 //! Jobs: the tasks of a conversation.
 
 use crate::containers::{Filled, Outgoing};
-use crate::hint::Hint;
 use crate::members_left::{MemberPlace, MembersLeft};
-use crate::outcome::Want;
 use crate::record::Properties;
 use crate::resolution::{Call, Resolution};
 use crate::sequence::{Iterable, Iteration};
 use widl_idl::{Callee, IdlType};
+use widl_steps::{Hint, Want};
 use widl_value::{IdlMembers, IdlValue, IdlValues, ObjRef, Value};
 
 /// A place among the arguments of an overload, where a type stands in the list of definitions.

@@ -4,7 +4,7 @@ ghost use Rattle.std.specs.Prelude.{◌≡◌, IfOk, option_map};
 ghost use Rattle.widl_idl.specs.DefinitionTerms.{defs_term};
 ghost use Rattle.widl_idl.specs.Terms.{type_term};
 ghost use Rattle.widl_value.specs.IdlTerms.{idl_term};
-ghost use Rattle.widl_convert.specs.Defaults.{literal_value};
+ghost use Rattle.widl_steps.specs.Defaults.{literal_value};
 ghost use Rattle.widl_convert.specs.Literals.{given_or_dictionary};
 
 use crate::defaults::{null_of, text_of};

@@ -4,8 +4,8 @@ ghost use Rattle.std.specs.Prelude.{◌≡◌, ◌≤◌, ◌<◌, ◌-◌, ◌^
 ghost use Rattle.widl_idl.specs.DefinitionTerms.{defs_term};
 ghost use Rattle.widl_tables.specs.Levels.{nearest};
 ghost use Rattle.widl_tables.specs.MemberOrder.{members_in_order, own_order};
+ghost use Rattle.widl_steps.specs.Dictionaries.{requires_member};
 ghost use Rattle.widl_convert.specs.Members.{declared_at, member_at, members_left};
-ghost use Rattle.widl_convert.specs.Dictionaries.{requires_member};
 
 use crate::dictionary::declared_member;
 use std::alloc::{AllocError, Global};

@@ -1,14 +1,14 @@
 //! Moves: the next step of a conversation.
 
 ghost use Rattle.std.specs.Prelude.{◌≡◌};
-ghost use Rattle.widl_convert.specs.AskTerms.{ask_term, kind_of};
+ghost use Rattle.widl_steps.specs.AskTerms.{ask_term, kind_of};
 ghost use Rattle.widl_convert.specs.Waits.{kind_for};
 
-use crate::ask::Ask;
 use crate::frames::Frame;
 use crate::jobs::Job;
 use crate::outcome::Outcome;
 use crate::waits::Wait;
+use widl_steps::Ask;
 use widl_trace::Code;
 use widl_value::Value;
 

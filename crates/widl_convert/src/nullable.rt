@@ -4,10 +4,10 @@ ghost use Rattle.std.specs.Prelude.{◌≡◌, if◌then◌else◌};
 ghost use Rattle.widl_idl.specs.DefinitionTerms.{DefsTerm};
 ghost use Rattle.widl_idl.specs.Terms.{type_term};
 ghost use Rattle.widl_value.specs.IdlTerms.{NullValue};
-ghost use Rattle.widl_convert.specs.Built.{is_built_type};
+ghost use Rattle.widl_steps.specs.Built.{is_built_type};
+ghost use Rattle.widl_steps.specs.Words.{gives, not_built};
 ghost use Rattle.widl_convert.specs.Frames.{move_dialog};
 ghost use Rattle.widl_convert.specs.Loads.{weight};
-ghost use Rattle.widl_convert.specs.Words.{gives, not_built};
 
 use crate::convert::{gives, not_built};
 use crate::moves::Move;

@@ -1,19 +1,8 @@
 //! What conversations come to.
 
-use crate::ask::Ask;
+use widl_steps::Ask;
 use widl_trace::Code;
 use widl_value::{IdlValue, IdlValues, Value};
-
-/// What a value of the script language is converted to without an IDL type.
-#[derive(Clone, Copy, Debug, PartialEq, Eq)]
-pub enum Want {
-    /// A Number (ECMA-262, "ToNumber").
-    Number,
-    /// A String (ECMA-262, "ToString").
-    Text,
-    /// A length, as a Number (ECMA-262, "ToLength").
-    Length,
-}
 
 /// What a conversion or a built-in function gives.
 #[derive(Drop)]

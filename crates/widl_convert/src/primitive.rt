@@ -3,17 +3,16 @@
 ghost use Rattle.std.specs.Prelude.{◌≡◌, IfOk};
 ghost use Rattle.std.specs.Str.{IsAscii};
 ghost use Rattle.widl_idl.specs.DefinitionTerms.{DefsTerm};
+ghost use Rattle.widl_steps.specs.Primitives.{call_method, found_method, found_ordinary, hint_text, ordinary, primitive_result, to_primitive, tried, try_method};
+ghost use Rattle.widl_steps.specs.Words.{fails};
 ghost use Rattle.widl_convert.specs.Frames.{move_dialog, otherwise_of, primitive_to};
 ghost use Rattle.widl_convert.specs.Loads.{weight};
-ghost use Rattle.widl_convert.specs.Primitives.{call_method, found_method, found_ordinary, hint_text, ordinary, primitive_result, to_primitive, tried, try_method};
-ghost use Rattle.widl_convert.specs.Words.{fails};
 
-use crate::ask::Ask;
-use crate::hint::Hint;
 use crate::moves::{Asking, Ending, Move};
 use crate::outcome::Outcome;
 use crate::waits::{ValueWait, Wait};
 use std::alloc::{AllocError, Global};
+use widl_steps::{Ask, Hint};
 use widl_text::{Key, Units};
 use widl_trace::Code;
 use widl_value::{ObjRef, Shape, Value, Values};

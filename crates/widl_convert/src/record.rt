@@ -4,14 +4,12 @@ ghost use Rattle.std.specs.Prelude.{◌≡◌, ◌≤◌, ◌<◌, ◌+◌, ◌*
 ghost use Rattle.widl_idl.specs.DefinitionTerms.{DefsTerm};
 ghost use Rattle.widl_idl.specs.Terms.{type_term};
 ghost use Rattle.widl_value.specs.IdlTerms.{StringValue, idl_term};
-ghost use Rattle.widl_convert.specs.AskTerms.{answer_term};
+ghost use Rattle.widl_steps.specs.AskTerms.{answer_term};
+ghost use Rattle.widl_steps.specs.Records.{entries, flags_in, is_enumerable, key_value, keys_in, to_record};
+ghost use Rattle.widl_steps.specs.Tasks.{Gives};
 ghost use Rattle.widl_convert.specs.Frames.{after, entries_in, enumerable_to, idl_to, keys_left, move_dialog, named_to, property_to};
 ghost use Rattle.widl_convert.specs.Loads.{conversion_load, entry_load, idl_frame_load, made_entries_load, patience, value_load, weight};
-ghost use Rattle.widl_convert.specs.Records.{entries, flags_in, is_enumerable, key_value, keys_in, to_record};
-ghost use Rattle.widl_convert.specs.Tasks.{Gives};
 
-use crate::answer::Answer;
-use crate::ask::Ask;
 use crate::convert::{gives, throws};
 use crate::entry_map::EntryMap;
 use crate::frames::{Frame, IdlFrame};
@@ -20,6 +18,7 @@ use crate::moves::{Asking, Move};
 use crate::waits::{ValueWait, Wait};
 use std::alloc::{AllocError, Global};
 use widl_idl::{IdlType, TextKind};
+use widl_steps::{Answer, Ask};
 use widl_text::{Key, Units};
 use widl_trace::Code;
 use widl_value::{IdlValue, Keys, ObjRef, Value};

@@ -6,11 +6,11 @@ ghost use Rattle.widl_idl.specs.DefinitionTerms.{DefsTerm, defs_term};
 ghost use Rattle.widl_idl.specs.Terms.{AnyType};
 ghost use Rattle.widl_value.specs.IdlTerms.{idl_term};
 ghost use Rattle.widl_trace.specs.IdlValueTexts.{enumeration_value};
-ghost use Rattle.widl_convert.specs.Built.{built_today};
+ghost use Rattle.widl_steps.specs.Built.{built_today};
+ghost use Rattle.widl_steps.specs.Results.{enumeration_text, integer_to_script, out};
+ghost use Rattle.widl_steps.specs.Words.{returns};
 ghost use Rattle.widl_convert.specs.Frames.{move_dialog};
 ghost use Rattle.widl_convert.specs.Loads.{object_load, value_load, weight};
-ghost use Rattle.widl_convert.specs.Results.{enumeration_text, integer_to_script, out};
-ghost use Rattle.widl_convert.specs.Words.{returns};
 
 use crate::containers::{array_of, object_of_entries, object_of_members};
 use crate::convert::not_built;

@@ -7,10 +7,10 @@ ghost use Rattle.std.specs.Prelude.{◌≡◌, IfOk, IfSome, Some, false, slice_
 ghost use Rattle.widl_idl.specs.DefinitionTerms.{DefsTerm};
 ghost use Rattle.widl_idl.specs.Flattened.{flattened_members, unannotated};
 ghost use Rattle.widl_idl.specs.Terms.{NullableType, StringType, UnionType, packed, type_term, type_terms};
+ghost use Rattle.widl_steps.specs.Built.{built_today};
+ghost use Rattle.widl_steps.specs.Scalars.{convert};
 ghost use Rattle.widl_convert.specs.AtOnce.{AreSame, class_given, scalar_type};
-ghost use Rattle.widl_convert.specs.Built.{built_today};
 ghost use Rattle.widl_convert.specs.Loads.{conversion_load, type_load};
-ghost use Rattle.widl_convert.specs.Scalars.{convert};
 
 use crate::union_members::member_at;
 use std::alloc::{AllocError, Global};

@@ -3,9 +3,9 @@
 ghost use Rattle.std.specs.Prelude.{ℕ, ◌≡◌, ◌+◌, ◌<◌, IfOk};
 ghost use Rattle.widl_dialog.specs.Stack.{stack_load};
 ghost use Rattle.widl_idl.specs.DefinitionTerms.{defs_term};
+ghost use Rattle.widl_steps.specs.Tasks.{Talk};
 ghost use Rattle.widl_convert.specs.Loads.{frame_load, weight};
 ghost use Rattle.widl_convert.specs.Stack.{Follows, Settles, moves_on};
-ghost use Rattle.widl_convert.specs.Tasks.{Talk};
 
 use crate::frames::Frame;
 use crate::jobs::Job;

@@ -2,17 +2,16 @@
 
 ghost use Rattle.std.specs.Prelude.{◌≡◌, ◌≤◌, ◌<◌, ◌+◌, IfOk};
 ghost use Rattle.widl_idl.specs.DefinitionTerms.{DefsTerm, defs_term};
-ghost use Rattle.widl_convert.specs.AskTerms.{IsFree, answer_term};
-ghost use Rattle.widl_convert.specs.Built.{built_today};
+ghost use Rattle.widl_steps.specs.AskTerms.{IsFree, answer_term};
+ghost use Rattle.widl_steps.specs.Built.{built_today};
+ghost use Rattle.widl_steps.specs.Rules.{rule};
 ghost use Rattle.widl_convert.specs.Frames.{after, end_of, job_of, move_dialog, number_to, returned_to, text_to, value_to};
 ghost use Rattle.widl_convert.specs.Loads.{end_load, frame_load, load, patience, value_load, weight};
-ghost use Rattle.widl_convert.specs.Rules.{rule};
 ghost use Rattle.widl_value.specs.IdlTerms.{idl_term};
+ghost use Rattle.widl_steps.specs.Tasks.{Gives, Plain};
 ghost use Rattle.widl_convert.specs.Stack.{Leads};
-ghost use Rattle.widl_convert.specs.Tasks.{Gives, Plain};
 ghost use Rattle.widl_convert.specs.Waits.{kind_for};
 
-use crate::answer::Answer;
 use crate::containers::{out_items, out_units, with_item};
 use crate::convert::{
     convert_argument, convert_at_once, gives, to_enumeration, to_integer, to_string,
@@ -35,6 +34,7 @@ use crate::sequence::{after_element, sequence_from, turns};
 use crate::waits::{ValueWait, Wait};
 use crate::{primitive, record, sequence, union};
 use std::alloc::{AllocError, Global};
+use widl_steps::Answer;
 use widl_tables::Tables;
 use widl_text::Units;
 use widl_value::{IdlValue, Number, Value};

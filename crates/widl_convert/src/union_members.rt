@@ -7,7 +7,7 @@ ghost use Rattle.std.specs.Prelude.{◌≡◌, ◌-◌, ◌∷◌, [], length, o
 ghost use Rattle.std.specs.Option.{option_and_then};
 ghost use Rattle.widl_idl.specs.Flattened.{flattened_member, flattened_members, unannotated};
 ghost use Rattle.widl_idl.specs.Terms.{packed, type_term, type_terms};
-ghost use Rattle.widl_convert.specs.Sequences.{element_of};
+ghost use Rattle.widl_steps.specs.Sequences.{element_of};
 
 use widl_idl::{IdlType, IdlTypes};
 

@@ -15,7 +15,7 @@ use Rattle.widl_store.specs.declared.inner.Builtin.{Builtin}
 use Rattle.widl_trace.specs.EventTerms.{EventTerm}
 use Rattle.widl_engine.specs.declared.ends.Completion.{Completion}
 use Rattle.widl_runs.specs.Actions.{IsDone}
-use Rattle.widl_calls.specs.CallTasks.{Function}
+use Rattle.widl_steps.specs.CallTasks.{Function}
 use Rattle.widl_runs.specs.Calls.{called, function_in, talked}
 use Rattle.widl_runs.specs.Jobs.{Program, Doing, RunStatements, Talk}
 use Rattle.widl_runs.specs.Worlds as worlds

@@ -8,28 +8,28 @@ use Rattle.widl_dialog.specs.Position.{At}
 use Rattle.widl_dialog.proofs.Lifting.{at_lift}
 use Rattle.widl_idl.specs.MergedSets.{MergedSet}
 use Rattle.widl_script_tree.specs.Tables.{Tables, script_tree}
+use Rattle.widl_steps.specs.AskTerms.{AskKind, OfGet, OfCall, OfKind, OfUnit, OfNote, OfOwnKeys, OfOwn, OfNewArray, OfNewObject, OfNewArrayIterator, OfCursor, OfSetCursor, AnswerTerm, Fits, IsCompletion, IsWanted, ask_term}
+use Rattle.widl_steps.specs.Tasks.{Throw, Rethrow, Profile}
 use Rattle.widl_convert.specs.declared.outcome.Next.{Next}
 use Rattle.widl_convert.specs.declared.outcome.Next.TheVariants as next
-use Rattle.widl_convert.specs.AskTerms.{AskKind, OfGet, OfCall, OfKind, OfUnit, OfNote, OfOwnKeys, OfOwn, OfNewArray, OfNewObject, OfNewArrayIterator, OfCursor, OfSetCursor, AnswerTerm, Fits, IsCompletion, IsWanted, ask_term}
 use Rattle.widl_convert.specs.Frames.{outcome_end}
-use Rattle.widl_convert.specs.Tasks.{Throw, Rethrow, Profile}
 use Rattle.widl_value.specs.declared.object.ObjRef.{ObjRef}
 use Rattle.widl_value.specs.declared.object.Shape.{Shape}
 use Rattle.widl_value.specs.declared.object.Shape.TheVariants as shapes
 use Rattle.widl_value.specs.declared.value.Value.{Value}
 use Rattle.widl_value.specs.declared.value.Value.TheVariants as values
+use Rattle.widl_steps.specs.BuiltCalls.{calls_built_today}
+use Rattle.widl_steps.specs.CallRules.{call_rule}
+use Rattle.widl_steps.specs.CallTasks.{CallTalk}
+use Rattle.widl_steps.specs.FoundSteps.{steps_over}
+use Rattle.widl_steps.specs.Operations.{StepsOf, lines_of}
+use Rattle.widl_steps.proofs.CallLawProofs.{tables_find}
 use Rattle.widl_calls.specs.declared.call_asker.CallAsker.{CallAsker}
 use Rattle.widl_calls.specs.declared.call_asker.CallState.{CallState}
 use Rattle.widl_calls.specs.declared.call_asker.CallState.TheVariants.{Begins, Waits, Ended}
-use Rattle.widl_calls.specs.BuiltCalls.{calls_built_today}
-use Rattle.widl_calls.specs.CallRules.{call_rule}
-use Rattle.widl_calls.specs.CallTasks.{CallTalk}
-use Rattle.widl_calls.specs.FoundSteps.{steps_over}
 use Rattle.widl_calls.specs.Frames.{CallLeads}
-use Rattle.widl_calls.specs.Operations.{StepsOf, lines_of}
 use Rattle.widl_calls.specs.Stack.{CallAwaits, CallExpects, CallResumes, call_pending, call_rest, call_waiting}
 use Rattle.widl_calls.specs.Waits.{call_kind_for}
-use Rattle.widl_calls.proofs.CallLawProofs.{tables_find}
 use Rattle.widl_runs.specs.Asks.{in_world, ways}
 use Rattle.widl_runs.specs.Ends.{JobEnd, Normal, Returned, Thrown, Talked, Seen, answer_by, completion_answer, new_object_in, object_in, plain_in}
 use Rattle.widl_runs.specs.Jobs.{Program, Doing}

@@ -1,5 +1,5 @@
 -- The kinds of asks in code. No rule names any of it.
-use Rattle.widl_convert.specs.AskTerms.{AskKind, OfGet, OfCall, OfKind, OfUnit, OfNote, OfOwnKeys, OfOwn, OfNewArray, OfNewObject, OfNewArrayIterator, OfCursor, OfSetCursor}
+use Rattle.widl_steps.specs.AskTerms.{AskKind, OfGet, OfCall, OfKind, OfUnit, OfNote, OfOwnKeys, OfOwn, OfNewArray, OfNewObject, OfNewArrayIterator, OfCursor, OfSetCursor}
 use Rattle.widl_engine.specs.declared.suspended.AskKind as kinds
 use Rattle.widl_engine.specs.declared.suspended.AskKind.TheVariants as kind
 

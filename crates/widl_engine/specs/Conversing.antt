@@ -2,13 +2,13 @@
 use Rattle.std.specs.Prelude.{◌≡◌, Some}
 use Rattle.widl_dialog.specs.Dialog.{End, Steps}
 use Rattle.widl_script_tree.specs.Tables.{Tables}
+use Rattle.widl_steps.specs.AskTerms.{ask_term, kind_of}
+use Rattle.widl_steps.specs.Tasks.{Throw, Rethrow, Profile}
+use Rattle.widl_steps.specs.Operations.{lines_of}
 use Rattle.widl_convert.specs.declared.outcome.Next.{Next}
 use Rattle.widl_convert.specs.declared.outcome.Next.TheVariants as next
-use Rattle.widl_convert.specs.AskTerms.{ask_term, kind_of}
 use Rattle.widl_convert.specs.Frames.{outcome_end}
-use Rattle.widl_convert.specs.Tasks.{Throw, Rethrow, Profile}
 use Rattle.widl_calls.specs.declared.call_asker.CallAsker.{CallAsker}
-use Rattle.widl_calls.specs.Operations.{lines_of}
 use Rattle.widl_calls.specs.Stack.{call_pending, call_rest}
 use Rattle.widl_runs.specs.Asks.{in_world}
 use Rattle.widl_runs.specs.Ends.{Talked, answer_of}

@@ -10,11 +10,11 @@ use Rattle.widl_trace.specs.declared.event.Event.{Event}
 use Rattle.widl_trace.specs.declared.event.Event.TheVariants as events
 use Rattle.widl_trace.specs.EventTerms.{event_term}
 use Rattle.widl_dialog.specs.Position.{At}
-use Rattle.widl_convert.specs.AskTerms.{ask_term}
+use Rattle.widl_steps.specs.AskTerms.{ask_term}
+use Rattle.widl_steps.specs.AskTerms.{answer_term}
+use Rattle.widl_steps.specs.CallTasks.{Function}
+use Rattle.widl_steps.specs.Operations.{lines_of}
 use Rattle.widl_convert.specs.Frames.{end_of}
-use Rattle.widl_convert.specs.AskTerms.{answer_term}
-use Rattle.widl_calls.specs.CallTasks.{Function}
-use Rattle.widl_calls.specs.Operations.{lines_of}
 use Rattle.widl_calls.specs.Stack.{call_rest}
 use Rattle.widl_runs.specs.Ends.{JobEnd, Normal, Returned, Thrown, Talked, Seen, answer_by}
 use Rattle.widl_runs.specs.Asks.{in_world, sees}

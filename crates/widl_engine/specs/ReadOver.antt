@@ -2,7 +2,7 @@
 use Rattle.std.specs.Prelude.{◌≡◌, ℕ}
 use Rattle.widl_idl.specs.DefinitionTerms.{DefsTerm}
 use Rattle.widl_script_tree.specs.Tables.{Tables, name_at, owner_at}
-use Rattle.widl_calls.specs.FoundSteps.{FindsSteps}
+use Rattle.widl_steps.specs.FoundSteps.{FindsSteps}
 use Rattle.widl_runs.specs.Worlds.{owner_named}
 
 -- the owner of each name is the one of the list, and so are the steps for each operation

@@ -3,7 +3,7 @@
 ghost use Rattle.std.specs.Prelude.{◌≡◌, IfOk};
 ghost use Rattle.widl_dialog.specs.Dialog.{End, Steps};
 ghost use Rattle.widl_value.specs.declared.value.Value.TheVariants as values;
-ghost use Rattle.widl_convert.specs.AskTerms.{ask_term};
+ghost use Rattle.widl_steps.specs.AskTerms.{ask_term};
 ghost use Rattle.widl_runs.specs.Asks.{asks};
 ghost use Rattle.widl_runs.specs.Jobs.{CallValue, Program};
 ghost use Rattle.widl_script_tree.specs.Tables.{Tables};

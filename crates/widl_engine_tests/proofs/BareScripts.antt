@@ -9,7 +9,7 @@ use Rattle.widl_idl.specs.declared.defs.Defs.{Defs}
 use Rattle.widl_idl.specs.declared.callee.Owner.TheVariants as owners
 use Rattle.widl_idl.specs.declared.callee.Part.{Part}
 use Rattle.widl_idl.specs.DefinitionTerms.{DefsTerm, IfaceTerm, SpaceTerm, defs_term, iface_term, space_term}
-use Rattle.widl_calls.specs.Operations.{named_operation, operation_in}
+use Rattle.widl_steps.specs.Operations.{named_operation, operation_in}
 use Rattle.widl_script_tree.specs.declared.statement.Statement.{Statement}
 use Rattle.widl_script_tree.specs.declared.statement.Statement.TheVariants as line
 use Rattle.widl_script_tree.specs.declared.steps.StepsBlock.{StepsBlock}

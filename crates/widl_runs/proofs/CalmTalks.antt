@@ -52,35 +52,35 @@ use Rattle.widl_tables.specs.declared.pick.Pick.{Pick}
 use Rattle.widl_tables.specs.declared.pick.Pick.TheVariants.{Entry, Probe, Refuse}
 use Rattle.widl_trace.specs.declared.code.Code.{Code}
 use Rattle.widl_trace.specs.declared.code.Code.TheVariants as code
-use Rattle.widl_convert.specs.declared.answer.CursorState.{CursorState}
-use Rattle.widl_convert.specs.declared.answer.CursorState.TheVariants as cursors
-use Rattle.widl_convert.specs.declared.hint.Hint.{Hint}
-use Rattle.widl_convert.specs.declared.outcome.Want.{Want}
-use Rattle.widl_convert.specs.declared.outcome.Want.TheVariants as wants
-use Rattle.widl_convert.specs.AskTerms.{CursorAsk, GetAsk, OwnKeysAsk}
-use Rattle.widl_convert.specs.Built.{built_today, is_built_type}
-use Rattle.widl_convert.specs.Defaults.{default, default_given, defaults_from, literal_value}
-use Rattle.widl_convert.specs.Dictionaries.{members, requires_member, to_dictionary}
+use Rattle.widl_steps.specs.declared.answer.CursorState.{CursorState}
+use Rattle.widl_steps.specs.declared.answer.CursorState.TheVariants as cursors
+use Rattle.widl_steps.specs.declared.hint.Hint.{Hint}
+use Rattle.widl_steps.specs.declared.want.Want.{Want}
+use Rattle.widl_steps.specs.declared.want.Want.TheVariants as wants
+use Rattle.widl_steps.specs.AskTerms.{CursorAsk, GetAsk, OwnKeysAsk}
+use Rattle.widl_steps.specs.Built.{built_today, is_built_type}
+use Rattle.widl_steps.specs.Defaults.{default, default_given, defaults_from, literal_value}
+use Rattle.widl_steps.specs.Dictionaries.{members, requires_member, to_dictionary}
 use Rattle.widl_tables.specs.MemberOrder.{DeclaredMember}
-use Rattle.widl_convert.specs.Nullables.{to_nullable}
-use Rattle.widl_convert.specs.Primitives.{to_primitive}
-use Rattle.widl_convert.specs.Records.{entries, keys_in}
-use Rattle.widl_convert.specs.Resolution.{argument, argument_given, arguments, default_at, picked, takes_default, with_entries}
-use Rattle.widl_convert.specs.Results.{entry_items, member_items, out, out_items, out_units}
-use Rattle.widl_convert.specs.Rules.{rule as task_rule}
-use Rattle.widl_convert.specs.Scalars.{convert, convert_plain, enumeration_result, integer_result, is_bytes, null_or_string, string_result, to_number, to_plain, to_scalar, to_string, to_type}
-use Rattle.widl_convert.specs.Sequences.{found_iterator_method, iterator_symbol}
-use Rattle.widl_convert.specs.Tasks.{Task, Primitive, Scalar, Convert, SequenceFrom, Turns, Entries, Members, Resolve, Arguments, Default, Defaults, Out, OutItems, OutUnits, Container, ArrayOf, ObjectOf, TaskEnd, Gives, Plain, Picks, Throw, Rethrow, Profile, Talk as TaskTalk}
-use Rattle.widl_convert.specs.Unions.{member_picked, member_probed, to_member, to_union}
-use Rattle.widl_convert.specs.Words.{fails, given, gives, no_whole_number, normal, not_built, number, object, returned, returns, text}
-use Rattle.widl_calls.specs.ArrayFunctions.{array_iterator_next, array_values, by_cursor, by_turn, cursor_in}
-use Rattle.widl_calls.specs.BuiltCalls.{calls_built_today, is_built_function}
-use Rattle.widl_calls.specs.CallRules.{call_rule, function, intrinsic}
-use Rattle.widl_calls.specs.CallTasks.{CallTask, Of, Function, Lines, CallTalk, NamedValues}
-use Rattle.widl_calls.specs.DefaultResults.{default_result}
-use Rattle.widl_calls.specs.ObjectFunctions.{joined, joins_long_text, most_joined_units, object_to_string, object_value_of}
-use Rattle.widl_calls.specs.Operations.{StepsOf, chosen, lines_of, owned_operation, returns_promise}
-use Rattle.widl_calls.specs.StepLines.{lines}
+use Rattle.widl_steps.specs.Nullables.{to_nullable}
+use Rattle.widl_steps.specs.Primitives.{to_primitive}
+use Rattle.widl_steps.specs.Records.{entries, keys_in}
+use Rattle.widl_steps.specs.Resolution.{argument, argument_given, arguments, default_at, picked, takes_default, with_entries}
+use Rattle.widl_steps.specs.Results.{entry_items, member_items, out, out_items, out_units}
+use Rattle.widl_steps.specs.Rules.{rule as task_rule}
+use Rattle.widl_steps.specs.Scalars.{convert, convert_plain, enumeration_result, integer_result, is_bytes, null_or_string, string_result, to_number, to_plain, to_scalar, to_string, to_type}
+use Rattle.widl_steps.specs.Sequences.{found_iterator_method, iterator_symbol}
+use Rattle.widl_steps.specs.Tasks.{Task, Primitive, Scalar, Convert, SequenceFrom, Turns, Entries, Members, Resolve, Arguments, Default, Defaults, Out, OutItems, OutUnits, Container, ArrayOf, ObjectOf, TaskEnd, Gives, Plain, Picks, Throw, Rethrow, Profile, Talk as TaskTalk}
+use Rattle.widl_steps.specs.Unions.{member_picked, member_probed, to_member, to_union}
+use Rattle.widl_steps.specs.Words.{fails, given, gives, no_whole_number, normal, not_built, number, object, returned, returns, text}
+use Rattle.widl_steps.specs.ArrayFunctions.{array_iterator_next, array_values, by_cursor, by_turn, cursor_in}
+use Rattle.widl_steps.specs.BuiltCalls.{calls_built_today, is_built_function}
+use Rattle.widl_steps.specs.CallRules.{call_rule, function, intrinsic}
+use Rattle.widl_steps.specs.CallTasks.{CallTask, Of, Function, Lines, CallTalk, NamedValues}
+use Rattle.widl_steps.specs.DefaultResults.{default_result}
+use Rattle.widl_steps.specs.ObjectFunctions.{joined, joins_long_text, most_joined_units, object_to_string, object_value_of}
+use Rattle.widl_steps.specs.Operations.{StepsOf, chosen, lines_of, owned_operation, returns_promise}
+use Rattle.widl_steps.specs.StepLines.{lines}
 use Rattle.widl_runs.specs.Actions.{Reply}
 use Rattle.widl_runs.specs.Asks.{in_world, ways}
 use Rattle.widl_runs.specs.Ends.{answer_of, task_end_in}

@@ -6,7 +6,7 @@ use Rattle.widl_dialog.specs.Runs.{Did, Went}
 use Rattle.widl_dialog.proofs.Crediting.{owes_bind}
 use Rattle.widl_store.specs.Objects.{Obj}
 use Rattle.widl_store.specs.Realm.{realm_of}
-use Rattle.widl_calls.specs.CallTasks.{CallTask, Of, Function, Lines}
+use Rattle.widl_steps.specs.CallTasks.{CallTask, Of, Function, Lines}
 use Rattle.widl_runs.specs.Ends.{JobEnd}
 use Rattle.widl_runs.specs.declared.stop.Stop.{Stop}
 use Rattle.widl_runs.specs.Worlds.{World}

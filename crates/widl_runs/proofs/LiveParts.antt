@@ -14,10 +14,10 @@ use Rattle.widl_store.specs.declared.property.Prop.TheVariants as props
 use Rattle.widl_value.specs.IdlTerms.{IdlTerm, IdlTerms, EntryTerms, MemberTerms, no_values, more_values as next_value, no_entries, more_entries, no_members, more_members, UndefinedValue, NullValue, MissingValue, BooleanValue, IntegerValue, StringValue, EnumerationValue, ObjectValue, AnyValue, SequenceValue, RecordValue, DictionaryValue, PromiseValue}
 use Rattle.widl_store.specs.Inners.{InnerTerm, PlainPart, ArrayPart, ErrorPart, ScriptPart, BuiltinPart, InterfacePart, PlatformPart, SpacePart, PairIteratorPart, ArrayIteratorPart, PromisePart}
 use Rattle.widl_store.specs.Objects.{Obj, IsLive}
-use Rattle.widl_convert.specs.declared.answer.CursorState.{CursorState}
-use Rattle.widl_convert.specs.declared.answer.CursorState.TheVariants as cursors
-use Rattle.widl_convert.specs.AskTerms.{AnswerTerm, BeginAnswer, DoneAnswer, NormalAnswer, ThrownAnswer, KindAnswer, KeysAnswer, OwnAnswer, CursorAnswer}
-use Rattle.widl_convert.specs.Tasks.{TaskEnd, Gives, Plain, Picks, Throw, Rethrow, Profile}
+use Rattle.widl_steps.specs.declared.answer.CursorState.{CursorState}
+use Rattle.widl_steps.specs.declared.answer.CursorState.TheVariants as cursors
+use Rattle.widl_steps.specs.AskTerms.{AnswerTerm, BeginAnswer, DoneAnswer, NormalAnswer, ThrownAnswer, KindAnswer, KeysAnswer, OwnAnswer, CursorAnswer}
+use Rattle.widl_steps.specs.Tasks.{TaskEnd, Gives, Plain, Picks, Throw, Rethrow, Profile}
 use Rattle.widl_runs.specs.Ends.{JobEnd, Normal, Returned, Thrown, Talked, Seen}
 use Rattle.widl_runs.specs.Worlds.{Bindings, Context}
 use Rattle.widl_runs.specs.Actions.{Reply, value_in, object_in, property_in, put_result_in, inner_in}

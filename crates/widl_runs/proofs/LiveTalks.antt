@@ -49,36 +49,36 @@ use Rattle.widl_tables.specs.Kept.{argcount_of, entry_alone, kept_tuples}
 use Rattle.widl_tables.specs.Picks.{pick_of, pick_member_of}
 use Rattle.widl_tables.specs.Tests.{is_null_or_undefined}
 use Rattle.widl_trace.specs.declared.code.Code.TheVariants as code
-use Rattle.widl_convert.specs.declared.answer.CursorState.{CursorState}
-use Rattle.widl_convert.specs.declared.answer.CursorState.TheVariants as cursors
-use Rattle.widl_convert.specs.declared.hint.Hint.{Hint}
-use Rattle.widl_convert.specs.declared.hint.Hint.TheVariants.{PrefersNumber, PrefersString}
-use Rattle.widl_convert.specs.declared.outcome.Want.{Want}
-use Rattle.widl_convert.specs.declared.outcome.Want.TheVariants as wants
-use Rattle.widl_convert.specs.AskTerms.{GetAsk, CallAsk, AnswerTerm, BeginAnswer, DoneAnswer, NormalAnswer, ThrownAnswer, KindAnswer, KeysAnswer, OwnAnswer, CursorAnswer}
-use Rattle.widl_convert.specs.Built.{built_today, is_built_type}
-use Rattle.widl_convert.specs.Defaults.{default, defaults_from, enumeration_among, literal_value, null_of, value_of_text}
-use Rattle.widl_convert.specs.Dictionaries.{member_given, member_value, members, requires_member, to_dictionary, undefined_member, with_value}
+use Rattle.widl_steps.specs.declared.answer.CursorState.{CursorState}
+use Rattle.widl_steps.specs.declared.answer.CursorState.TheVariants as cursors
+use Rattle.widl_steps.specs.declared.hint.Hint.{Hint}
+use Rattle.widl_steps.specs.declared.hint.Hint.TheVariants.{PrefersNumber, PrefersString}
+use Rattle.widl_steps.specs.declared.want.Want.{Want}
+use Rattle.widl_steps.specs.declared.want.Want.TheVariants as wants
+use Rattle.widl_steps.specs.AskTerms.{GetAsk, CallAsk, AnswerTerm, BeginAnswer, DoneAnswer, NormalAnswer, ThrownAnswer, KindAnswer, KeysAnswer, OwnAnswer, CursorAnswer}
+use Rattle.widl_steps.specs.Built.{built_today, is_built_type}
+use Rattle.widl_steps.specs.Defaults.{default, defaults_from, enumeration_among, literal_value, null_of, value_of_text}
+use Rattle.widl_steps.specs.Dictionaries.{member_given, member_value, members, requires_member, to_dictionary, undefined_member, with_value}
 use Rattle.widl_tables.specs.MemberOrder.{DeclaredMember}
-use Rattle.widl_convert.specs.Nullables.{to_nullable}
-use Rattle.widl_convert.specs.Primitives.{call_method, found_method, found_ordinary, object_to_primitive, ordinary, primitive_result, to_primitive, tried, try_method}
-use Rattle.widl_convert.specs.Records.{entries, entry_value, flags_in, is_enumerable, key_value, named, named_entry, own_entry, to_record, with_entry}
-use Rattle.widl_convert.specs.Resolution.{argument, arguments, default_at, from_method, looked_for, picked, probed, sequence_given, takes_default, with_entries, without_method}
-use Rattle.widl_convert.specs.Results.{entry_items, member_items, out, out_items, out_units, properties}
-use Rattle.widl_convert.specs.Rules.{rule as task_rule}
-use Rattle.widl_convert.specs.Scalars.{convert, convert_plain, enumeration_result, integer_result, is_bytes, null_or_string, string_result, to_number, to_scalar, to_plain, to_string, to_text, to_type}
-use Rattle.widl_convert.specs.Sequences.{element, element_of, element_within, found_iterator_method, sequence_from, to_sequence, told_done, turn_given, turns, with_next}
-use Rattle.widl_convert.specs.Tasks.{Task, Primitive, Scalar, Convert, SequenceFrom, Turns, Entries, Members, Resolve, Arguments, Default, Defaults, Out, OutItems, OutUnits, Container, ArrayOf, ObjectOf, TaskEnd, Gives, Plain, Picks, Throw, Rethrow, Profile, Talk as TaskTalk}
-use Rattle.widl_convert.specs.Unions.{member_from, member_picked, member_probed, to_member, to_union, without_iterator}
-use Rattle.widl_convert.specs.Words.{fails, gives, normal, not_built, number, object, returns, text}
-use Rattle.widl_calls.specs.ArrayFunctions.{array_iterator_next, array_values, by_cursor, by_turn, cursor_in, element_read, ends_iterator, given_in_turn, iterator_result, length_read, read_in_turn, with_length}
-use Rattle.widl_calls.specs.BuiltCalls.{calls_built_today, is_built_function}
-use Rattle.widl_calls.specs.CallRules.{call_rule, function, intrinsic}
-use Rattle.widl_calls.specs.CallTasks.{CallTalk, CallTask, Of, Function, Lines, NamedValues}
-use Rattle.widl_calls.specs.DefaultResults.{default_result}
-use Rattle.widl_calls.specs.ObjectFunctions.{by_kind, joined, kind_in, kind_tag, most_joined_units, object_to_string, object_value_of, with_tag}
-use Rattle.widl_calls.specs.Operations.{StepsOf, chosen, owned_operation, returns_promise, steps_of}
-use Rattle.widl_calls.specs.StepLines.{args_of_lines, argument_value, line, lines, named_values, return_line}
+use Rattle.widl_steps.specs.Nullables.{to_nullable}
+use Rattle.widl_steps.specs.Primitives.{call_method, found_method, found_ordinary, object_to_primitive, ordinary, primitive_result, to_primitive, tried, try_method}
+use Rattle.widl_steps.specs.Records.{entries, entry_value, flags_in, is_enumerable, key_value, named, named_entry, own_entry, to_record, with_entry}
+use Rattle.widl_steps.specs.Resolution.{argument, arguments, default_at, from_method, looked_for, picked, probed, sequence_given, takes_default, with_entries, without_method}
+use Rattle.widl_steps.specs.Results.{entry_items, member_items, out, out_items, out_units, properties}
+use Rattle.widl_steps.specs.Rules.{rule as task_rule}
+use Rattle.widl_steps.specs.Scalars.{convert, convert_plain, enumeration_result, integer_result, is_bytes, null_or_string, string_result, to_number, to_scalar, to_plain, to_string, to_text, to_type}
+use Rattle.widl_steps.specs.Sequences.{element, element_of, element_within, found_iterator_method, sequence_from, to_sequence, told_done, turn_given, turns, with_next}
+use Rattle.widl_steps.specs.Tasks.{Task, Primitive, Scalar, Convert, SequenceFrom, Turns, Entries, Members, Resolve, Arguments, Default, Defaults, Out, OutItems, OutUnits, Container, ArrayOf, ObjectOf, TaskEnd, Gives, Plain, Picks, Throw, Rethrow, Profile, Talk as TaskTalk}
+use Rattle.widl_steps.specs.Unions.{member_from, member_picked, member_probed, to_member, to_union, without_iterator}
+use Rattle.widl_steps.specs.Words.{fails, gives, normal, not_built, number, object, returns, text}
+use Rattle.widl_steps.specs.ArrayFunctions.{array_iterator_next, array_values, by_cursor, by_turn, cursor_in, element_read, ends_iterator, given_in_turn, iterator_result, length_read, read_in_turn, with_length}
+use Rattle.widl_steps.specs.BuiltCalls.{calls_built_today, is_built_function}
+use Rattle.widl_steps.specs.CallRules.{call_rule, function, intrinsic}
+use Rattle.widl_steps.specs.CallTasks.{CallTalk, CallTask, Of, Function, Lines, NamedValues}
+use Rattle.widl_steps.specs.DefaultResults.{default_result}
+use Rattle.widl_steps.specs.ObjectFunctions.{by_kind, joined, kind_in, kind_tag, most_joined_units, object_to_string, object_value_of, with_tag}
+use Rattle.widl_steps.specs.Operations.{StepsOf, chosen, owned_operation, returns_promise, steps_of}
+use Rattle.widl_steps.specs.StepLines.{args_of_lines, argument_value, line, lines, named_values, return_line}
 use Rattle.widl_runs.specs.Fitting.{ThrowsPlain}
 use Rattle.widl_runs.proofs.LiveParts.{LiveValue, LiveValues, LiveTerm, LiveTerms, LiveEntries, LiveMembers, LivePart, LiveTermList, LiveTaskEnd, LiveAnswer}
 use Rattle.widl_runs.proofs.LiveJobs.{LiveData, LiveMade, LiveRecord, LiveNamed, LiveTask, LiveCall, live_append, live_plain}

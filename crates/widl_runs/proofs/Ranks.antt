@@ -7,11 +7,11 @@ use Rattle.widl_value.specs.declared.value.Value.{Value}
 use Rattle.widl_value.specs.declared.value.Value.TheVariants as values
 use Rattle.widl_value.specs.IdlTerms.{IdlTerm, IdlTerms, EntryTerms, MemberTerms, no_values, more_values, no_entries, more_entries, no_members, more_members, SequenceValue, RecordValue, DictionaryValue}
 use Rattle.widl_script_tree.specs.Trees.{ExpressionTree, UndefinedT, NullT, ThisT, NewSymbolT, NewObjectT, BoolT, NumberT, TextT, NameT, SymbolT, ObjectOfT, NewArrayT, MemberT, IndexT, CallT, NewT, CallWithT, ExpressionTrees, none, more, StatementTrees, no_statements, then_more}
-use Rattle.widl_convert.specs.declared.outcome.Want.{Want}
-use Rattle.widl_convert.specs.declared.outcome.Want.TheVariants as wants
-use Rattle.widl_convert.specs.AskTerms.{AskTerm, GetAsk, CallAsk, KindAsk, UnitAsk, NoteAsk, OwnKeysAsk, OwnAsk, NewArrayAsk, NewObjectAsk, NewArrayIteratorAsk, CursorAsk, SetCursorAsk}
-use Rattle.widl_convert.specs.Tasks.{Task, Primitive, Scalar, Convert, SequenceFrom, Turns, Entries, Members, Resolve, Arguments, Default, Defaults, Out, OutItems, OutUnits}
-use Rattle.widl_calls.specs.CallTasks.{CallTask, Of, Function, Lines}
+use Rattle.widl_steps.specs.declared.want.Want.{Want}
+use Rattle.widl_steps.specs.declared.want.Want.TheVariants as wants
+use Rattle.widl_steps.specs.AskTerms.{AskTerm, GetAsk, CallAsk, KindAsk, UnitAsk, NoteAsk, OwnKeysAsk, OwnAsk, NewArrayAsk, NewObjectAsk, NewArrayIteratorAsk, CursorAsk, SetCursorAsk}
+use Rattle.widl_steps.specs.Tasks.{Task, Primitive, Scalar, Convert, SequenceFrom, Turns, Entries, Members, Resolve, Arguments, Default, Defaults, Out, OutItems, OutUnits}
+use Rattle.widl_steps.specs.CallTasks.{CallTask, Of, Function, Lines}
 use Rattle.widl_runs.specs.Actions.{Action, Pay, Write, TestDepth, Enter, Leave, FindBody, ReadThis, ReadName, BindName, TakeSymbol, AddObject, FindProperty, PutProperty, DefineProperty, DeleteProperty, FindKeys, FindOwn, FindInner, MoveCursor, Reach}
 use Rattle.widl_runs.specs.Jobs.{Job, RunStatements, RunStatement, Evaluate, EvaluateRow, ReadMember, SetMember, DefineMember, DefineAccessor, DeleteMember, CallValue, ConstructValue, Talk, Asked, Fail}
 

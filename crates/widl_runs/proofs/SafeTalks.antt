@@ -13,11 +13,11 @@ use Rattle.widl_value.specs.IdlTerms.{IdlTerm}
 use Rattle.widl_store.specs.Objects.{IsLive, Obj}
 use Rattle.widl_trace.specs.declared.code.Code.{Code}
 use Rattle.widl_trace.specs.declared.code.Code.TheVariants as code
-use Rattle.widl_convert.specs.AskTerms.{AnswerTerm, BeginAnswer, DoneAnswer, NormalAnswer, ThrownAnswer, KindAnswer, KeysAnswer, OwnAnswer, CursorAnswer, AskKind, OfGet, OfCall, OfKind, OfUnit, OfNote, OfOwnKeys, OfOwn, OfNewArray, OfNewObject, OfNewArrayIterator, OfCursor, OfSetCursor, kind_of}
-use Rattle.widl_convert.specs.Tasks.{TalkOf, TaskEnd, Gives, Plain, Picks, Throw, Rethrow, Profile, Talk as TaskTalk}
-use Rattle.widl_convert.specs.Words.{callable_or, fails, given, if_callable, method_or, normal, number, object, object_or, returned, text}
-use Rattle.widl_calls.specs.ArrayFunctions.{cursor_in}
-use Rattle.widl_calls.specs.CallTasks.{CallTalk, Of}
+use Rattle.widl_steps.specs.AskTerms.{AnswerTerm, BeginAnswer, DoneAnswer, NormalAnswer, ThrownAnswer, KindAnswer, KeysAnswer, OwnAnswer, CursorAnswer, AskKind, OfGet, OfCall, OfKind, OfUnit, OfNote, OfOwnKeys, OfOwn, OfNewArray, OfNewObject, OfNewArrayIterator, OfCursor, OfSetCursor, kind_of}
+use Rattle.widl_steps.specs.Tasks.{TalkOf, TaskEnd, Gives, Plain, Picks, Throw, Rethrow, Profile, Talk as TaskTalk}
+use Rattle.widl_steps.specs.Words.{callable_or, fails, given, if_callable, method_or, normal, number, object, object_or, returned, text}
+use Rattle.widl_steps.specs.ArrayFunctions.{cursor_in}
+use Rattle.widl_steps.specs.CallTasks.{CallTalk, Of}
 use Rattle.widl_runs.specs.Asks.{in_world}
 use Rattle.widl_runs.specs.Ends.{JobEnd, Normal, Returned, Thrown, Talked, Seen, answer_by, answer_of, completion_answer, new_object_in, object_in, plain_in, seen_in, task_end_in}
 use Rattle.widl_runs.specs.Fitting.{HasPrototypes}

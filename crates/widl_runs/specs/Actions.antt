@@ -34,11 +34,11 @@ use Rattle.widl_script_tree.specs.Trees.{Text}
 use Rattle.widl_trace.specs.EventTerms.{EventTerm}
 use Rattle.widl_sink.specs.Lines.{line_cost}
 use Rattle.widl_trace.specs.EventLines.{line_of}
-use Rattle.widl_convert.specs.declared.answer.CursorState.{CursorState}
-use Rattle.widl_convert.specs.declared.answer.CursorState.TheVariants as cursors
-use Rattle.widl_convert.specs.declared.answer.KindName.{KindName}
-use Rattle.widl_convert.specs.declared.answer.KindName.TheVariants as kinds
-use Rattle.widl_convert.specs.AskTerms.{AnswerTerm, KindAnswer, KeysAnswer, OwnAnswer, CursorAnswer}
+use Rattle.widl_steps.specs.declared.answer.CursorState.{CursorState}
+use Rattle.widl_steps.specs.declared.answer.CursorState.TheVariants as cursors
+use Rattle.widl_steps.specs.declared.answer.KindName.{KindName}
+use Rattle.widl_steps.specs.declared.answer.KindName.TheVariants as kinds
+use Rattle.widl_steps.specs.AskTerms.{AnswerTerm, KindAnswer, KeysAnswer, OwnAnswer, CursorAnswer}
 use Rattle.widl_runs.specs.declared.stop.Stop.{Stop}
 use Rattle.widl_runs.specs.declared.stop.Stop.TheVariants as stops
 use Rattle.widl_runs.specs.Worlds.{Context, World, named_value, bound_world, this_value, outer_contexts}

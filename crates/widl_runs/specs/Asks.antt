@@ -7,9 +7,9 @@ use Rattle.widl_dialog.specs.Dialog.{End, Say, Steps}
 use Rattle.widl_dialog.specs.Lift.{Ways, lift}
 use Rattle.widl_value.specs.declared.value.Value.TheVariants as values
 use Rattle.widl_trace.specs.EventTerms.{GetEvent, KeysEvent, OwnEvent}
-use Rattle.widl_convert.specs.AskTerms.{AskTerm, GetAsk, CallAsk, KindAsk, UnitAsk, NoteAsk, OwnKeysAsk, OwnAsk, NewArrayAsk, NewObjectAsk, NewArrayIteratorAsk, CursorAsk, SetCursorAsk, AnswerTerm}
-use Rattle.widl_convert.specs.Tasks.{TaskEnd}
-use Rattle.widl_calls.specs.CallTasks.{CallTask, CallTalk}
+use Rattle.widl_steps.specs.AskTerms.{AskTerm, GetAsk, CallAsk, KindAsk, UnitAsk, NoteAsk, OwnKeysAsk, OwnAsk, NewArrayAsk, NewObjectAsk, NewArrayIteratorAsk, CursorAsk, SetCursorAsk, AnswerTerm}
+use Rattle.widl_steps.specs.Tasks.{TaskEnd}
+use Rattle.widl_steps.specs.CallTasks.{CallTask, CallTalk}
 use Rattle.widl_runs.specs.Ends.{JobEnd, Talked, Seen, answer_of, task_end_in}
 use Rattle.widl_runs.specs.Actions.{Pay, Write, FindInner, FindKeys, FindOwn, MoveCursor, ArrayOf, ObjectOf, ArrayIteratorOf, Reply, kind_seen, keys_seen, own_seen, cursor_seen}
 use Rattle.widl_runs.specs.Jobs.{Job, Talk, Asked, CallValue, Doing, nothing}

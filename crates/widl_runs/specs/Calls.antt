@@ -12,8 +12,8 @@ use Rattle.widl_store.specs.declared.inner.Builtin.TheVariants as builtins
 use Rattle.widl_script_tree.specs.Trees.{no_statements, FunctionTree, ScriptTree}
 use Rattle.widl_trace.specs.declared.code.Code.TheVariants as code
 use Rattle.widl_trace.specs.EventTerms.{EventTerm, CallEvent, NewEvent, ReturnEvent, ThrowEvent}
-use Rattle.widl_convert.specs.Tasks.{TaskEnd, Gives, Plain, Picks, Throw, Rethrow, Profile}
-use Rattle.widl_calls.specs.CallTasks.{Function}
+use Rattle.widl_steps.specs.Tasks.{TaskEnd, Gives, Plain, Picks, Throw, Rethrow, Profile}
+use Rattle.widl_steps.specs.CallTasks.{Function}
 use Rattle.widl_runs.specs.Ends.{JobEnd, Normal, Returned, Thrown, task_end_in}
 use Rattle.widl_runs.specs.Worlds.{function_context, builtin_context}
 use Rattle.widl_runs.specs.Actions.{Write, TestDepth, Enter, Leave, FindBody, Reply, body_in, Body, ScriptBody, BuiltinBody, NoBody}

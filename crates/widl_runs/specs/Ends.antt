@@ -6,11 +6,11 @@ use Rattle.widl_value.specs.declared.object.Shape.TheVariants as shapes
 use Rattle.widl_value.specs.declared.value.Value.{Value}
 use Rattle.widl_value.specs.declared.value.Value.TheVariants as values
 use Rattle.widl_store.specs.Objects.{plain_object}
-use Rattle.widl_convert.specs.AskTerms.{AskTerm, AnswerTerm, BeginAnswer, DoneAnswer, NormalAnswer, ThrownAnswer, KindAnswer, KeysAnswer, OwnAnswer, CursorAnswer, AskKind, OfGet, OfCall, OfKind, OfUnit, OfNote, OfOwnKeys, OfOwn, OfNewArray, OfNewObject, OfNewArrayIterator, OfCursor, OfSetCursor, kind_of}
-use Rattle.widl_convert.specs.Records.{flags_in, keys_in}
-use Rattle.widl_convert.specs.Tasks.{TaskEnd, Plain}
-use Rattle.widl_calls.specs.ArrayFunctions.{cursor_in}
-use Rattle.widl_calls.specs.ObjectFunctions.{kind_in}
+use Rattle.widl_steps.specs.AskTerms.{AskTerm, AnswerTerm, BeginAnswer, DoneAnswer, NormalAnswer, ThrownAnswer, KindAnswer, KeysAnswer, OwnAnswer, CursorAnswer, AskKind, OfGet, OfCall, OfKind, OfUnit, OfNote, OfOwnKeys, OfOwn, OfNewArray, OfNewObject, OfNewArrayIterator, OfCursor, OfSetCursor, kind_of}
+use Rattle.widl_steps.specs.Records.{flags_in, keys_in}
+use Rattle.widl_steps.specs.Tasks.{TaskEnd, Plain}
+use Rattle.widl_steps.specs.ArrayFunctions.{cursor_in}
+use Rattle.widl_steps.specs.ObjectFunctions.{kind_in}
 
 pub data JobEnd : Type 0 where
   -- a part of a script ends with a value, by a `return` with a value, by a value that was thrown

@@ -10,7 +10,7 @@ use Rattle.widl_store.specs.Objects.{Obj, IsLive}
 use Rattle.widl_script_tree.specs.declared.steps.StepLine.{StepLine}
 use Rattle.widl_script_tree.specs.declared.steps.StepLine.TheVariants as steps
 use Rattle.widl_script_tree.specs.Trees.{ExpressionTree, UndefinedT, NullT, ThisT, NewSymbolT, NewObjectT, BoolT, NumberT, TextT, NameT, SymbolT, ObjectOfT, NewArrayT, MemberT, IndexT, CallT, NewT, CallWithT, ExpressionTrees, none, more, MemberTree, NamedT, ComputedT, StatementTree, LetT, DoT, ReturnT, ThrowT, ShowT, SetT, DefineT, DefineAccessorT, DeleteT, TryT, IfT, FunctionT, StepsT, StatementTrees, no_statements, then_more, ScriptTree}
-use Rattle.widl_calls.specs.CallTasks.{CallTask, Function}
+use Rattle.widl_steps.specs.CallTasks.{CallTask, Function}
 use Rattle.widl_runs.specs.Ends.{JobEnd}
 use Rattle.widl_runs.specs.Worlds.{World}
 use Rattle.widl_runs.specs.Actions.{NewObject, Ordinary, ScriptFunction, ArrayOf, TypeErrorObject, ObjectOf, ArrayIteratorOf, Action, FindBody, TakeSymbol, AddObject, FindProperty, PutProperty, DefineProperty, DeleteProperty, FindKeys, FindOwn, FindInner, MoveCursor, Reply, act, object_prototype, function_prototype, array_prototype, type_error_prototype, array_iterator_prototype}

@@ -7,8 +7,8 @@ use Rattle.widl_value.specs.declared.value.Value.{Value}
 use Rattle.widl_value.specs.declared.value.Value.TheVariants as values
 use Rattle.widl_script_tree.specs.Trees.{Text, ExpressionTree, ExpressionTrees, StatementTree, StatementTrees, ScriptTree}
 use Rattle.widl_trace.specs.declared.code.Code.{Code}
-use Rattle.widl_convert.specs.AskTerms.{AskTerm}
-use Rattle.widl_calls.specs.CallTasks.{CallTask}
+use Rattle.widl_steps.specs.AskTerms.{AskTerm}
+use Rattle.widl_steps.specs.CallTasks.{CallTask}
 use Rattle.widl_runs.specs.Ends.{JobEnd, Normal, Returned, Thrown, Talked, Seen}
 use Rattle.widl_runs.specs.Actions.{Action, Reach, Reply, value_in}
 

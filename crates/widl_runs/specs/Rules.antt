@@ -1,8 +1,8 @@
 -- The steps of each job: all algorithms of a run, together.
 -- Source: ECMA-262 and Web IDL, the sections named at the head of each file that is cited here.
-use Rattle.widl_calls.specs.BuiltCalls.{calls_built_today}
-use Rattle.widl_calls.specs.CallRules.{call_rule}
-use Rattle.widl_calls.specs.Operations.{lines_of}
+use Rattle.widl_steps.specs.BuiltCalls.{calls_built_today}
+use Rattle.widl_steps.specs.CallRules.{call_rule}
+use Rattle.widl_steps.specs.Operations.{lines_of}
 use Rattle.widl_runs.specs.Jobs.{Program, Job, RunStatements, RunStatement, Evaluate, EvaluateRow, ReadMember, SetMember, DefineMember, DefineAccessor, DeleteMember, CallValue, ConstructValue, Talk, Asked, Fail, Doing}
 use Rattle.widl_runs.specs.Errors.{fail}
 use Rattle.widl_runs.specs.Calls.{call, construct}

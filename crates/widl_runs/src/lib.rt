@@ -2,8 +2,8 @@
 //! that this gives for a whole script.
 //!
 //! It stands on the theory of runs (`widl_dialog`), on the trees of scripts, the store, the events and
-//! the values, and on the conversations of built-in functions and conversions (`widl_calls`,
-//! `widl_convert`). It has definitions and laws but no code: what runs a script is measured against it. A
+//! the values, and on the conversations of built-in functions and conversions (`widl_steps`). It has
+//! definitions and laws but no code: what runs a script is measured against it. A
 //! world is all that the rest of a run depends on; an action is the smallest thing that is done to one,
 //! and the only place where a run is stopped; `rule` gives each statement, expression and call its
 //! steps, and each ask of a conversation (`specs/Asks.antt`). `IsTrace` is the relation between a list of

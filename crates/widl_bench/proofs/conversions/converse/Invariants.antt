@@ -1,4 +1,4 @@
-use Rattle.widl_convert.specs.AskTerms.{answer_term}
+use Rattle.widl_steps.specs.AskTerms.{answer_term}
 use Rattle.widl_convert.specs.Stack.{Expects}
 use Rattle.widl_bench.proofs.conversions.converse.Given as goal
 

@@ -1,6 +1,6 @@
 use Rattle.std.proofs.Common.{refl}
-use Rattle.widl_calls.specs.BuiltCalls.{calls_built_today}
-use Rattle.widl_calls.specs.CallRules.{call_rule}
+use Rattle.widl_steps.specs.BuiltCalls.{calls_built_today}
+use Rattle.widl_steps.specs.CallRules.{call_rule}
 use Rattle.widl_calls.specs.Frames.{call_job_of}
 use Rattle.widl_calls.proofs.CallResuming.{all_is_left, not_begun}
 use Rattle.widl_calls.proofs.call_asker.start.Goals as goal

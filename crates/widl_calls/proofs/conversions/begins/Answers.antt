@@ -3,13 +3,13 @@ use Rattle.std.proofs.lemmas.Result.{IfOk-weaker}
 use Rattle.widl_dialog.specs.Dialog.{Say}
 use Rattle.widl_dialog.specs.Rename.{rename}
 use Rattle.widl_idl.specs.DefinitionTerms.{DefsTerm, defs_term}
-use Rattle.widl_convert.specs.AskTerms.{BeginAnswer, ask_term}
+use Rattle.widl_steps.specs.AskTerms.{BeginAnswer, ask_term}
+use Rattle.widl_steps.specs.Tasks.{Talk}
+use Rattle.widl_steps.specs.CallTasks.{CallTalk, Of}
+use Rattle.widl_steps.specs.Operations.{StepsOf}
 use Rattle.widl_convert.specs.declared.asker.Asker.{Asker}
 use Rattle.widl_convert.specs.Stack.{IsCalmer, IsQuiet, Resumes, quiet, rest}
-use Rattle.widl_convert.specs.Tasks.{Talk}
-use Rattle.widl_calls.specs.CallTasks.{CallTalk, Of}
 use Rattle.widl_calls.specs.Frames.{CallLeads, call_dialog, call_weight, inner_load}
-use Rattle.widl_calls.specs.Operations.{StepsOf}
 use Rattle.widl_calls.proofs.InnerConversions.{in_call}
 use Rattle.widl_calls.proofs.conversions.begins.Goals as goal
 

@@ -1,8 +1,8 @@
 use Rattle.std.proofs.Common.{subst, arith}
 use Rattle.widl_dialog.specs.Dialog.{End}
+use Rattle.widl_steps.specs.Tasks.{Throw, Rethrow, Profile}
 use Rattle.widl_convert.specs.Frames.{outcome_end}
 use Rattle.widl_convert.specs.Stack.{IsCalmer, Resumes}
-use Rattle.widl_convert.specs.Tasks.{Throw, Rethrow, Profile}
 use Rattle.widl_calls.proofs.InnerConversions.{in_call}
 use Rattle.widl_calls.proofs.conversions.ended.Goals as goal
 

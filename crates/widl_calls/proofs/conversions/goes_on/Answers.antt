@@ -1,5 +1,5 @@
 use Rattle.widl_idl.specs.DefinitionTerms.{defs_term}
-use Rattle.widl_convert.specs.AskTerms.{answer_term}
+use Rattle.widl_steps.specs.AskTerms.{answer_term}
 use Rattle.widl_convert.specs.Stack.{quiet}
 use Rattle.widl_calls.proofs.InnerConversions.{awaits_kind, under_free}
 use Rattle.widl_calls.proofs.conversions.goes_on.Goals as goal

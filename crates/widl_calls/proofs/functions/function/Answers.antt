@@ -1,9 +1,9 @@
 use Rattle.std.proofs.Common.{ap, sym, ◌∙◌}
 use Rattle.widl_idl.specs.DefinitionTerms.{defs_term}
 use Rattle.widl_store.specs.declared.inner.Builtin.{Builtin}
-use Rattle.widl_calls.specs.BuiltCalls.{calls_built_today}
-use Rattle.widl_calls.specs.CallRules.{call_rule}
-use Rattle.widl_calls.specs.CallTasks.{Function}
+use Rattle.widl_steps.specs.BuiltCalls.{calls_built_today}
+use Rattle.widl_steps.specs.CallRules.{call_rule}
+use Rattle.widl_steps.specs.CallTasks.{Function}
 use Rattle.widl_calls.proofs.functions.function.Goals as goal
 
 pub returns-in-Callee-clause-dialog : goal.returns-in-Callee-clause-dialog

@@ -1,7 +1,7 @@
 use Rattle.std.proofs.Common.{ap, sym, ◌∙◌}
 use Rattle.widl_idl.specs.declared.callee.Owner.{Owner}
 use Rattle.widl_idl.specs.DefinitionTerms.{defs_term}
-use Rattle.widl_calls.specs.Operations.{owned_operation}
+use Rattle.widl_steps.specs.Operations.{owned_operation}
 use Rattle.widl_calls.proofs.operations.operation.Goals as goal
 
 pub returns-in-Space-clause-dialog : goal.returns-in-Space-clause-dialog

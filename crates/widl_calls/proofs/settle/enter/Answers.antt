@@ -1,6 +1,6 @@
 use Rattle.std.proofs.Common.{refl}
 use Rattle.widl_idl.specs.DefinitionTerms.{defs_term}
-use Rattle.widl_calls.specs.FoundSteps.{steps_over}
+use Rattle.widl_steps.specs.FoundSteps.{steps_over}
 use Rattle.widl_calls.specs.declared.moves.CallMove.TheVariants.{Steps}
 use Rattle.widl_calls.proofs.CallSuspending.{ended_for, step_less, stepped}
 use Rattle.widl_calls.proofs.settle.enter.Goals as goal

@@ -1,7 +1,7 @@
 use Rattle.std.proofs.Common.{◌+◌}
 use Rattle.widl_dialog.specs.Stack.{stack_load}
 use Rattle.widl_idl.specs.DefinitionTerms.{defs_term}
-use Rattle.widl_calls.specs.FoundSteps.{steps_over}
+use Rattle.widl_steps.specs.FoundSteps.{steps_over}
 use Rattle.widl_calls.specs.Frames.{call_frame_load, call_weight}
 use Rattle.widl_calls.specs.Stack.{CallFollows, call_moves_on}
 use Rattle.widl_calls.proofs.settle.settle.Given as goal

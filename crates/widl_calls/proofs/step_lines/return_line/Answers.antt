@@ -1,10 +1,10 @@
 use Rattle.std.proofs.Common.{IfOk, sym, subst}
 use Rattle.widl_script_tree.specs.declared.steps.Source.{Source}
 use Rattle.widl_idl.specs.DefinitionTerms.{defs_term}
-use Rattle.widl_calls.specs.Operations.{StepsOf, result_type}
+use Rattle.widl_steps.specs.Operations.{StepsOf, result_type}
+use Rattle.widl_steps.specs.StepLines.{return_line}
 use Rattle.widl_calls.specs.Frames.{CallLeads, call_dialog}
 use Rattle.widl_calls.specs.NamedTerms.{named_terms}
-use Rattle.widl_calls.specs.StepLines.{return_line}
 use Rattle.widl_calls.proofs.step_lines.return_line.Goals as goal
 
 pub returns-in-Literal : goal.returns-in-Literal

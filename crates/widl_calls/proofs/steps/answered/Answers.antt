@@ -1,7 +1,7 @@
 use Rattle.std.proofs.Common.{◌<◌, subst, sym}
 use Rattle.std.specs.Prelude.{IfOk}
 use Rattle.widl_idl.specs.DefinitionTerms.{defs_term}
-use Rattle.widl_convert.specs.AskTerms.{IsFree}
+use Rattle.widl_steps.specs.AskTerms.{IsFree}
 use Rattle.widl_calls.specs.declared.waits.CallWait.{CallWait}
 use Rattle.widl_calls.specs.Frames.{call_patience, call_weight}
 use Rattle.widl_calls.specs.Waits.{call_kind_for}

@@ -2,14 +2,14 @@ use Rattle.std.proofs.Common.{Result, subst, sym}
 use Rattle.std.specs.Prelude.{Ok, Err, IfOk}
 use Rattle.std.specs.declared.alloc.AllocError.{AllocError}
 use Rattle.widl_idl.specs.DefinitionTerms.{DefsTerm, defs_term}
+use Rattle.widl_steps.specs.BuiltCalls.{calls_built_today}
+use Rattle.widl_steps.specs.CallRules.{call_rule}
+use Rattle.widl_steps.specs.FoundSteps.{steps_over}
+use Rattle.widl_steps.specs.Operations.{StepsOf}
 use Rattle.widl_calls.specs.declared.jobs.CallJob.{CallJob}
 use Rattle.widl_calls.specs.declared.jobs.CallJob.TheVariants as jobs
 use Rattle.widl_calls.specs.declared.moves.CallMove.{CallMove}
-use Rattle.widl_calls.specs.BuiltCalls.{calls_built_today}
-use Rattle.widl_calls.specs.CallRules.{call_rule}
-use Rattle.widl_calls.specs.FoundSteps.{steps_over}
 use Rattle.widl_calls.specs.Frames.{CallLeads, call_dialog, call_job_of}
-use Rattle.widl_calls.specs.Operations.{StepsOf}
 use Rattle.widl_calls.proofs.CallLeading.{function_leads}
 use Rattle.widl_calls.proofs.steps.begin.Goals as goal
 

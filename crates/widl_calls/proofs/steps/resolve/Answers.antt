@@ -2,10 +2,10 @@ use Rattle.std.proofs.Common.{subst}
 use Rattle.std.specs.Prelude.{IfOk}
 use Rattle.widl_dialog.specs.Rename.{rename}
 use Rattle.widl_idl.specs.DefinitionTerms.{defs_term}
-use Rattle.widl_convert.specs.Tasks.{Talk}
-use Rattle.widl_calls.specs.CallTasks.{Of}
+use Rattle.widl_steps.specs.Tasks.{Talk}
+use Rattle.widl_steps.specs.CallTasks.{Of}
+use Rattle.widl_steps.specs.Operations.{StepsOf}
 use Rattle.widl_calls.specs.Frames.{CallLeads, call_dialog}
-use Rattle.widl_calls.specs.Operations.{StepsOf}
 use Rattle.widl_calls.proofs.steps.resolve.Goals as goal
 
 pub returns-clause-leads : goal.returns-clause-leads

@@ -1,4 +1,4 @@
-use Rattle.widl_convert.specs.AskTerms.{answer_term}
+use Rattle.widl_steps.specs.AskTerms.{answer_term}
 use Rattle.widl_calls.specs.Stack.{CallExpects}
 use Rattle.widl_conversations.proofs.calls.talk.Given as goal
 

@@ -1,7 +1,7 @@
 use Rattle.std.proofs.Common.{refl}
-use Rattle.widl_convert.specs.Built.{built_today}
+use Rattle.widl_steps.specs.Built.{built_today}
+use Rattle.widl_steps.specs.Rules.{rule}
 use Rattle.widl_convert.specs.Frames.{job_of}
-use Rattle.widl_convert.specs.Rules.{rule}
 use Rattle.widl_convert.proofs.Resuming.{all_is_left, not_begun}
 use Rattle.widl_convert.proofs.asker.start.Goals as goal
 

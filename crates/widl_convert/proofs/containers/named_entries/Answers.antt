@@ -1,7 +1,7 @@
 use Rattle.std.proofs.Common.{ℕ, List, [], ◌∷◌, ◌++◌, ◌+◌, ◌∙◌, ◌≤◌, ap, append_assoc, arith, drop, length, sym}
 use Rattle.std.proofs.lemmas.List.{drop_all}
 use Rattle.widl_value.specs.IdlTerms.{IdlTerm, EntryTerms, entry_term, entry_terms, idl_term, idl_terms, packed_entries}
-use Rattle.widl_convert.specs.Results.{entry_items, entry_names}
+use Rattle.widl_steps.specs.Results.{entry_items, entry_names}
 use Rattle.widl_convert.proofs.OutgoingItems.{before, before_more, before_none, entry_taken}
 use Rattle.widl_convert.proofs.containers.named_entries.Goals as goal
 

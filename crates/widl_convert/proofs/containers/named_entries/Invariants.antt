@@ -1,6 +1,6 @@
 use Rattle.std.proofs.Common.{◌≡◌, ◌++◌, ◌-◌, drop, length}
 use Rattle.widl_value.specs.IdlTerms.{entry_terms, idl_terms, packed_entries}
-use Rattle.widl_convert.specs.Results.{entry_items, entry_names}
+use Rattle.widl_steps.specs.Results.{entry_items, entry_names}
 use Rattle.widl_convert.proofs.OutgoingItems.{before}
 use Rattle.widl_convert.proofs.containers.named_entries.Given as goal
 

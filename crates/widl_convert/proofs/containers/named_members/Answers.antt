@@ -2,7 +2,7 @@ use Rattle.std.proofs.Common.{ℕ, List, [], ◌∷◌, ◌++◌, ◌+◌, ◌�
 use Rattle.std.proofs.lemmas.List.{drop_all}
 use Rattle.widl_idl.specs.DefinitionTerms.{defs_term}
 use Rattle.widl_value.specs.IdlTerms.{IdlTerm, MemberTerms, member_term, member_terms, idl_term, idl_terms, packed_members}
-use Rattle.widl_convert.specs.Results.{member_items, member_names}
+use Rattle.widl_steps.specs.Results.{member_items, member_names}
 use Rattle.widl_convert.proofs.OutgoingItems.{before, before_more, before_none, member_taken}
 use Rattle.widl_convert.proofs.containers.named_members.Goals as goal
 

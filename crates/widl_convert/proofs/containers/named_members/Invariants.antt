@@ -1,7 +1,7 @@
 use Rattle.std.proofs.Common.{◌≡◌, ◌++◌, ◌-◌, drop, length}
 use Rattle.widl_idl.specs.DefinitionTerms.{defs_term}
 use Rattle.widl_value.specs.IdlTerms.{idl_terms, member_terms, packed_members}
-use Rattle.widl_convert.specs.Results.{member_items, member_names}
+use Rattle.widl_steps.specs.Results.{member_items, member_names}
 use Rattle.widl_convert.proofs.OutgoingItems.{before}
 use Rattle.widl_convert.proofs.containers.named_members.Given as goal
 

@@ -3,7 +3,7 @@ use Rattle.std.proofs.lemmas.List.{append-nil}
 use Rattle.widl_text.specs.declared.key.Key.{Key}
 use Rattle.widl_text.specs.declared.key.Key.TheVariants.{Name}
 use Rattle.widl_value.specs.declared.value.Value.{Value}
-use Rattle.widl_convert.specs.Results.{properties}
+use Rattle.widl_steps.specs.Results.{properties}
 use Rattle.widl_convert.proofs.OutgoingItems.{no_values_left, property_made}
 use Rattle.widl_convert.proofs.containers.properties.Goals as goal
 

@@ -1,5 +1,5 @@
 use Rattle.std.proofs.Common.{◌≡◌, ◌++◌, ◌-◌, drop, length}
-use Rattle.widl_convert.specs.Results.{properties}
+use Rattle.widl_steps.specs.Results.{properties}
 use Rattle.widl_convert.proofs.containers.properties.Given as goal
 
 abbrev pub invariant-loop-place : goal.invariant-loop-place

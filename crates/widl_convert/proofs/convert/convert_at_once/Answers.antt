@@ -3,9 +3,9 @@ use Rattle.std.specs.Prelude.{IfOk}
 use Rattle.widl_idl.specs.DefinitionTerms.{defs_term}
 use Rattle.widl_idl.specs.Terms.{type_term}
 use Rattle.widl_value.specs.declared.value.Value.{Value}
-use Rattle.widl_convert.specs.Built.{built_today}
+use Rattle.widl_steps.specs.Built.{built_today}
+use Rattle.widl_steps.specs.Scalars.{convert}
 use Rattle.widl_convert.specs.Frames.{move_dialog}
-use Rattle.widl_convert.specs.Scalars.{convert}
 use Rattle.widl_convert.specs.Stack.{Leads}
 use Rattle.widl_convert.proofs.Suspending.{led_all}
 use Rattle.widl_convert.proofs.convert.convert_at_once.Goals as goal

@@ -3,14 +3,14 @@ use Rattle.std.specs.Prelude.{IfSome}
 use Rattle.widl_idl.specs.DefinitionTerms.{defs_term}
 use Rattle.widl_idl.specs.Terms.{IntegerType, type_term}
 use Rattle.widl_value.specs.declared.value.Value.TheVariants.{Num}
+use Rattle.widl_steps.specs.Built.{built_today}
+use Rattle.widl_steps.specs.Scalars.{convert}
+use Rattle.widl_steps.specs.Tasks.{Talk}
 use Rattle.widl_convert.specs.declared.scalar_types.Given.TheVariants.{Number}
 use Rattle.widl_convert.specs.declared.scalar_types.ScalarType.{ScalarType}
 use Rattle.widl_convert.specs.AtOnce.{AreSame, scalar_type}
-use Rattle.widl_convert.specs.Built.{built_today}
 use Rattle.widl_convert.specs.Frames.{move_dialog}
-use Rattle.widl_convert.specs.Scalars.{convert}
 use Rattle.widl_convert.specs.Stack.{Leads}
-use Rattle.widl_convert.specs.Tasks.{Talk}
 use Rattle.widl_convert.proofs.Suspending.{led_all, number_leads}
 use Rattle.widl_convert.proofs.convert.convert_number.Goals as goal
 

@@ -4,14 +4,14 @@ use Rattle.std.specs.Prelude.{IfSome}
 use Rattle.widl_idl.specs.DefinitionTerms.{DefsTerm, defs_term}
 use Rattle.widl_idl.specs.Terms.{StringType, type_term}
 use Rattle.widl_value.specs.declared.value.Value.TheVariants.{Str}
+use Rattle.widl_steps.specs.Built.{built_today}
+use Rattle.widl_steps.specs.Scalars.{convert, string_result}
+use Rattle.widl_steps.specs.Tasks.{Talk}
 use Rattle.widl_convert.specs.declared.scalar_types.Given.TheVariants.{Text}
 use Rattle.widl_convert.specs.declared.scalar_types.ScalarType.{ScalarType}
 use Rattle.widl_convert.specs.AtOnce.{AreSame, scalar_type}
-use Rattle.widl_convert.specs.Built.{built_today}
 use Rattle.widl_convert.specs.Frames.{move_dialog}
-use Rattle.widl_convert.specs.Scalars.{convert, string_result}
 use Rattle.widl_convert.specs.Stack.{Leads}
-use Rattle.widl_convert.specs.Tasks.{Talk}
 use Rattle.widl_convert.proofs.Suspending.{led_all, text_leads}
 use Rattle.widl_convert.proofs.convert.convert_text.Goals as goal
 

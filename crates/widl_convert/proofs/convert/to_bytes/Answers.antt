@@ -2,8 +2,8 @@ use Rattle.std.proofs.Common.{Bool, ap, sym, ◌∙◌}
 use Rattle.std.specs.Prelude.{if◌then◌else◌}
 use Rattle.widl_value.specs.IdlTerms.{StringValue}
 use Rattle.widl_trace.specs.declared.code.Code.TheVariants as code
-use Rattle.widl_convert.specs.Tasks.{Talk}
-use Rattle.widl_convert.specs.Words.{fails, gives}
+use Rattle.widl_steps.specs.Tasks.{Talk}
+use Rattle.widl_steps.specs.Words.{fails, gives}
 use Rattle.widl_convert.proofs.Bytes.{is_bytes_of}
 use Rattle.widl_convert.proofs.convert.to_bytes.Goals as goal
 

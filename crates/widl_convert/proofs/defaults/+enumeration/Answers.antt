@@ -1,7 +1,7 @@
 use Rattle.std.proofs.Common.{◌≡◌, rules, map, None, refl, sym, ap, ◌∙◌, arith}
 use Rattle.widl_idl.specs.Flattened.{flattened_members}
 use Rattle.widl_idl.specs.Terms.{packed, type_term}
-use Rattle.widl_convert.specs.Defaults.{enumeration_among, enumeration_of}
+use Rattle.widl_steps.specs.Defaults.{enumeration_among, enumeration_of}
 use Rattle.widl_convert.proofs.FirstAmong.{found_at, none_more}
 use Rattle.widl_convert.proofs.defaults.+enumeration.Goals as goal
 

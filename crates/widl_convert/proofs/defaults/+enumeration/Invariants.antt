@@ -1,7 +1,7 @@
 use Rattle.std.proofs.Common.{◌≡◌, None, take, map}
 use Rattle.widl_idl.specs.Flattened.{flattened_members}
 use Rattle.widl_idl.specs.Terms.{packed, type_term}
-use Rattle.widl_convert.specs.Defaults.{enumeration_among}
+use Rattle.widl_steps.specs.Defaults.{enumeration_among}
 use Rattle.widl_convert.proofs.defaults.+enumeration.Given as goal
 
 abbrev pub invariant-enumeration_among-loop-member : goal.invariant-enumeration_among-loop-member

@@ -2,7 +2,7 @@ use Rattle.std.proofs.Common.{◌≡◌, length}
 use Rattle.std.specs.List.{list_any}
 use Rattle.widl_idl.specs.DefinitionTerms.{defs_term}
 use Rattle.widl_tables.specs.MemberOrder.{DeclaredMember}
-use Rattle.widl_convert.specs.Dictionaries.{requires_member}
+use Rattle.widl_steps.specs.Dictionaries.{requires_member}
 use Rattle.widl_convert.specs.Members.{members_left}
 use Rattle.widl_convert.proofs.members_left.requires_member.Given as goal
 

@@ -5,10 +5,10 @@ use Rattle.widl_idl.specs.DefinitionTerms.{DefsTerm}
 use Rattle.widl_value.specs.declared.object.ObjRef.{ObjRef}
 use Rattle.widl_value.specs.declared.value.Value.{Value}
 use Rattle.widl_value.specs.declared.value.Value.TheVariants as values
+use Rattle.widl_steps.specs.Primitives.{found_ordinary}
+use Rattle.widl_steps.specs.Tasks.{Talk}
 use Rattle.widl_convert.specs.declared.moves.Move.{Move}
 use Rattle.widl_convert.specs.Frames.{move_dialog, otherwise_of}
-use Rattle.widl_convert.specs.Primitives.{found_ordinary}
-use Rattle.widl_convert.specs.Tasks.{Talk}
 use Rattle.widl_convert.proofs.primitive.found_ordinary.Goals as goal
 use Rattle.widl_convert.proofs.primitive.found_ordinary.Goals.{in-Obj, in_default}
 

@@ -2,12 +2,12 @@ use Rattle.std.proofs.Common.{◌≡◌, sym, subst, ap, ◌∙◌}
 use Rattle.std.specs.Prelude.{◌+◌, ◌∷◌, length}
 use Rattle.widl_idl.specs.DefinitionTerms.{defs_term}
 use Rattle.widl_value.specs.IdlTerms.{idl_terms}
+use Rattle.widl_steps.specs.Built.{built_today}
+use Rattle.widl_steps.specs.Resolution.{arguments}
+use Rattle.widl_steps.specs.Tasks.{Talk}
 use Rattle.widl_convert.specs.declared.resolution.Resolution.{Resolution}
-use Rattle.widl_convert.specs.Built.{built_today}
 use Rattle.widl_convert.specs.Entries.{after_arguments, entries_left, left_from, place_in}
 use Rattle.widl_convert.specs.Frames.{move_dialog}
-use Rattle.widl_convert.specs.Resolution.{arguments}
-use Rattle.widl_convert.specs.Tasks.{Talk}
 use Rattle.widl_convert.proofs.Resolving.{last_is}
 use Rattle.widl_convert.proofs.resolve.arguments.Goals as goal
 

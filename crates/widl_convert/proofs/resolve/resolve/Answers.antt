@@ -6,11 +6,11 @@ use Rattle.widl_idl.specs.MergedSets.{MergedSet}
 use Rattle.widl_value.specs.IdlTerms.{idl_terms}
 use Rattle.widl_overload.specs.sets.Entries.{overloads_of}
 use Rattle.widl_tables.proofs.FewOverloads.{few_overloads}
+use Rattle.widl_steps.specs.Resolution.{resolve}
+use Rattle.widl_steps.specs.Tasks.{Arguments, Talk}
 use Rattle.widl_convert.specs.Entries.{entries_left, left_from, place_in, sole}
 use Rattle.widl_convert.specs.declared.resolution.Resolution.{Resolution}
 use Rattle.widl_convert.specs.Frames.{resolution_task}
-use Rattle.widl_convert.specs.Resolution.{resolve}
-use Rattle.widl_convert.specs.Tasks.{Arguments, Talk}
 use Rattle.widl_convert.proofs.Resolving.{begun, opened}
 use Rattle.widl_convert.proofs.resolve.resolve.Goals as goal
 

@@ -6,9 +6,9 @@ use Rattle.widl_value.specs.IdlTerms.{idl_terms}
 use Rattle.widl_value.specs.declared.value.Value.TheVariants.{Obj}
 use Rattle.widl_tables.specs.Kept.{entries_for}
 use Rattle.widl_tables.specs.Picks.{pick_kept}
+use Rattle.widl_steps.specs.Resolution.{from_method}
 use Rattle.widl_convert.specs.Entries.{left_from, place_in}
 use Rattle.widl_convert.specs.Frames.{move_dialog}
-use Rattle.widl_convert.specs.Resolution.{from_method}
 use Rattle.widl_convert.specs.declared.resolution.Resolution.{Resolution}
 use Rattle.widl_convert.proofs.Resolving.{looked_entry, looked_nowhere}
 use Rattle.widl_convert.proofs.resolve.with_method.Goals as goal

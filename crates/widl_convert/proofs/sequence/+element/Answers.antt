@@ -1,7 +1,7 @@
 use Rattle.std.proofs.Common.{◌≡◌, rules, map, option_map, None, refl, sym, ap, ◌∙◌, arith}
 use Rattle.widl_idl.specs.Flattened.{flattened_members}
 use Rattle.widl_idl.specs.Terms.{packed, type_term}
-use Rattle.widl_convert.specs.Sequences.{element_among, element_of}
+use Rattle.widl_steps.specs.Sequences.{element_among, element_of}
 use Rattle.widl_convert.proofs.FirstAmong.{found_at, none_more}
 use Rattle.widl_convert.proofs.sequence.+element.Goals as goal
 

@@ -9,13 +9,13 @@ use Rattle.widl_value.specs.declared.value.Value.TheVariants as values
 use Rattle.widl_trace.specs.declared.code.Code.{Code}
 use Rattle.widl_trace.specs.declared.code.Code.TheVariants as code
 use Rattle.widl_tables.specs.declared.pick.Pick.TheVariants.{Probe}
+use Rattle.widl_steps.specs.Built.{built_today}
+use Rattle.widl_steps.specs.Scalars.{convert_plain}
+use Rattle.widl_steps.specs.Tasks.{Talk}
+use Rattle.widl_steps.specs.Unions.{member_picked}
+use Rattle.widl_steps.specs.Words.{fails, object}
 use Rattle.widl_convert.specs.declared.moves.Move.{Move}
-use Rattle.widl_convert.specs.Built.{built_today}
 use Rattle.widl_convert.specs.Frames.{move_dialog}
-use Rattle.widl_convert.specs.Scalars.{convert_plain}
-use Rattle.widl_convert.specs.Tasks.{Talk}
-use Rattle.widl_convert.specs.Unions.{member_picked}
-use Rattle.widl_convert.specs.Words.{fails, object}
 use Rattle.widl_convert.proofs.union.probe.Goals as goal
 use Rattle.widl_convert.proofs.union.probe.Goals.{in-Obj, in_default}
 

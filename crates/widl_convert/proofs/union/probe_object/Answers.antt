@@ -11,14 +11,14 @@ use Rattle.widl_value.specs.declared.class.Class.{Class}
 use Rattle.widl_value.specs.declared.object.ObjRef.{ObjRef}
 use Rattle.widl_value.specs.declared.value.Value.TheVariants.{Obj}
 use Rattle.widl_tables.specs.Picks.{pick_member_of}
-use Rattle.widl_convert.specs.AskTerms.{GetAsk}
+use Rattle.widl_steps.specs.AskTerms.{GetAsk}
+use Rattle.widl_steps.specs.Built.{built_today}
+use Rattle.widl_steps.specs.Scalars.{convert_plain}
+use Rattle.widl_steps.specs.Sequences.{element_of, if_sequences, iterator_symbol}
+use Rattle.widl_steps.specs.Unions.{member_from, to_member, without_iterator}
+use Rattle.widl_steps.specs.Words.{method_or, normal}
 use Rattle.widl_convert.specs.declared.union.UnionProbe.{UnionProbe}
-use Rattle.widl_convert.specs.Built.{built_today}
 use Rattle.widl_convert.specs.Frames.{union_to}
-use Rattle.widl_convert.specs.Scalars.{convert_plain}
-use Rattle.widl_convert.specs.Sequences.{element_of, if_sequences, iterator_symbol}
-use Rattle.widl_convert.specs.Unions.{member_from, to_member, without_iterator}
-use Rattle.widl_convert.specs.Words.{method_or, normal}
 use Rattle.widl_convert.proofs.union.probe_object.Goals as goal
 
 pub returns-clause-dialog : goal.returns-clause-dialog

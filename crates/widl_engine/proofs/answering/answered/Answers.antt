@@ -1,6 +1,6 @@
 use Rattle.std.proofs.Common.{ap}
-use Rattle.widl_convert.specs.AskTerms.{AnswerTerm}
-use Rattle.widl_calls.specs.Operations.{lines_of}
+use Rattle.widl_steps.specs.AskTerms.{AnswerTerm}
+use Rattle.widl_steps.specs.Operations.{lines_of}
 use Rattle.widl_calls.specs.Stack.{call_rest}
 use Rattle.widl_runs.specs.Asks.{in_world}
 use Rattle.widl_runs.specs.Jobs.{Doing}

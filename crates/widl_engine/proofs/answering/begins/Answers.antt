@@ -1,5 +1,5 @@
 use Rattle.std.proofs.Common.{ap, false}
-use Rattle.widl_calls.specs.CallTasks.{Function}
+use Rattle.widl_steps.specs.CallTasks.{Function}
 use Rattle.widl_runs.specs.Jobs.{Talk}
 use Rattle.widl_runs.specs.Rules.{rule}
 use Rattle.widl_engine.specs.declared.jobs.BuiltinCall.{BuiltinCall}

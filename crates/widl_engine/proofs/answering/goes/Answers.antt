@@ -1,7 +1,7 @@
 use Rattle.std.proofs.Common.{subst}
-use Rattle.widl_convert.specs.AskTerms.{answer_term}
+use Rattle.widl_steps.specs.AskTerms.{answer_term}
+use Rattle.widl_steps.specs.FoundSteps.{steps_over}
 use Rattle.widl_calls.specs.declared.call_asker.CallAsker.{CallAsker}
-use Rattle.widl_calls.specs.FoundSteps.{steps_over}
 use Rattle.widl_calls.specs.Stack.{CallResumes, call_rest}
 use Rattle.widl_engine.specs.Frames.{list_of}
 use Rattle.widl_engine.proofs.Talking.{resumed, waiting}

@@ -1,8 +1,8 @@
 use Rattle.std.proofs.Common.{ap, ◌∙◌}
-use Rattle.widl_convert.specs.AskTerms.{BeginAnswer}
+use Rattle.widl_steps.specs.AskTerms.{BeginAnswer}
+use Rattle.widl_steps.specs.CallTasks.{CallTalk}
+use Rattle.widl_steps.specs.Operations.{lines_of}
 use Rattle.widl_calls.specs.declared.call_asker.CallAsker.{CallAsker}
-use Rattle.widl_calls.specs.CallTasks.{CallTalk}
-use Rattle.widl_calls.specs.Operations.{lines_of}
 use Rattle.widl_calls.specs.Stack.{call_rest}
 use Rattle.widl_runs.specs.Asks.{in_world}
 use Rattle.widl_engine.specs.Frames.{program_of}

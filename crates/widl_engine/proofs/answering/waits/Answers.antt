@@ -1,7 +1,7 @@
 use Rattle.std.proofs.Common.{ap, ◌∙◌}
 use Rattle.widl_dialog.specs.Dialog.{Steps}
-use Rattle.widl_convert.specs.AskTerms.{AskKind, ask_term}
-use Rattle.widl_calls.specs.Operations.{lines_of}
+use Rattle.widl_steps.specs.AskTerms.{AskKind, ask_term}
+use Rattle.widl_steps.specs.Operations.{lines_of}
 use Rattle.widl_calls.specs.Stack.{call_rest}
 use Rattle.widl_runs.specs.Asks.{in_world}
 use Rattle.widl_runs.specs.Ends.{answer_by}

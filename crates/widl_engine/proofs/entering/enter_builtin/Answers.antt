@@ -1,6 +1,6 @@
 use Rattle.std.proofs.Common.{ap, false}
 use Rattle.widl_dialog.specs.Dialog.{Steps}
-use Rattle.widl_calls.specs.CallTasks.{Function}
+use Rattle.widl_steps.specs.CallTasks.{Function}
 use Rattle.widl_runs.specs.Calls.{talked}
 use Rattle.widl_runs.specs.Jobs.{Doing, Talk}
 use Rattle.widl_engine.specs.declared.jobs.BuiltinCall.{BuiltinCall}

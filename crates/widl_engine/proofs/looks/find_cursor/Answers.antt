@@ -2,8 +2,8 @@ use Rattle.std.proofs.Common.{ap, sym, refl, ◌∙◌, Option}
 use Rattle.std.specs.Option.{option_and_then}
 use Rattle.widl_dialog.specs.Dialog.{End}
 use Rattle.widl_store.specs.Inners.{InnerTerm}
-use Rattle.widl_convert.specs.AskTerms.{CursorAnswer}
-use Rattle.widl_convert.specs.declared.answer.CursorState.{CursorState}
+use Rattle.widl_steps.specs.AskTerms.{CursorAnswer}
+use Rattle.widl_steps.specs.declared.answer.CursorState.{CursorState}
 use Rattle.widl_runs.specs.Actions.{IsInner, inner_at, cursor_of}
 use Rattle.widl_runs.specs.Ends.{Seen}
 use Rattle.widl_runs.specs.Jobs.{Doing}

@@ -2,7 +2,7 @@ use Rattle.std.proofs.Common.{List, ap, refl, ◌∙◌}
 use Rattle.widl_dialog.specs.Dialog.{End}
 use Rattle.widl_text.specs.declared.key.Key.{Key}
 use Rattle.widl_store.specs.OwnKeys.{keys_at}
-use Rattle.widl_convert.specs.AskTerms.{KeysAnswer}
+use Rattle.widl_steps.specs.AskTerms.{KeysAnswer}
 use Rattle.widl_runs.specs.Actions.{AreKeys, own_keys_of}
 use Rattle.widl_runs.specs.Ends.{Seen}
 use Rattle.widl_runs.specs.Jobs.{Doing}

@@ -2,9 +2,9 @@ use Rattle.std.proofs.Common.{ap, sym, refl, ◌∙◌, Option}
 use Rattle.std.specs.Option.{option_map_or}
 use Rattle.widl_dialog.specs.Dialog.{End}
 use Rattle.widl_store.specs.Inners.{InnerTerm}
-use Rattle.widl_convert.specs.AskTerms.{KindAnswer}
-use Rattle.widl_convert.specs.declared.answer.KindName.{KindName}
-use Rattle.widl_convert.specs.declared.answer.KindName.TheVariants as kinds
+use Rattle.widl_steps.specs.AskTerms.{KindAnswer}
+use Rattle.widl_steps.specs.declared.answer.KindName.{KindName}
+use Rattle.widl_steps.specs.declared.answer.KindName.TheVariants as kinds
 use Rattle.widl_runs.specs.Actions.{IsInner, inner_at, kind_of_inner}
 use Rattle.widl_runs.specs.Ends.{Seen}
 use Rattle.widl_runs.specs.Jobs.{Doing}

@@ -2,7 +2,7 @@ use Rattle.std.proofs.Common.{Option, ap, refl, ◌∙◌}
 use Rattle.widl_dialog.specs.Dialog.{End}
 use Rattle.widl_value.specs.declared.flags.Flags.{Flags}
 use Rattle.widl_store.specs.Objects.{own_at}
-use Rattle.widl_convert.specs.AskTerms.{OwnAnswer}
+use Rattle.widl_steps.specs.AskTerms.{OwnAnswer}
 use Rattle.widl_runs.specs.Actions.{IsProperty}
 use Rattle.widl_runs.specs.Ends.{Seen}
 use Rattle.widl_runs.specs.Jobs.{Doing}

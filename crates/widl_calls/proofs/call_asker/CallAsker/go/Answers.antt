@@ -1,7 +1,7 @@
 use Rattle.std.proofs.Common.{ap}
 use Rattle.widl_idl.specs.DefinitionTerms.{defs_term}
-use Rattle.widl_convert.specs.AskTerms.{answer_term}
-use Rattle.widl_calls.specs.FoundSteps.{steps_over}
+use Rattle.widl_steps.specs.AskTerms.{answer_term}
+use Rattle.widl_steps.specs.FoundSteps.{steps_over}
 use Rattle.widl_calls.proofs.CallResuming.{calmed, ended, resumed}
 use Rattle.widl_calls.proofs.call_asker.CallAsker.go.Goals as goal
 

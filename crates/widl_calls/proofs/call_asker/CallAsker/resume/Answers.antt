@@ -1,6 +1,6 @@
 use Rattle.widl_idl.specs.DefinitionTerms.{defs_term}
-use Rattle.widl_convert.specs.AskTerms.{answer_term}
-use Rattle.widl_calls.specs.FoundSteps.{steps_over}
+use Rattle.widl_steps.specs.AskTerms.{answer_term}
+use Rattle.widl_steps.specs.FoundSteps.{steps_over}
 use Rattle.widl_calls.proofs.CallResuming.{told}
 use Rattle.widl_calls.proofs.call_asker.CallAsker.resume.Goals as goal
 

@@ -1,5 +1,5 @@
 use Rattle.widl_idl.specs.DefinitionTerms.{defs_term}
-use Rattle.widl_convert.specs.AskTerms.{answer_term}
+use Rattle.widl_steps.specs.AskTerms.{answer_term}
 use Rattle.widl_convert.proofs.Resuming.{calm_at_ask, calm_at_end, ended, resumed}
 use Rattle.widl_convert.proofs.asker.Asker.go.Goals as goal
 

@@ -1,5 +1,5 @@
 use Rattle.widl_idl.specs.DefinitionTerms.{defs_term}
-use Rattle.widl_convert.specs.AskTerms.{answer_term}
+use Rattle.widl_steps.specs.AskTerms.{answer_term}
 use Rattle.widl_convert.proofs.Resuming.{told}
 use Rattle.widl_convert.proofs.asker.Asker.resume.Goals as goal
 

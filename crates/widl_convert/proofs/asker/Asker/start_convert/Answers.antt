@@ -1,6 +1,6 @@
 use Rattle.std.proofs.Common.{◌+◌, ap, ◌∙◌}
 use Rattle.widl_idl.specs.Terms.{type_term}
-use Rattle.widl_convert.specs.Tasks.{Convert}
+use Rattle.widl_steps.specs.Tasks.{Convert}
 use Rattle.widl_convert.proofs.ScalarTypes.{stands_as}
 use Rattle.widl_convert.proofs.asker.Asker.start_convert.Goals as goal
 

@@ -1,5 +1,0 @@
-use Rattle.widl_convert.proofs.Faulting.{no_ask_after_fault}
-use Rattle.widl_convert.proofs.laws.faults_end.Goals as goal
-
-pub returns : goal.returns
-returns c = no_ask_after_fault

@@ -1,5 +1,0 @@
-use Rattle.widl_convert.proofs.MemberReads.{members_are_read}
-use Rattle.widl_convert.proofs.laws.members_are_read_in_order.Goals as goal
-
-pub returns : goal.returns
-returns c = members_are_read

@@ -1,5 +1,0 @@
-use Rattle.widl_convert.proofs.NameOrder.{names_ascend}
-use Rattle.widl_convert.proofs.laws.names_ascend.Goals as goal
-
-pub returns : goal.returns
-returns c = names_ascend

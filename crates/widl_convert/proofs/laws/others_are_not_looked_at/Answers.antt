@@ -1,5 +1,0 @@
-use Rattle.widl_convert.proofs.ValueCounts.{others_left}
-use Rattle.widl_convert.proofs.laws.others_are_not_looked_at.Goals as goal
-
-pub returns : goal.returns
-returns c = λ built list. others_left built list

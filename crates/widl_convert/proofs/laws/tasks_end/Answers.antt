@@ -1,5 +1,0 @@
-use Rattle.widl_convert.proofs.Finishing.{fine_rule}
-use Rattle.widl_convert.proofs.laws.tasks_end.Goals as goal
-
-pub returns : goal.returns
-returns c = λ built list chains_end task. (fine_rule built list chains_end task).ends

@@ -1,5 +1,0 @@
-use Rattle.widl_convert.proofs.UnionMembers.{unions_ask_as_members}
-use Rattle.widl_convert.proofs.laws.unions_ask_as_members.Goals as goal
-
-pub returns : goal.returns
-returns c = unions_ask_as_members

@@ -1,5 +1,0 @@
-use Rattle.widl_convert.proofs.ResultSays.{units_alone}
-use Rattle.widl_convert.proofs.laws.units_are_all_that_is_said.Goals as goal
-
-pub returns : goal.returns
-returns c = units_alone
