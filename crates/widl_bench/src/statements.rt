@@ -4,7 +4,7 @@ use crate::files::{read_short, words_of};
 use anyhow::Result;
 use std::alloc::Global;
 use widl_lines::ScriptWords;
-use widl_script::build::build;
+use widl_script_reader::build;
 
 /// How many statements stand in the tables of a script.
 fn statements_of(alloc: Global, words: &ScriptWords<'_>) -> Result<usize> {

@@ -7,10 +7,10 @@ use Rattle.widl_lines.specs.Words.{Lexeme}
 use Rattle.widl_script_tree.specs.declared.steps.StepLine.{StepLine}
 use Rattle.widl_script_tree.specs.declared.steps.StepLine.TheVariants as steps
 use Rattle.widl_script_tree.specs.Trees.{StatementTree, LetT, DoT, ReturnT, ThrowT, ShowT, SetT, DefineT, DefineAccessorT, DeleteT, TryT, IfT, FunctionT, StepsT, StatementTrees, no_statements, then_more, ScriptTree}
-use Rattle.widl_script.specs.Signs.{SpellsLine}
-use Rattle.widl_script.specs.SpelledSteps.{step_signs}
-use Rattle.widl_script.specs.SpelledStatements as spelled
-use Rattle.widl_script.specs.SpelledStatements.{statement_signs, Lines, followed_by, Stated, Stepped, IsTreeOf}
+use Rattle.widl_script_words.specs.Signs.{SpellsLine}
+use Rattle.widl_script_words.specs.SpelledSteps.{step_signs}
+use Rattle.widl_script_words.specs.SpelledStatements as spelled
+use Rattle.widl_script_words.specs.SpelledStatements.{statement_signs, Lines, followed_by, Stated, Stepped, IsTreeOf}
 use Rattle.widl_runs.specs.Fitting.{ThrowsPlain, HasPlainSteps}
 
 plain_step : (step : StepLine) (words : List Lexeme) → SpellsLine (step_signs step) words → ThrowsPlain step

@@ -16,7 +16,8 @@ use Rattle.widl_script_tree.specs.declared.steps.Target.TheVariants as targets
 use Rattle.widl_script_tree.specs.Tables.{Tables, script_tree}
 use Rattle.widl_script_tree.specs.Trees.{StatementTrees, no_statements, then_more, LetT, DoT, ReturnT, ThrowT, ShowT, SetT, DefineT, DefineAccessorT, DeleteT, TryT, IfT, FunctionT, StepsT}
 use Rattle.widl_script.specs.Scripts as scripts
-use Rattle.widl_script.specs.Scripts.{Answers, callee_of, is_target_of, lines_of_first}
+use Rattle.widl_script.specs.Scripts.{Answers, callee_of, lines_of_first}
+use Rattle.widl_script_rules.specs.Targets.{is_target_of}
 use Rattle.widl_steps.specs.FoundSteps.{lines_found}
 use Rattle.widl_steps.specs.Operations.{named_operation, operation_in, overload_of}
 use Rattle.widl_steps.specs.StepLines.{Operation, is_target, lines_for}

@@ -17,9 +17,11 @@ use Rattle.widl_script_tree.specs.Puts.{finished}
 use Rattle.widl_script_tree.specs.Real.{IsRealStatement}
 use Rattle.widl_script_tree.specs.Tables.{CalleeOverload, Tables, lines_of, opened_statement, script_tree, statement_tree, expression_tree, statements_in, statements_tree, steps_statement}
 use Rattle.widl_script_tree.specs.Trees.{StatementTree, StatementTrees, LetT, DoT, ReturnT, ThrowT, ShowT, SetT, DefineT, DefineAccessorT, DeleteT, TryT, IfT, FunctionT, StepsT, no_statements, then_more}
-use Rattle.widl_script.specs.declared.operation_target.OperationTarget.{OperationTarget}
-use Rattle.widl_script.specs.CalleeBlocks.{block_for, first_lines, is_named, lines_asked, lines_at, lines_if, names}
-use Rattle.widl_script.specs.Scripts.{is_target_of, lines_of_first}
+use Rattle.widl_script_rules.specs.declared.operation_target.OperationTarget.{OperationTarget}
+use Rattle.widl_script.specs.CalleeBlocks.{block_for, first_lines, is_named, lines_asked, lines_at, lines_if}
+use Rattle.widl_script_rules.specs.OperationTargets.{names}
+use Rattle.widl_script_rules.specs.Targets.{is_target_of}
+use Rattle.widl_script.specs.Scripts.{lines_of_first}
 
 pub or_nothing : {X : Type 0} (o : Option X) → option_or o None ≡ o
 or_nothing None = refl

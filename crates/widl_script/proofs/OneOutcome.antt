@@ -5,9 +5,9 @@ use Rattle.widl_idl.specs.DefinitionTerms.{DefsTerm}
 use Rattle.widl_lines.specs.declared.script_place.ScriptPlace.{ScriptPlace}
 use Rattle.widl_lines.specs.TextBreaks.{ScriptBreak, script_lines}
 use Rattle.widl_script_tree.specs.Trees.{ScriptTree}
-use Rattle.widl_script.specs.OneTree.{EachScriptIsOne}
-use Rattle.widl_script.specs.Standings.{standings}
-use Rattle.widl_script.specs.LeastBreak.{Broken, place_key}
+use Rattle.widl_script_words.specs.OneTree.{EachScriptIsOne}
+use Rattle.widl_script_rules.specs.Standings.{standings}
+use Rattle.widl_script_rules.specs.LeastBreak.{Broken, place_key}
 use Rattle.widl_script.specs.Scripts.{IsFirstBreak, of_form, of_rules, IsScriptOf, words_of_lines}
 
 at_key : List ℕ → ScriptPlace

@@ -7,7 +7,7 @@ use Rattle.std.proofs.lemmas.Option.{slice_get_past}
 use Rattle.indexmap.specs.IndexMap.{IndexMap}
 use Rattle.widl_idl.specs.DefinitionTerms.{OpNameTerm, SpaceTerm}
 use Rattle.widl_script_tree.specs.Tables.{CalleeOverload, same_overload}
-use Rattle.widl_script.specs.declared.operation_target.OperationTarget.{OperationTarget}
+use Rattle.widl_script_rules.specs.declared.operation_target.OperationTarget.{OperationTarget}
 use Rattle.widl_script.specs.CalleeBlocks.{block_for, block_in, block_of}
 use Rattle.widl_script.proofs.FirstBlocks.{or_joined, or_nothing}
 

@@ -1,5 +1,5 @@
 -- The owners of names, one by one.
-use Rattle.std.proofs.Common.{◌≡◌, ℕ, zero, suc, ◌+◌, ◌<◌, ◌≤◌, Bool, true, false, cond, ◌&&◌, List, [], ◌∷◌, length, take, slice_get, slice_index, Option, Some, None, is_some, refl, sym, ◌∙◌, ap, arith, if◌then◌else◌, nat_lt, nat_eq, ltb-true, ltb-false, lt-ltb, eqb-true, eq-eqb, true≢false}
+use Rattle.std.proofs.Common.{◌≡◌, ℕ, zero, suc, ◌+◌, ◌<◌, ◌≤◌, Bool, true, false, cond, List, [], ◌∷◌, length, take, slice_get, slice_index, Option, Some, None, refl, sym, ◌∙◌, ap, arith, if◌then◌else◌, nat_lt, nat_eq, ltb-true, ltb-false, lt-ltb, eqb-true, eq-eqb, true≢false}
 use Rattle.std.specs.Prelude.{bytes_eq, position}
 use Rattle.std.specs.List.{position_from}
 use Rattle.std.specs.Option.{option_or}
@@ -9,12 +9,10 @@ use Rattle.std.proofs.lemmas.Slice.Eq.{bytes_eq-Decides}
 use Rattle.widl_idl.specs.declared.callee.Owner.{Owner}
 use Rattle.widl_idl.specs.declared.callee.Owner.TheVariants as owners
 use Rattle.widl_idl.specs.DefinitionTerms.{DefsTerm, IfaceTerm, SpaceTerm}
-use Rattle.widl_overload.specs.OperationsAlone.{HasOperationsAlone, has_operations_alone, is_none}
-use Rattle.std.specs.List.{list_all}
+use Rattle.widl_overload.specs.OperationsAlone.{HasOperationsAlone}
 use Rattle.widl_script_tree.specs.Tables.{Tables, key_at, name_at, name_or}
 use Rattle.widl_script.specs.Owners.{owner_there}
 use Rattle.widl_script.specs.Scripts.{owner_named, owner_or}
-use Rattle.widl_script.proofs.OwnerTexts.{same_turned}
 
 -- 1. The first of a name
 
@@ -54,22 +52,6 @@ owner_next spaces k n text is =
     ap (owner_or None) (position_next p spaces k n is) ∙ owner_joined (position p (take k spaces)) (if p n then Some k else None)
     ∙ ap (λ o. option_or (owner_there (take k spaces) text) o) (owner_if (p n) k)
 
--- what is put under a name that was not there is the first of that name
-pub first_put : {X : Type 0} (old new : List ℕ → Option X) (v : X) (name : List ℕ) → ((text : List ℕ) → new text ≡ cond (bytes_eq name text) (Some v) (old text)) → is_some (old name) ≡ false →
-    (text : List ℕ) → new text ≡ option_or (old text) (if bytes_eq text name then Some v else None)
-first_put {X} old new v name put none text = by (bytes_eq name text) refl (old text) refl
-  where
-    by : (c : Bool) → bytes_eq name text ≡ c → (o : Option X) → old text ≡ o → new text ≡ option_or (old text) (if bytes_eq text name then Some v else None)
-    by true e None f =
-        put text ∙ ap (λ c. cond c (Some v) (old text)) e ∙ ap (λ c. if c then Some v else None) (sym (same_turned text name ∙ e)) ∙ ap (λ o. option_or o (if bytes_eq text name then Some v else None)) (sym f)
-    by true e (Some x) f =
-        let same : name ≡ text = (bytes_eq-Decides name text).0 e in
-        absurd (true≢false (sym (ap is_some (ap old same ∙ f)) ∙ none))
-    by false e None f =
-        put text ∙ ap (λ c. cond c (Some v) (old text)) e ∙ f ∙ ap (λ c. if c then Some v else None) (sym (same_turned text name ∙ e)) ∙ ap (λ o. option_or o (if bytes_eq text name then Some v else None)) (sym f)
-    by false e (Some x) f =
-        put text ∙ ap (λ c. cond c (Some v) (old text)) e ∙ f ∙ ap (λ o. option_or o (if bytes_eq text name then Some v else None)) (sym f)
-
 -- a text with a unit above 16 bits is no name
 pub not_large : (unit : ℕ) (name : List ℕ) → ((place : ℕ) → slice_index name place < 65536) → bytes_eq ((65536 + unit) ∷ []) name ≡ false
 not_large unit name small = by (bytes_eq ((65536 + unit) ∷ []) name) refl
@@ -108,17 +90,6 @@ next_named f q n = by (nat_lt q n) refl (nat_eq q n) refl
 pub named_step : (f : ℕ → Option Owner) (g new old : Option Owner) (q n : ℕ) → new ≡ option_or (if nat_eq q n then g else None) old → g ≡ f n → old ≡ (if nat_lt q n then f q else None) → new ≡ (if nat_lt q (n + 1) then f q else None)
 named_step f g new old q n put here before =
     put ∙ ap (λ o. option_or (if nat_eq q n then o else None) old) here ∙ ap (λ o. option_or (if nat_eq q n then f n else None) o) before ∙ next_named f q n
-
-none_there : {X : Type 0} (xs : List X) → is_none xs ≡ true → xs ≡ []
-none_there [] e = refl
-none_there (x ∷ xs) e = cc
-
-first_true : (a b : Bool) → (a && b) ≡ true → a ≡ true
-first_true true b e = refl
-first_true false b e = e
-
-pub no_ifaces : (list : DefsTerm) → HasOperationsAlone list → list.ifaces ≡ []
-no_ifaces list rules = none_there list.ifaces (first_true (is_none list.ifaces) (list_all has_operations_alone list.spaces) rules)
 
 -- where there are no interfaces, owners are namespaces
 pub owner_is : (list : DefsTerm) (text : List ℕ) → HasOperationsAlone list → owner_there list.spaces text ≡ owner_named list text

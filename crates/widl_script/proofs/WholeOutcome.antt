@@ -14,13 +14,13 @@ use Rattle.widl_lines.specs.Refusals.{IsRefusal as IsRefusalOfForm}
 use Rattle.widl_lines.specs.TextBreaks.{Line, PlacedLine, ScriptBreak, TextBreak, placed, script_lines}
 use Rattle.widl_script_tree.specs.Tables.{Tables, script_tree}
 use Rattle.widl_script_tree.specs.Trees.{ScriptTree}
-use Rattle.widl_script.specs.LeastBreak.{IsLeastBreak}
+use Rattle.widl_script_rules.specs.LeastBreak.{IsLeastBreak}
 use Rattle.widl_script.specs.Outcomes.{IsRefusal}
 use Rattle.widl_script.specs.Scripts.{Answers, IsFirstBreak, IsReadAs, IsScriptOf, of_form, of_rules, words_of_lines}
-use Rattle.widl_script.specs.SpelledStatements.{IsTreeOf, words_of}
-use Rattle.widl_script.specs.Surroundings.{plain_line, plain_lines}
-use Rattle.widl_script.proofs.PlainLines.{lines_unbroken}
-use Rattle.widl_script.proofs.WholeScript.{words_placed}
+use Rattle.widl_script_words.specs.SpelledStatements.{IsTreeOf, words_of}
+use Rattle.widl_script_rules.specs.Surroundings.{plain_line, plain_lines}
+use Rattle.widl_script_words.proofs.PlainLines.{lines_unbroken}
+use Rattle.widl_script_reader.proofs.WholeScript.{words_placed}
 
 -- 1. Lines
 

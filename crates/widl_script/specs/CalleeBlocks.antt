@@ -1,5 +1,5 @@
 -- For proofs alone. The steps blocks of a script by the names of what they are for, and by callees.
-use Rattle.std.specs.Prelude.{◌≡◌, ℕ, Bool, ◌&&◌, bytes_eq, false, nat_eq, nat_lt, List, [], length, slice_get, Option, None, Some, IsSome, option_map, unwrap_or, if◌then◌else◌}
+use Rattle.std.specs.Prelude.{◌≡◌, ℕ, Bool, ◌&&◌, bytes_eq, nat_eq, nat_lt, List, [], length, slice_get, Option, None, Some, IsSome, option_map, unwrap_or, if◌then◌else◌}
 use Rattle.std.specs.Map.{lookup}
 use Rattle.std.specs.Option.{option_or}
 use Rattle.indexmap.specs.IndexMap.{IndexMap, get_by}
@@ -10,19 +10,11 @@ use Rattle.widl_script_tree.specs.declared.steps.StepLine.{StepLine}
 use Rattle.widl_script_tree.specs.declared.steps.Target.{Target}
 use Rattle.widl_script_tree.specs.Tables.{CalleeOverload, Tables, lines_of, same_overload, statements_tree, steps_statement}
 use Rattle.widl_script_tree.specs.Trees.{Text, StatementTree, StatementTrees, StepsT, no_statements, then_more}
-use Rattle.widl_script.specs.declared.operation_target.OperationTarget.{OperationTarget}
-use Rattle.widl_script.specs.Scripts.{callee_of, is_target_of, lines_of_first}
+use Rattle.widl_script_rules.specs.declared.operation_target.OperationTarget.{OperationTarget}
+use Rattle.widl_script.specs.Scripts.{callee_of, lines_of_first}
+use Rattle.widl_script_rules.specs.Targets.{is_target_of}
 
 -- 1. Blocks by the texts of their targets
-
--- the target names this overload
-abbrev pub names : OperationTarget → Text → Text → ℕ → Bool
-names target owner name overload = bytes_eq target.owner.now owner && (bytes_eq target.name.now name && nat_eq target.overload overload)
-
--- there is a target, and it names this overload
-abbrev pub are_names : Option OperationTarget → Text → Text → ℕ → Bool
-are_names None owner name overload = false
-are_names (Some target) owner name overload = names target owner name overload
 
 -- this overload is named by the target
 abbrev pub is_named : Text → Text → ℕ → OperationTarget → Bool

@@ -1,10 +1,9 @@
 -- What bytes are, over a list of definitions: a script's tree, or the first rule that is broken.
 -- Source: this program's own.
-use Rattle.std.specs.Prelude.{◌≡◌, ℕ, ◌&&◌, nat_eq, bytes_eq, Bool, false, not, List, [], ◌∷◌, map, position, slice_get, Option, Some, None, IsSome, unwrap_or, if◌then◌else◌}
+use Rattle.std.specs.Prelude.{◌≡◌, ℕ, bytes_eq, Bool, List, [], map, position, slice_get, Option, Some, None, IsSome, unwrap_or, if◌then◌else◌}
 use Rattle.widl_idl.specs.declared.callee.Callee.{Callee}
 use Rattle.widl_idl.specs.declared.callee.Owner.{Owner}
 use Rattle.widl_idl.specs.declared.callee.Owner.TheVariants as owners
-use Rattle.widl_idl.specs.declared.callee.Part.{Part}
 use Rattle.widl_idl.specs.declared.callee.Part.TheVariants as parts
 use Rattle.widl_idl.specs.DefinitionTerms.{DefsTerm, IfaceTerm, OpNameTerm, SpaceTerm}
 use Rattle.widl_lines.specs.declared.script_place.ScriptPlace.{ScriptPlace}
@@ -14,8 +13,8 @@ use Rattle.widl_script_tree.specs.declared.steps.Target.{Target}
 use Rattle.widl_script_tree.specs.declared.steps.Target.TheVariants as target
 use Rattle.widl_script_tree.specs.Tables.{Tables, name_at, owner_at, script_tree, steps_at}
 use Rattle.widl_script_tree.specs.Trees.{Text, StatementTrees, no_statements, then_more, StepsT, ScriptTree}
-use Rattle.widl_script.specs.SpelledStatements.{Lines, IsTreeOf}
-use Rattle.widl_script.specs.LeastBreak.{IsLeastBreak}
+use Rattle.widl_script_words.specs.SpelledStatements.{Lines, IsTreeOf}
+use Rattle.widl_script_rules.specs.LeastBreak.{IsLeastBreak}
 
 -- 1. The tree, or the first break
 
@@ -43,11 +42,6 @@ owner_or None None = None
 -- the interface or the namespace that has the name
 abbrev pub owner_named : DefsTerm → Text → Option Owner
 owner_named list text = owner_or (position (λ (i : IfaceTerm). bytes_eq text i.name) list.ifaces) (position (λ (n : SpaceTerm). bytes_eq text n.name) list.spaces)
-
--- the target of an overload of an operation
-abbrev pub is_target_of : SpaceTerm → OpNameTerm → ℕ → Target → Bool
-is_target_of space o k (target.Operation owner text fixed overload) = bytes_eq owner space.name && bytes_eq text o.name && not fixed && nat_eq overload k
-is_target_of space o k t = false
 
 -- the lines of the first block for such a target; without a block there are none
 abbrev pub lines_of_first : (Target → Bool) → StatementTrees → List StepLine

@@ -8,13 +8,15 @@ ghost use Rattle.widl_idl.specs.DefinitionTerms.{OpNameTerm, SpaceTerm, defs_ter
 ghost use Rattle.widl_script_tree.specs.declared.steps.Target.{Target};
 ghost use Rattle.widl_script_tree.specs.Parts.{IsLowerRow};
 ghost use Rattle.widl_script_tree.specs.Tables.{same_callee, statement_tree, statements_tree};
-ghost use Rattle.widl_script.specs.CalleeBlocks.{block_for, block_in, block_of, first_lines, lines_asked, lines_for, lines_if, names, target_at, AreTargets};
-ghost use Rattle.widl_script.specs.Scripts.{callee_of, is_target_of};
+ghost use Rattle.widl_script.specs.CalleeBlocks.{block_for, block_in, block_of, first_lines, lines_asked, lines_for, lines_if, target_at, AreTargets};
+ghost use Rattle.widl_script_rules.specs.OperationTargets.{names};
+ghost use Rattle.widl_script.specs.Scripts.{callee_of};
+ghost use Rattle.widl_script_rules.specs.Targets.{is_target_of};
 
-use crate::operation_target::{OperationTarget, operation_target};
 use indexmap::IndexMap;
 use std::alloc::{AllocError, Global};
 use widl_idl::{Callee, Defs, OpName, Owner, Part, Space};
+use widl_script_rules::{OperationTarget, operation_target};
 use widl_script_tree::{Row, ScriptTables, Statement};
 
 /// The numbers of steps blocks, by what they are for.

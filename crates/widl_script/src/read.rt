@@ -11,17 +11,17 @@ ghost use Rattle.widl_overload.specs.OperationsAlone.{HasOperationsAlone};
 ghost use Rattle.widl_script_tree.specs.Tables.{script_tree};
 ghost use Rattle.widl_script.specs.Outcomes.{IsRefusal};
 ghost use Rattle.widl_script.specs.Scripts.{Answers, IsFirstBreak, IsReadAs};
-ghost use Rattle.widl_script.specs.SpelledStatements.{IsTreeOf, words_of};
+ghost use Rattle.widl_script_words.specs.SpelledStatements.{IsTreeOf, words_of};
 
-use crate::build::build;
 use crate::callee_blocks::blocks_of_overloads;
 use crate::owners::owners_of_names;
 use crate::rule_laws::{one_first_break, scripts_are_unbroken};
-use crate::rules::least_break::least_break;
 use std::alloc::{AllocError, Global};
 use widl_idl::Defs;
 use widl_lines::{ScriptFault, ScriptWords};
 use widl_overload::Accepted;
+use widl_script_reader::build;
+use widl_script_rules::least_break;
 use widl_script_tree::Script;
 
 /// The script of words that break no rule.

@@ -27,5 +27,5 @@ pub fn scripts_are_unbroken()
 pub fn one_script()
     ensures { (bytes : List ℕ) (list : DefsTerm) (one other : ScriptTree) → IsScriptOf bytes list one → IsScriptOf bytes list other → one ≡ other }
 {
-    crate::laws::one_script();
+    widl_script_words::laws::one_script();
 }

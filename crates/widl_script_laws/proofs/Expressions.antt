@@ -6,8 +6,8 @@ use Rattle.widl_lines.specs.declared.grammar.Rule.{Rule}
 use Rattle.widl_lines.specs.declared.grammar.Rule.TheVariants as rule
 use Rattle.widl_lines.specs.declared.grammar.Terminal.TheVariants as terminal
 use Rattle.widl_script_tree.specs.Trees.{Text, ExpressionTree, UndefinedT, NullT, ThisT, NewSymbolT, NewObjectT, BoolT, NumberT, TextT, NameT, SymbolT, ObjectOfT, NewArrayT, MemberT, IndexT, CallT, NewT, CallWithT, ExpressionTrees, none, more, MemberTree, NamedT, ComputedT}
-use Rattle.widl_script.specs.Signs.{Sign, OfAnyName, ◌⧺◌, word}
-use Rattle.widl_script.specs.SpelledExpressions.{symbol_signs, number_signs, signs, list_signs, more_signs, member_signs}
+use Rattle.widl_script_words.specs.Signs.{Sign, OfAnyName, ◌⧺◌, word}
+use Rattle.widl_script_words.specs.SpelledExpressions.{symbol_signs, number_signs, signs, list_signs, more_signs, member_signs}
 use Rattle.widl_script_laws.proofs.Giving.{Gives, part_at, inside, nothing, nowhere, took, part, in_row, last, regroup}
 use Rattle.widl_script_laws.proofs.Words.{word_at, name_at, any_name_at, whole_at, text_at}
 

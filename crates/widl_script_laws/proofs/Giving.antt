@@ -11,7 +11,7 @@ use Rattle.widl_lines.specs.declared.grammar.Terminal.{Terminal}
 use Rattle.widl_lines.specs.Breaks.{terminals_of}
 use Rattle.widl_lines.specs.Grammar.{grammar, rows_of}
 use Rattle.widl_lines.specs.Words.{Lexeme}
-use Rattle.widl_script.specs.Signs.{Sign, Is, Nowhere, Stands, Spells, SpellsLine, ◌⧺◌, word}
+use Rattle.widl_script_words.specs.Signs.{Sign, Is, Nowhere, Stands, Spells, SpellsLine, ◌⧺◌, word}
 
 abbrev pub Symbols : Type 0
 Symbols = List (Symbol Terminal (Leveled Rule))

@@ -25,12 +25,12 @@ use Rattle.widl_script_tree.specs.declared.steps.StepLine.TheVariants as step
 use Rattle.widl_script_tree.specs.declared.steps.Target.{Target}
 use Rattle.widl_script_tree.specs.declared.steps.Target.TheVariants.{Operation, Constructor, Getter, Setter, Stringifier}
 use Rattle.widl_script_tree.specs.Trees.{Text, ExpressionTree, StatementTree, LetT, DoT, ReturnT, ThrowT, ShowT, SetT, DefineT, DefineAccessorT, DeleteT, TryT, IfT, FunctionT, StepsT}
-use Rattle.widl_script.specs.Words.{is_operation_name}
-use Rattle.widl_script.specs.Signs.{Sign, OfOperationName, OfIndex, SpellsLine, ◌⧺◌, word}
-use Rattle.widl_script.specs.SpelledExpressions.{number_signs}
-use Rattle.widl_script.specs.SpelledTargets.{overload_signs, owner_of, part_signs, target_signs}
-use Rattle.widl_script.specs.SpelledSteps.{literal_signs, value_signs, source_signs, slot_source_signs, more_sources, source_list, called_signs, step_signs}
-use Rattle.widl_script.specs.SpelledStatements.{setter_signs, statement_signs, more_names, name_list}
+use Rattle.widl_script_words.specs.Words.{is_operation_name}
+use Rattle.widl_script_words.specs.Signs.{Sign, OfOperationName, OfIndex, SpellsLine, ◌⧺◌, word}
+use Rattle.widl_script_words.specs.SpelledExpressions.{number_signs}
+use Rattle.widl_script_words.specs.SpelledTargets.{overload_signs, owner_of, part_signs, target_signs}
+use Rattle.widl_script_words.specs.SpelledSteps.{literal_signs, value_signs, source_signs, slot_source_signs, more_sources, source_list, called_signs, step_signs}
+use Rattle.widl_script_words.specs.SpelledStatements.{setter_signs, statement_signs, more_names, name_list}
 use Rattle.widl_script_laws.specs.Forms.{BlockForm, catches, turns, begins, says, ends, LineForm, states, tries, tests, bounds as line_bounds, StepForm, steps, bounds as step_bounds}
 use Rattle.widl_script_laws.proofs.Giving.{Gives, part_at, inside, nothing, nowhere, took, took_as, part, in_row, sentence}
 use Rattle.widl_script_laws.proofs.Words.{leads, word_at, name_at, target_name_at, whole_at, text_at, integer_at}

@@ -16,8 +16,8 @@ use Rattle.widl_lines.specs.Grammar.{grammar, rows_of}
 use Rattle.widl_lines.specs.TerminalNumbers.{terminals, all_terminals, terminal_code}
 use Rattle.widl_lines.specs.Words.{Lexeme}
 use Rattle.widl_script_tree.specs.Trees.{Text}
-use Rattle.widl_script.specs.Words.{is_name, is_any_name, is_target_name, is_whole, is_integer}
-use Rattle.widl_script.specs.Signs.{Sign, OfAnyName, OfTargetName, OfNumber, OfUnits, OfInteger, Stands, word, name}
+use Rattle.widl_script_words.specs.Words.{is_name, is_any_name, is_target_name, is_whole, is_integer}
+use Rattle.widl_script_words.specs.Signs.{Sign, OfAnyName, OfTargetName, OfNumber, OfUnits, OfInteger, Stands, word, name}
 use Rattle.widl_script_laws.proofs.Giving.{Gives, part_at, in_row, took, took_as, nothing}
 
 abbrev Row : Type 0

@@ -9,9 +9,9 @@ use Rattle.widl_lines.specs.Words.{Lexeme}
 use Rattle.widl_script_tree.specs.declared.steps.Target.{Target}
 use Rattle.widl_script_tree.specs.declared.steps.StepLine.{StepLine}
 use Rattle.widl_script_tree.specs.Trees.{Text, ExpressionTree, StatementTree}
-use Rattle.widl_script.specs.Signs.{Sign, SpellsLine}
-use Rattle.widl_script.specs.SpelledStatements.{statement_signs, try_signs, catch_signs, if_signs, else_signs, function_signs, steps_signs, end_signs}
-use Rattle.widl_script.specs.SpelledSteps.{step_signs}
+use Rattle.widl_script_words.specs.Signs.{Sign, SpellsLine}
+use Rattle.widl_script_words.specs.SpelledStatements.{statement_signs, try_signs, catch_signs, if_signs, else_signs, function_signs, steps_signs, end_signs}
+use Rattle.widl_script_words.specs.SpelledSteps.{step_signs}
 
 -- a line that opens, turns or closes a block wherever it stands. Whether it may stand there other rules say
 pub data BlockForm : List Sign → Type 0 where

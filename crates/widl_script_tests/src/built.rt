@@ -4,7 +4,7 @@ use std::alloc::Global;
 use std::mem;
 use std::process::Abort;
 use widl_lines::ScriptWords;
-use widl_script::build::{Built, build};
+use widl_script_reader::{Built, build};
 use widl_text::limits::MOST_FILE_BYTES;
 
 /// The tables of a script, which breaks no rule on form. The words aren't given back, and the tables are to be forgotten too, since

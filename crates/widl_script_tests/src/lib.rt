@@ -1,5 +1,5 @@
 //! Tests of the tables of scripts: what each form of a script puts into them, and those of scripts that can't be run yet or are long. It
-//! stands on `widl_script`, and has no code but that of its tests.
+//! stands on `widl_script_reader`, and has no code but that of its tests.
 #![tactic(auto)]
 
 #[cfg(test)]

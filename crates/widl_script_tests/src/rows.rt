@@ -7,7 +7,7 @@
 use crate::steps_rows::{write_block, write_name, write_number, write_text};
 use std::alloc::{AllocError, Global};
 use std::fmt::Write;
-use widl_script::build::Built;
+use widl_script_reader::Built;
 use widl_script_tree::{Expression, MemberKey, MemberOf, Row, ScriptTables, Statement};
 
 /// Writes a row of places in the table of this letter.

@@ -1,5 +1,6 @@
 use Rattle.std.proofs.Common.{◌≡◌, ◌∙◌, ap, false, is_some, sym, true}
-use Rattle.widl_script.specs.CalleeBlocks.{block_for, names}
+use Rattle.widl_script.specs.CalleeBlocks.{block_for}
+use Rattle.widl_script_rules.specs.OperationTargets.{names}
 use Rattle.widl_script.proofs.FirstBlocks.{new_put, same_block, there_stays}
 use Rattle.widl_script.proofs.callee_blocks.add_block.Goals as goal
 

@@ -8,7 +8,7 @@ use Rattle.widl_idl.specs.declared.operation.OpName.{OpName}
 use Rattle.widl_script.specs.CalleeBlocks.{block_of, target_at}
 use Rattle.widl_script.specs.Scripts.{callee_of}
 use Rattle.widl_script.proofs.OverloadTargets.{all_of, each_if, next_if, none_if, past_operations}
-use Rattle.widl_script.proofs.Surrounding.{at_place}
+use Rattle.widl_script_rules.proofs.Surrounding.{at_place}
 use Rattle.widl_script.proofs.callee_blocks.add_operations.Goals as goal
 
 pub each-init : goal.each-init

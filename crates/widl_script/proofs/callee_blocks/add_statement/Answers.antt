@@ -1,8 +1,9 @@
 use Rattle.std.proofs.Common.{◌≡◌, ◌∙◌, ap, slice_get, Some, sym}
 use Rattle.std.specs.Option.{option_copied, option_or}
 use Rattle.widl_script_tree.specs.Tables.{Tables, statement_tree}
-use Rattle.widl_script.specs.CalleeBlocks.{are_names, block_for, lines_asked, lines_for, lines_if, names}
-use Rattle.widl_script.specs.Scripts.{is_target_of}
+use Rattle.widl_script_rules.specs.OperationTargets.{are_names, names}
+use Rattle.widl_script.specs.CalleeBlocks.{block_for, lines_asked, lines_for, lines_if}
+use Rattle.widl_script_rules.specs.Targets.{is_target_of}
 use Rattle.widl_script.proofs.FirstBlocks.{block_put}
 use Rattle.widl_script.proofs.callee_blocks.add_statement.Goals as goal
 

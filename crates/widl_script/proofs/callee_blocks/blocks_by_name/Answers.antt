@@ -2,7 +2,7 @@ use Rattle.std.proofs.Common.{◌∙◌, ap, sym}
 use Rattle.std.specs.Option.{option_or}
 use Rattle.widl_script_tree.specs.Tables.{Tables, statement_tree}
 use Rattle.widl_script.specs.CalleeBlocks.{lines_asked}
-use Rattle.widl_script.specs.Scripts.{is_target_of}
+use Rattle.widl_script_rules.specs.Targets.{is_target_of}
 use Rattle.widl_script.proofs.FirstBlocks.{next_place}
 use Rattle.widl_script.proofs.callee_blocks.blocks_by_name.Goals as goal
 

@@ -2,7 +2,7 @@ use Rattle.std.proofs.Common.{◌≡◌, ℕ, ◌-◌}
 use Rattle.widl_idl.specs.DefinitionTerms.{OpNameTerm, SpaceTerm}
 use Rattle.widl_script_tree.specs.Tables.{statement_tree, statements_in}
 use Rattle.widl_script.specs.CalleeBlocks.{first_lines, lines_for}
-use Rattle.widl_script.specs.Scripts.{is_target_of}
+use Rattle.widl_script_rules.specs.Targets.{is_target_of}
 use Rattle.widl_script.proofs.callee_blocks.blocks_by_name.Given as goal
 
 abbrev pub invariant-places : goal.invariant-places

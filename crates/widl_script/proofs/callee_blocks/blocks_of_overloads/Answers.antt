@@ -3,10 +3,11 @@ use Rattle.widl_idl.specs.Counts.{IsNumbered, NumberedNamespace}
 use Rattle.widl_idl.specs.DefinitionTerms.{space_term}
 use Rattle.widl_script_tree.specs.Tables.{Tables, statements_tree}
 use Rattle.widl_script.specs.CalleeBlocks.{lines_at, target_at}
-use Rattle.widl_script.specs.Scripts.{callee_of, is_target_of}
+use Rattle.widl_script.specs.Scripts.{callee_of}
+use Rattle.widl_script_rules.specs.Targets.{is_target_of}
 use Rattle.widl_script.proofs.FirstBlocks.{lines_found, lines_or_none}
 use Rattle.widl_script.proofs.OverloadTargets.{overload_there, some_low}
-use Rattle.widl_script.proofs.Parts.{in_ok}
+use Rattle.widl_script_words.proofs.Parts.{in_ok}
 use Rattle.widl_script.proofs.callee_blocks.blocks_of_overloads.Goals as goal
 
 pub targets_of-requires : goal.targets_of-requires

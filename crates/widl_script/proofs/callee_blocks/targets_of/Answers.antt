@@ -7,7 +7,7 @@ use Rattle.widl_script.specs.CalleeBlocks.{block_in, block_of, target_at}
 use Rattle.widl_script.specs.Scripts.{callee_of}
 use Rattle.widl_script.proofs.FirstBlocks.{or_nothing}
 use Rattle.widl_script.proofs.OverloadTargets.{all_of, next_if, none_if, past_spaces}
-use Rattle.widl_script.proofs.Surrounding.{at_place}
+use Rattle.widl_script_rules.proofs.Surrounding.{at_place}
 use Rattle.widl_script.proofs.callee_blocks.targets_of.Goals as goal
 
 pub spaces-init : goal.spaces-init

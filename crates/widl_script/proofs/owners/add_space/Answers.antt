@@ -4,7 +4,7 @@ use Rattle.std.specs.Option.{option_or}
 use Rattle.std.proofs.lemmas.Map.Text.{hash_map_updates_str}
 use Rattle.widl_idl.specs.declared.callee.Owner.TheVariants as owners
 use Rattle.widl_script.specs.Owners.{owner_in}
-use Rattle.widl_script.proofs.OwnerNumbers.{first_put}
+use Rattle.widl_script_rules.proofs.OwnerTexts.{first_put}
 use Rattle.widl_script.proofs.owners.add_space.Goals as goal
 
 pub returns-clause-owners : goal.returns-clause-owners

@@ -7,7 +7,7 @@ use Rattle.widl_idl.specs.declared.callee.Owner.TheVariants as owners
 use Rattle.widl_idl.specs.DefinitionTerms.{space_term}
 use Rattle.widl_script.specs.Owners.{owner_there}
 use Rattle.widl_script.proofs.OwnerNumbers.{not_large, owner_next}
-use Rattle.widl_script.proofs.Surrounding.{at_place}
+use Rattle.widl_script_rules.proofs.Surrounding.{at_place}
 use Rattle.widl_script.proofs.owners.spaces_by_name.Goals as goal
 
 pub spaces-preserved : goal.spaces-preserved

@@ -1,8 +1,8 @@
 use Rattle.std.proofs.Common.{◌≡◌, ◌∙◌, List, None, Some, ap, subst, sym}
 use Rattle.widl_idl.specs.DefinitionTerms.{defs_term}
 use Rattle.widl_lines.specs.TextBreaks.{Line, script_lines}
-use Rattle.widl_script.specs.LeastBreak.{IsLeastBreak}
-use Rattle.widl_script.specs.Surroundings.{plain_lines}
+use Rattle.widl_script_rules.specs.LeastBreak.{IsLeastBreak}
+use Rattle.widl_script_rules.specs.Surroundings.{plain_lines}
 use Rattle.widl_script.proofs.WholeOutcome.{formed, lines_are, read_as, refused_form, refused_rules}
 use Rattle.widl_script.proofs.read.read_over.Goals as goal
 

@@ -1,8 +1,9 @@
 use Rattle.std.proofs.Common.{◌∙◌, ap, subst, sym}
 use Rattle.widl_idl.specs.DefinitionTerms.{defs_term}
 use Rattle.widl_script_tree.specs.Tables.{Tables, script_tree}
-use Rattle.widl_script.specs.Scripts.{Answers, is_target_of, lines_of_first}
-use Rattle.widl_script.specs.SpelledStatements.{IsTreeOf, words_of}
+use Rattle.widl_script.specs.Scripts.{Answers, lines_of_first}
+use Rattle.widl_script_rules.specs.Targets.{is_target_of}
+use Rattle.widl_script_words.specs.SpelledStatements.{IsTreeOf, words_of}
 use Rattle.widl_script.proofs.FirstBlocks.{top_is}
 use Rattle.widl_script.proofs.read.script_of.Goals as goal
 

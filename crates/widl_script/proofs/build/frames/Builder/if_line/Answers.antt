@@ -1,7 +1,0 @@
-use Rattle.std.proofs.Common.{refl}
-use Rattle.widl_script.proofs.Parts.{on_more}
-use Rattle.widl_script.proofs.OpenedLines.{if_done}
-use Rattle.widl_script.proofs.build.frames.Builder.if_line.Goals as goal
-
-pub returns-clause-done : goal.returns-clause-done
-returns-clause-done c = on_more c.open.result _ _ (λ o. if_done _ _ _ _ _ _ _ _ c.requires.sound c.requires.begins c.take.ensures c.in_ok-left.ensures.tree c.in_ok-left.ensures.grown refl refl refl o) c.open.ensures.opened

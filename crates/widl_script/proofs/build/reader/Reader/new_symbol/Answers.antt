@@ -1,6 +1,0 @@
-use Rattle.widl_script.proofs.Parts.{in_ok}
-use Rattle.widl_script.proofs.Built.{symbol_holds}
-use Rattle.widl_script.proofs.build.reader.Reader.new_symbol.Goals as goal
-
-pub returns-clause-tree : goal.returns-clause-tree
-returns-clause-tree c = in_ok c.put.result _ _ (λ place p. symbol_holds _ _ place _ _ _ _ c.requires.begins c.take.ensures c.take-2.ensures c.take-3.ensures p) c.put.ensures.put

@@ -1,9 +1,0 @@
-use Rattle.std.proofs.Common.{◌≤◌, length}
-use Rattle.widl_script.proofs.BuiltSteps.{Listed}
-use Rattle.widl_script.proofs.build.reader.Reader.sources.Given as goal
-
-abbrev pub invariant-more : goal.invariant-more
-invariant-more l = Listed l.sources l.fn.self l.self
-
-abbrev pub decreases-more : goal.decreases-more
-decreases-more l = length l.self

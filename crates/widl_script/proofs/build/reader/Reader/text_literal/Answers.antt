@@ -1,6 +1,0 @@
-use Rattle.widl_script.proofs.Parts.{in_ok}
-use Rattle.widl_script.proofs.Built.{text_holds}
-use Rattle.widl_script.proofs.build.reader.Reader.text_literal.Goals as goal
-
-pub returns-clause-tree : goal.returns-clause-tree
-returns-clause-tree c = in_ok c.put.result _ _ (λ place p. text_holds _ _ _ _ _ place _ _ c.requires.begins c.in_ok-text.ensures c.form.ensures c.text.ensures c.take.ensures p) c.put.ensures.put

@@ -1,9 +1,0 @@
-use Rattle.std.proofs.Common.{◌≡◌, ◌&&◌, List, ℕ, nat_lt, slice_get, Some}
-use Rattle.widl_lines.specs.TextBreaks.{Line}
-use Rattle.widl_script.specs.Names.{has_name, parameters_in}
-use Rattle.widl_script.specs.Surroundings.{has_pair, plain_lines}
-use Rattle.widl_script.proofs.rules.known_names.parameters_of.Given as goal
-
-abbrev pub invariant-lines : goal.invariant-lines
-invariant-lines l = (place : ℕ) (opening : Line) (text : List ℕ) → slice_get (plain_lines l.lines) place ≡ Some opening →
-    has_pair l.names.keys place text ≡ (nat_lt place l.place && has_name (parameters_in opening) text)

@@ -1,9 +1,0 @@
-use Rattle.std.proofs.Common.{◌≡◌, ◌++◌, map, take}
-use Rattle.widl_script.specs.StepUses.{used_from}
-use Rattle.widl_script.specs.UsedPlaces.{capped, capped_use, listed_term}
-use Rattle.widl_script.proofs.UsedPlaces.{word_after}
-use Rattle.widl_script.proofs.rules.step_uses.list_sources.Given as goal
-
-abbrev pub invariant-sources : goal.invariant-sources
-invariant-sources l =
-    (map listed_term l.used.items ≡ (map listed_term l.fn.used.items ++ map capped_use (used_from l.first 0 (take l.number l.sources)))) × (l.word ≡ capped (word_after l.first (take l.number l.sources)))

@@ -1,0 +1,15 @@
+pub mod Growing
+pub mod Room
+pub mod LineRoom
+pub mod Built
+pub mod LineForms
+pub mod Nesting
+pub mod Standing
+pub mod Putting
+pub mod Closing
+pub mod Locals
+pub mod BlockLines
+pub mod TurnedLines
+pub mod OpenedLines
+pub mod ClosedLines
+pub mod WholeScript

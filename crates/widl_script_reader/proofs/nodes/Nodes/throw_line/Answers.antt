@@ -1,0 +1,5 @@
+use Rattle.widl_script_reader.proofs.LineForms.{throw_holds}
+use Rattle.widl_script_reader.proofs.nodes.Nodes.throw_line.Goals as goal
+
+pub returns-clause-tree : goal.returns-clause-tree
+returns-clause-tree c = throw_holds _ _ _ _ _ c.requires.begins c.take.ensures c.in_ok-expression.ensures.tree

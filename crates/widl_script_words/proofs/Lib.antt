@@ -1,0 +1,9 @@
+pub mod Undoing
+pub mod ExactNumbers
+pub mod Unique
+pub mod UniqueLines
+pub mod UniqueSteps
+pub mod UniqueScripts
+pub mod Parts
+pub mod BuiltSteps
+pub mod PlainLines

@@ -1,0 +1,10 @@
+pub mod Words
+pub mod Signs
+pub mod SpelledExpressions
+pub mod SpelledTargets
+pub mod SpelledSteps
+pub mod Functions
+pub mod SpelledStatements
+pub mod OneTree
+pub mod Reading
+pub mod StepReading
