@@ -3,7 +3,7 @@
 
 use crate::fault::Fault;
 use crate::report::Report;
-use crate::run::{Answer, Run, answer, is_same, sink};
+use crate::run::{Answer, Run, is_same, run_with, sink};
 use std::alloc::Global;
 use widl_top::Files;
 
@@ -46,7 +46,7 @@ pub fn try_lesser(
 ) -> Result<(), Fault> {
     for budget in 1..budget_of(run.words)? {
         let mut out = sink(alloc)?;
-        let given = answer(alloc, files, run.words, Some(budget), &mut out)?;
+        let given = run_with(alloc, files, run.words, Some(budget), &mut out)?;
         let is_enough = is_same(&run.wanted, &given);
         if is_enough && !is_least {
             return Ok(());

@@ -12,7 +12,7 @@ mod report;
 mod run;
 
 use anyhow::{Context, Result};
-use page::Page;
+use page::read_page;
 use report::Report;
 use std::{fs, io};
 
@@ -21,10 +21,15 @@ fn main(rt: HostRuntime) -> Result<()> {
     let mut report = Report::new(rt.alloc());
     for name in names.as_str().lines() {
         let text = fs::read_to_string(&rt, name).context(format_args!("the page {name}"))?;
-        let mut page = Page::new(rt.alloc(), name);
-        page.read(rt.alloc(), text.as_str(), &mut report)
-            .context(format_args!("in the page {name}"))?;
+        read_page(rt.alloc(), name, text.as_str(), &mut report).context(format_args!(
+            "in the page {name}"
+        ))?;
     }
-    println!(rt; "{}{} runs, {} differ", report.text(), report.runs(), report.differing())?;
+    println!(rt;
+        "{}{} runs, {} differ",
+        report.text(),
+        report.runs(),
+        report.differing()
+    )?;
     Ok(())
 }

@@ -29,6 +29,8 @@
 //!    way round where `# with a last line feed` or `# without a last line feed` follows the name.
 //! 5. An empty line belongs to a file or an output where an indented line of it follows. All other lines are remarks.
 
+ghost use Rattle.std.specs.Prelude.{◌<◌, IfSome, length};
+
 use crate::fault::Fault;
 use crate::report::Report;
 use crate::run::{Comparison, Run, named, try_run, wanted_of};
@@ -36,9 +38,27 @@ use std::alloc::{AllocError, Global};
 use std::mem;
 use widl_top::Files;
 
+/// Reads the page of this name, and tries its runs.
+///
+/// # Errors
+///
+/// `Memory` where there is no memory, `Page` where the page isn't written as pages are.
+pub fn read_page<'a>(
+    alloc: Global,
+    name: &'a str,
+    text: &'a str,
+    report: &mut Report,
+) -> Result<(), Fault> {
+    let mut page = Page::new(alloc, name);
+    for line in text.lines() {
+        page.read_line(alloc, line, report)?;
+    }
+    page.end_command(alloc, report)
+}
+
 /// A page that is being read: its files so far, and the last command with the lines below it.
 #[derive(Drop)]
-pub struct Page<'a> {
+struct Page<'a> {
     name: &'a str,
     heading: &'a str,
     files: Files,
@@ -49,7 +69,7 @@ pub struct Page<'a> {
 
 impl<'a> Page<'a> {
     /// The beginning of the page of this name.
-    pub fn new(alloc: Global, name: &'a str) -> Page<'a> {
+    fn new(alloc: Global, name: &'a str) -> Page<'a> {
         Page {
             name,
             heading: "",
@@ -60,20 +80,13 @@ impl<'a> Page<'a> {
         }
     }
 
-    /// Reads a page, and tries its runs.
-    ///
-    /// # Errors
-    ///
-    /// `Memory` where there is no memory, `Page` where the page isn't written as pages are.
-    pub fn read(&mut self, alloc: Global, text: &'a str, report: &mut Report) -> Result<(), Fault> {
-        for line in text.lines() {
-            self.read_line(alloc, line, report)?;
-        }
-        self.end_command(alloc, report)
-    }
-
     /// Reads one line.
-    fn read_line(&mut self, alloc: Global, line: &'a str, report: &mut Report) -> Result<(), Fault> {
+    fn read_line(
+        &mut self,
+        alloc: Global,
+        line: &'a str,
+        report: &mut Report,
+    ) -> Result<(), Fault> {
         if line.is_empty() {
             self.empty = self.empty.saturating_add(1);
             return Ok(());
@@ -155,14 +168,26 @@ impl<'a> Page<'a> {
     /// Puts a file in the place of the one of its name, or behind all others.
     fn put(&mut self, alloc: Global, name: &str, text: &str) -> Result<(), AllocError> {
         let file = named(alloc, name, text.as_bytes())?;
-        for place in 0..self.files.len() {
-            if self.files.at(place).name() == name {
+        match place_of(&self.files, name) {
+            Some(place) => {
                 drop(self.files.replace(place, file));
-                return Ok(());
+                Ok(())
             }
+            None => self.files.push(file),
         }
-        self.files.push(file)
     }
+}
+
+/// The place of the file of this name.
+fn place_of(files: &Files, name: &str) -> Option<usize>
+    ensures { IfSome result (λ place. place < length files.now) }
+{
+    for place in 0..files.len() {
+        if files.at(place).name() == name {
+            return Some(place);
+        }
+    }
+    None
 }
 
 /// The text of a file that stands in these lines, with the remark behind its name.

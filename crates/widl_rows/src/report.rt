@@ -53,7 +53,11 @@ impl Report {
         given: &Answer<'_>,
     ) -> Result<(), AllocError> {
         self.differing = self.differing.saturating_add(1);
-        write!(self.text, "{}: {}\n$ widl {}\n", run.page, run.heading, run.words)?;
+        write!(
+            self.text,
+            "{}: {}\n$ widl {}\n",
+            run.page, run.heading, run.words
+        )?;
         match run.comparison {
             Comparison::Runs => self.text.push_str("wanted: it isn't refused\n")?,
             _ => self.tell_answer("wanted: it ends", &run.wanted)?,
@@ -67,6 +71,10 @@ impl Report {
 
     /// Tells an answer.
     fn tell_answer(&mut self, verb: &str, answer: &Answer<'_>) -> Result<(), AllocError> {
-        write!(self.text, "{verb} with status {} and writes\n{}", answer.status, answer.text)
+        write!(
+            self.text,
+            "{verb} with status {} and writes\n{}",
+            answer.status, answer.text
+        )
     }
 }

@@ -77,10 +77,15 @@ pub fn is_same(one: &Answer<'_>, other: &Answer<'_>) -> bool {
 /// # Errors
 ///
 /// `Memory` where there is no memory, `Page` where the run isn't written as runs are.
-pub fn try_run(alloc: Global, files: &Files, run: &Run<'_>, report: &mut Report) -> Result<(), Fault> {
+pub fn try_run(
+    alloc: Global,
+    files: &Files,
+    run: &Run<'_>,
+    report: &mut Report,
+) -> Result<(), Fault> {
     report.count();
     let mut out = sink(alloc)?;
-    let given = answer(alloc, files, run.words, None, &mut out)?;
+    let given = run_with(alloc, files, run.words, None, &mut out)?;
     if !is_wanted(run, &given) {
         return Ok(report.tell(run, None, &given)?);
     }
@@ -105,7 +110,7 @@ pub fn sink(alloc: Global) -> Result<MemorySink, AllocError> {
 }
 
 /// Runs the command over copies of the files, with this budget in place of its own if one is given.
-pub fn answer<'a>(
+pub fn run_with<'a>(
     alloc: Global,
     files: &Files,
     words: &str,
