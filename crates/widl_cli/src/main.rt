@@ -1,37 +1,11 @@
-//! The program `widl`: it answers the arguments of a command line over a folder of files, and writes to a
-//! sink. It stands on the verdict of `widl_front`, on what is written for an accepted set (`widl_sets`,
-//! `widl_engine`), and on folders and sinks (`widl_folder`, `widl_sink`). The main contract is that of
-//! [`widl`], which the program calls with the disk and standard output: what is written is the defined
-//! output of the arguments and the files, and each failure is tied to its cause.
+//! The program `widl`: it hands the arguments of its command line, the disk and standard output to the top call
+//! (`widl` of `widl_top`), and ends with the status that this answers.
 #![tactic(auto)]
 
-mod answer;
-mod fetching;
-mod help;
-pub mod laws;
-mod reader;
-mod request;
-mod running;
-mod script_line;
-mod status;
-mod sure;
-mod task;
-#[cfg(test)]
-mod tests;
-mod top;
-mod unread;
-mod words;
-
-pub use status::Status;
 use std::process::ExitCode;
 use std::{env, io};
-pub use sure::widl_surely;
-pub use top::widl;
-pub use widl_folder::{
-    DiskFolder, Files, Folder, MemoryFolder, NamedFile, ReadFailed, Started, SureFolder,
-};
 use widl_sink::StdoutSink;
-pub use words::Words;
+use widl_top::{DiskFolder, Status, Words, widl};
 
 fn main(rt: HostRuntime) -> ExitCode {
     let words = match words_of(&rt) {
@@ -44,11 +18,12 @@ fn main(rt: HostRuntime) -> ExitCode {
     ExitCode::from(status.number())
 }
 
-/// The arguments after the program's own name.
+/// The arguments after the program's own name. Arguments of which one isn't UTF-8 have no form, as no arguments at all
+/// have none: both are answered by the line `usage`.
 ///
 /// # Errors
 ///
-/// `Memory` where there is no memory for them, `Usage` where one of them isn't UTF-8.
+/// `Memory` where there is no memory for them.
 fn words_of(rt: &HostRuntime) -> Result<Words, Status> {
     let mut words = Words::new(rt.alloc());
     match env::args(rt) {
@@ -61,6 +36,6 @@ fn words_of(rt: &HostRuntime) -> Result<Words, Status> {
             Ok(words)
         }
         Err(e) if e.kind() == io::ErrorKind::OutOfMemory => Err(Status::Memory),
-        Err(_) => Err(Status::Usage),
+        Err(_) => Ok(words),
     }
 }

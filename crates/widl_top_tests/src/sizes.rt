@@ -1,0 +1,109 @@
+//! Sets of files that say much in few bytes, or one thing in many: each has its answer, and none is too much
+//! for the memory of a machine.
+
+use crate::made::{Parts, made};
+use crate::shared::{add_bytes, expect_over};
+use std::alloc::Global;
+use std::process::Abort;
+use widl_top::{Files, Status};
+
+/// A chain of typedefs with more `?`s than any list of definitions keeps.
+const QUESTIONS: Parts = &[
+    (
+        "typedef long? A; typedef A? B; typedef B? C; typedef C? D; typedef D? E; typedef E? F; ",
+        1,
+    ),
+    (
+        "typedef F? G; typedef G? H; typedef H? I; typedef I? J; typedef J? K; typedef K? L; ",
+        1,
+    ),
+    (
+        "typedef L? M; typedef M? N; typedef N? O; typedef O? P; typedef P? Q; typedef Q? R; ",
+        1,
+    ),
+    ("namespace S { undefined f(R a); };", 1),
+];
+
+/// A long name, which many types lead to.
+const LONG_NAME: Parts = &[
+    ("typedef long ", 1),
+    ("T", 100_000),
+    ("; typedef ", 1),
+    ("T", 100_000),
+    (" U; namespace N {\n", 1),
+    ("undefined f#(U a);\n", 5_000),
+    ("};", 1),
+];
+
+/// A long text, which each member of a long union might have.
+const LONG_TEXT: Parts = &[
+    ("interface I# {};\n", 20_000),
+    ("dictionary D { (", 1),
+    ("I# or ", 20_000),
+    ("DOMString) a = \"", 1),
+    ("x", 80_000),
+    ("\"; };", 1),
+];
+
+/// A type that doubles with each typedef.
+const DOUBLED: Parts = &[
+    ("typedef DOMString T0;\n", 1),
+    ("typedef (sequence<T0> or record<DOMString, T0>) T1;\n", 1),
+    ("typedef (sequence<T1> or record<DOMString, T1>) T2;\n", 1),
+    ("typedef (sequence<T2> or record<DOMString, T2>) T3;\n", 1),
+    ("typedef (sequence<T3> or record<DOMString, T3>) T4;\n", 1),
+    ("typedef (sequence<T4> or record<DOMString, T4>) T5;\n", 1),
+    ("typedef (sequence<T5> or record<DOMString, T5>) T6;\n", 1),
+    ("typedef (sequence<T6> or record<DOMString, T6>) T7;\n", 1),
+    ("namespace N {\n", 1),
+    ("undefined f#(T7 a);\n", 4_000),
+    ("};", 1),
+];
+
+/// Eight million members, all of which are mixed in.
+const MIXED_IN: Parts = &[
+    ("interface mixin M {\n", 1),
+    ("undefined o#();\n", 1_000),
+    ("};\n", 1),
+    ("interface I# {};\nI# includes M;\n", 8_001),
+];
+
+/// A long name, which is mixed into many interfaces.
+const LONG_OPERATION: Parts = &[
+    ("interface mixin M { undefined ", 1),
+    ("o", 400_000),
+    ("(); };\n", 1),
+    ("interface I# {};\nI# includes M;\n", 16_000),
+];
+
+/// An overload with an ellipsis, which has a tuple of each length that the other one has.
+const ELLIPSIS: Parts = &[
+    ("namespace N { undefined f(any... a); undefined f(any a", 1),
+    (", any a#", 29_999),
+    ("); };", 1),
+];
+
+/// The sets, their statuses and what is written.
+const SETS: [(Parts, Status, &str); 7] = [
+    (QUESTIONS, Status::Refused, "refused 21 0 26\n"),
+    (LONG_NAME, Status::Done, "accepted\n"),
+    (LONG_TEXT, Status::Done, "accepted\n"),
+    (DOUBLED, Status::Done, "accepted\n"),
+    (MIXED_IN, Status::Refused, "refused 48 0 53640\n"),
+    (LONG_OPERATION, Status::Done, "accepted\n"),
+    (ELLIPSIS, Status::Refused, "refused 35 0 47 other 0 24\n"),
+];
+
+/// Checks sets of one made fragment, and compares the statuses and the bytes.
+fn expect_sizes(rt: &impl Abort, alloc: Global, rows: &[(Parts, Status, &str)]) {
+    for (parts, status, text) in rows {
+        let mut files = Files::new(alloc);
+        add_bytes(rt, alloc, &mut files, "a.idl", made(rt, alloc, *parts));
+        expect_over(rt, alloc, &["check", "a.idl"], files, *status, text);
+    }
+}
+
+#[test]
+fn sets_of_any_size_have_their_answer(rt: HostRuntime) {
+    expect_sizes(&rt, rt.alloc(), &SETS);
+}
