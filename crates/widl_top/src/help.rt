@@ -1,14 +1,17 @@
 //! The texts of `--help` and `--version`.
 
-/// The help text, without its last line feed: each form of the command line, what is served, and the statuses.
+/// The help text, without its last line feed: each form of the command line with an example, what is served, and the statuses.
 pub const HELP: &[u8] =
     b"widl reads Web IDL files and a call script, and writes the trace of the calls.
 
-  widl check FILE..            checks whether 1 to 64 fragments are a valid set
-  widl sets FILE..             writes the effective overload sets of 1 to 64 fragments
+  widl check FILE..              checks whether 1 to 64 fragments are a valid set, or names the first fault
+                                 widl check event_target.idl url.idl
+  widl sets FILE..               writes the effective overload sets of 1 to 64 fragments
+                                 widl sets url.idl
   widl run BUDGET SCRIPT FILE..  runs a script over 1 to 64 fragments; BUDGET is 1 to 2000000 units
-  widl --help                  writes this text
-  widl --version               writes the version
+                                 widl run 100000 calls.txt chart.idl
+  widl --help                    writes this text
+  widl --version                 writes the version
 
 run serves sets that have only dictionaries, enumerations and namespaces with operations alone, of all types
 but promises, interfaces and callbacks. Any other set is refused as `later`. Of the functions that a script finds
