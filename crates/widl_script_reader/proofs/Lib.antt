@@ -1,7 +1,7 @@
 pub mod Growing
 pub mod Room
 pub mod LineRoom
-pub mod Built
+pub mod BuiltExpressions
 pub mod LineForms
 pub mod Nesting
 pub mod Standing

@@ -22,7 +22,7 @@ use Rattle.widl_script_words.specs.StepReading.{is_block_word}
 use Rattle.widl_script_reader.specs.ReadLines.{is_head, any_member, HoldsLine, HoldsAssigned, HoldsAccessor, HoldsIf, HoldsFunction, NameLists}
 use Rattle.widl_script_reader.proofs.Growing.{grown_then, longer}
 use Rattle.widl_script_words.proofs.Parts.{follow, before, nothing, of_signs, took, by_row, by_only, by_test, by_none, never_reads}
-use Rattle.widl_script_reader.proofs.Built.{took_name, is_close, not_close, is_comma, not_comma}
+use Rattle.widl_script_reader.proofs.BuiltExpressions.{took_name, is_close, not_close, is_comma, not_comma}
 
 name_up : {a b : Tables} → Grown a b → (number : ℕ) → IsName a number → IsName b number
 name_up {a} {b} g number lt = omega (arith, lt, extends_length g.names)

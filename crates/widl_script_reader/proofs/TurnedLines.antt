@@ -37,7 +37,7 @@ use Rattle.widl_script_reader.specs.BuilderSteps.{IsDone, with_catch, with_else,
 use Rattle.widl_script_reader.proofs.Growing.{grown_same, grown_then, name_kept}
 use Rattle.widl_script_reader.proofs.Locals.{local_put, all_put}
 use Rattle.widl_script_words.proofs.Parts.{follow, by_row, took}
-use Rattle.widl_script_reader.proofs.Built.{took_name}
+use Rattle.widl_script_reader.proofs.BuiltExpressions.{took_name}
 use Rattle.widl_script_words.proofs.PlainLines.{has_change}
 use Rattle.widl_script_reader.proofs.Standing.{stands_step, stands_steps_opened, stands_try_turned, stands_if_turned}
 use Rattle.widl_script_reader.proofs.BlockLines.{pushed, spelled_line, spelled_step, spelled_either, change_is, stay_is, statements_up, names_up, frame_up, frames_up, standing_at}

@@ -3,7 +3,7 @@ use Rattle.std.proofs.Common.{sym, ◌∙◌, ap, arith, refl, length, length-dr
 use Rattle.widl_script_reader.specs.ReadExpressions.{is_link, is_member}
 use Rattle.widl_script_reader.proofs.Growing.{widens_then}
 use Rattle.widl_script_words.proofs.Parts.{in_ok, in_both, on_ok, on_more}
-use Rattle.widl_script_reader.proofs.Built.{call_continues, call_with_holds, begun, goes_on, over, index_continues, array_holds, object_holds, object_of_holds, new_holds, leaf_holds, lists_nothing, lists_more, lists_over, lists_none, lists_some, lists_from, row_holds}
+use Rattle.widl_script_reader.proofs.BuiltExpressions.{call_continues, call_with_holds, begun, goes_on, over, index_continues, array_holds, object_holds, object_of_holds, new_holds, leaf_holds, lists_nothing, lists_more, lists_over, lists_none, lists_some, lists_from, row_holds}
 use Rattle.widl_script_reader.proofs.Room.{taken, one_pushed}
 use Rattle.widl_script_reader.proofs.nodes.Nodes.+expression.Goals as goal
 

@@ -2,7 +2,7 @@ use Rattle.std.proofs.Common.{ap}
 use Rattle.widl_script_reader.specs.ReadExpressions.{is_member}
 use Rattle.widl_script_reader.proofs.Growing.{widens_then}
 use Rattle.widl_script_words.proofs.Parts.{in_ok, on_ok}
-use Rattle.widl_script_reader.proofs.Built.{dot_continues}
+use Rattle.widl_script_reader.proofs.BuiltExpressions.{dot_continues}
 use Rattle.widl_script_reader.proofs.nodes.Nodes.dot_member.Goals as goal
 
 pub returns-clause-tree : goal.returns-clause-tree

@@ -1,5 +1,5 @@
 use Rattle.widl_script_words.proofs.Parts.{in_ok}
-use Rattle.widl_script_reader.proofs.Built.{integer_holds}
+use Rattle.widl_script_reader.proofs.BuiltExpressions.{integer_holds}
 use Rattle.widl_script_reader.proofs.nodes.Nodes.integer.Goals as goal
 
 pub returns-clause-tree : goal.returns-clause-tree

@@ -3,7 +3,7 @@ use Rattle.widl_lines.specs.declared.grammar.Rule.TheVariants as rule
 use Rattle.widl_script_reader.specs.ReadExpressions.{is_link, Holds, member_tail}
 use Rattle.widl_script_words.specs.Reading.{part}
 use Rattle.widl_script_reader.proofs.Growing.{widens_then}
-use Rattle.widl_script_reader.proofs.Built.{member_begun, member_goes_on, member_over, member_found, never_ended}
+use Rattle.widl_script_reader.proofs.BuiltExpressions.{member_begun, member_goes_on, member_over, member_found, never_ended}
 use Rattle.widl_script_reader.proofs.nodes.Nodes.member.Goals as goal
 
 pub links-init : goal.links-init

@@ -1,6 +1,6 @@
 use Rattle.widl_script_reader.proofs.Growing.{widens_then}
 use Rattle.widl_script_words.proofs.Parts.{in_ok, on_ok}
-use Rattle.widl_script_reader.proofs.Built.{named_holds}
+use Rattle.widl_script_reader.proofs.BuiltExpressions.{named_holds}
 use Rattle.widl_script_reader.proofs.nodes.Nodes.named.Goals as goal
 
 pub returns-clause-tree : goal.returns-clause-tree

@@ -1,5 +1,5 @@
 use Rattle.widl_script_words.proofs.Parts.{in_ok}
-use Rattle.widl_script_reader.proofs.Built.{symbol_holds}
+use Rattle.widl_script_reader.proofs.BuiltExpressions.{symbol_holds}
 use Rattle.widl_script_reader.proofs.nodes.Nodes.new_symbol.Goals as goal
 
 pub returns-clause-tree : goal.returns-clause-tree
