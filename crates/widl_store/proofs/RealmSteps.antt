@@ -6,8 +6,9 @@ use Rattle.std.proofs.Math.Seq.{drop-cons}
 use Rattle.widl_idl.specs.declared.argument.Arg.{Arg}
 use Rattle.widl_idl.specs.declared.namespace.Space.{Space}
 use Rattle.widl_idl.specs.declared.operation.OpName.{OpName}
-use Rattle.widl_idl.specs.DefinitionTerms.{SpaceTerm, OpNameTerm, arg_term, op_name_term, space_term}
+use Rattle.widl_idl.specs.DefinitionTerms.{SpaceTerm, OpNameTerm, arg_term, attr_term, op_name_term, space_term}
 use Rattle.widl_overload.specs.sets.Sets.{is_end, is_free}
+use Rattle.widl_store.specs.declared.homes.SpaceHome.{SpaceHome}
 use Rattle.widl_store.specs.declared.inner.Builtin.{Builtin}
 use Rattle.widl_store.specs.declared.property.Prop.{Prop}
 use Rattle.widl_store.specs.declared.property.Prop.TheVariants.{Plain}
@@ -15,8 +16,8 @@ use Rattle.widl_store.specs.Effects.{with_props, new_object}
 use Rattle.widl_store.specs.Inners.{BuiltinPart, SpacePart}
 use Rattle.widl_store.specs.Intrinsics.{intrinsics}
 use Rattle.widl_store.specs.Objects.{Obj, StoreState, with_prop, length_key, plain_object}
-use Rattle.widl_store.specs.Plans.{object_of, object_on, function, with_entries, fixed_flags}
-use Rattle.widl_store.specs.Realm.{needed, needed_with, functions_from, operations_from, namespace_object, namespace_plans, namespaces_from, homes_from, after, realm_plans, realm_over}
+use Rattle.widl_store.specs.Plans.{object_of, object_on, function, function_entries, name, number, tag, with_entries, fixed_flags}
+use Rattle.widl_store.specs.Realm.{needed, needed_with, unset_slots, functions_from, operations_from, namespace_object, namespace_plans, namespaces_from, homes_from, after, realm_plans, realm_over}
 use Rattle.widl_store.specs.Sound.{Sound}
 use Rattle.widl_store.proofs.PlanObjects.{realm_sound, intrinsics_are_18}
 use Rattle.widl_text.specs.declared.key.Key.{Key}
@@ -28,28 +29,34 @@ use Rattle.widl_value.specs.declared.value.Value.TheVariants.{Num, Str}
 abbrev set_one : Key → Prop → Obj → Obj
 set_one key prop o = with_props o (with_prop o.props key prop)
 
+-- a property that is put, by what its key and its value are
+pub set_as : (o new : Obj) (k key : Key) (p prop : Prop) → new ≡ with_props o (with_prop o.props k p) → k ≡ key → p ≡ prop → new ≡ with_props o (with_prop o.props key prop)
+set_as o new k key p prop is key_is prop_is = is ∙ ap (λ x. set_one x p o) key_is ∙ ap (λ x. set_one key x o) prop_is
+
 -- a function, and its two properties
-pub function_made : (what : Builtin) (n : ℕ) (text : List ℕ) (o1 o2 o3 : Obj) (k1 k2 : Key) (p1 p2 : Prop) → o1 ≡ new_object (Some (plain_object 1)) Callable (BuiltinPart what) → k1 ≡ length_key → p1 ≡ Plain (Num (Whole (pos n))) fixed_flags → o2 ≡ with_props o1 (with_prop o1.props k1 p1) → k2 ≡ Name (codes "name") → p2 ≡ Plain (Str text) fixed_flags → o3 ≡ with_props o2 (with_prop o2.props k2 p2) → o3 ≡ object_of (function what n text)
-unfolding length_key
-function_made what n text o1 o2 o3 k1 k2 p1 p2 made is_length is_number first is_name is_text second =
-    second
-    ∙ ap (set_one k2 p2) (first ∙ ap (set_one k1 p1) made)
-    ∙ ap (λ k. set_one k p2 (set_one k1 p1 (new_object (Some (plain_object 1)) Callable (BuiltinPart what)))) is_name
-    ∙ ap (λ p. set_one (Name (codes "name")) p (set_one k1 p1 (new_object (Some (plain_object 1)) Callable (BuiltinPart what)))) is_text
-    ∙ ap (λ k. set_one (Name (codes "name")) (Plain (Str text) fixed_flags) (set_one k p1 (new_object (Some (plain_object 1)) Callable (BuiltinPart what)))) is_length
-    ∙ ap (λ p. set_one (Name (codes "name")) (Plain (Str text) fixed_flags) (set_one length_key p (new_object (Some (plain_object 1)) Callable (BuiltinPart what)))) is_number
+pub function_described : (n : ℕ) (text : List ℕ) (o1 o2 o3 : Obj) → o2 ≡ set_one (number n).0 (number n).1 o1 → o3 ≡ set_one (name text).0 (name text).1 o2 → o3 ≡ with_props o1 (with_entries o1.props (function_entries n text))
+function_described n text o1 o2 o3 first second = second ∙ ap (set_one (name text).0 (name text).1) first
+
+pub function_made : (what : Builtin) (n : ℕ) (text : List ℕ) (o1 o2 : Obj) → o1 ≡ new_object (Some (plain_object 1)) Callable (BuiltinPart what) → o2 ≡ with_props o1 (with_entries o1.props (function_entries n text)) → o2 ≡ object_of (function what n text)
+function_made what n text o1 o2 made described = described ∙ ap (λ o. with_props o (with_entries o.props (function_entries n text))) made
 
 entries_last : (props entries : List (Key × Prop)) (key : Key) (prop : Prop) → with_entries props (entries ++ (key, prop) ∷ []) ≡ with_prop (with_entries props entries) key prop
 entries_last props [] key prop = refl
 entries_last props (e ∷ es) key prop = entries_last (with_prop props e.0 e.1) es key prop
 
 -- a namespace object, its operations and its tag
-pub namespace_made : (id : ℕ) (s : Space) (ops : List OpName) (o1 o2 o3 : Obj) (text : List ℕ) (p : Prop) → o1 ≡ object_of (object_on 0 (SpacePart []) []) → ops ≡ s.ops → o2 ≡ with_props o1 (with_entries o1.props (operations_from (id + 1) (map op_name_term ops))) → text ≡ s.name → p ≡ Plain (Str text) fixed_flags → o3 ≡ with_props o2 (with_prop o2.props (Sym 2) p) → o3 ≡ object_of (namespace_object id (space_term s))
-namespace_made id s ops o1 o2 o3 text p made are_ops first is_name is_text second =
+pub members_made : (id : ℕ) (s : Space) (ops : List OpName) (o1 o2 o3 : Obj) (text : List ℕ) (p : Prop) → ops ≡ s.ops → o2 ≡ with_props o1 (with_entries o1.props (operations_from (id + 1) (map op_name_term ops))) → text ≡ s.name → p ≡ Plain (Str text) fixed_flags → o3 ≡ with_props o2 (with_prop o2.props (Sym 2) p) → o3 ≡ with_props o1 (with_entries o1.props (operations_from (id + 1) (map op_name_term s.ops) ++ tag s.name ∷ []))
+members_made id s ops o1 o2 o3 text p are_ops first is_name is_text second =
     second
-    ∙ ap (set_one (Sym 2) p) (first ∙ ap (λ o. with_props o (with_entries o.props (operations_from (id + 1) (map op_name_term ops)))) made ∙ ap (λ l. with_props (object_of (object_on 0 (SpacePart []) [])) (with_entries [] (operations_from (id + 1) (map op_name_term l)))) are_ops)
-    ∙ ap (λ q. set_one (Sym 2) q (with_props (object_of (object_on 0 (SpacePart []) [])) (with_entries [] (operations_from (id + 1) (map op_name_term s.ops))))) (is_text ∙ ap (λ t. Plain (Str t) fixed_flags) is_name)
-    ∙ ap (λ l. with_props (object_of (object_on 0 (SpacePart []) [])) l) (sym (entries_last [] (operations_from (id + 1) (map op_name_term s.ops)) (Sym 2) (Plain (Str s.name) fixed_flags)))
+    ∙ ap (set_one (Sym 2) p) (first ∙ ap (λ l. with_props o1 (with_entries o1.props (operations_from (id + 1) (map op_name_term l)))) are_ops)
+    ∙ ap (λ q. set_one (Sym 2) q (with_props o1 (with_entries o1.props (operations_from (id + 1) (map op_name_term s.ops))))) (is_text ∙ ap (λ t. Plain (Str t) fixed_flags) is_name)
+    ∙ ap (λ l. with_props o1 l) (sym (entries_last o1.props (operations_from (id + 1) (map op_name_term s.ops)) (Sym 2) (Plain (Str s.name) fixed_flags)))
+
+pub namespace_made : (id : ℕ) (s : Space) (slots : ℕ) (o1 o2 : Obj) → slots ≡ length s.attrs → o1 ≡ object_of (object_on 0 (SpacePart (unset_slots slots)) []) → o2 ≡ with_props o1 (with_entries o1.props (operations_from (id + 1) (map op_name_term s.ops) ++ tag s.name ∷ [])) → o2 ≡ object_of (namespace_object id (space_term s))
+namespace_made id s slots o1 o2 counted_slots made set =
+    set
+    ∙ ap (λ o. with_props o (with_entries o.props (operations_from (id + 1) (map op_name_term s.ops) ++ tag s.name ∷ [])))
+    (made ∙ ap (λ n. object_of (object_on 0 (SpacePart (unset_slots n)) [])) (counted_slots ∙ sym (length-map s.attrs attr_term)))
 
 -- an argument before those that were counted
 counted : (free : Bool) (n : ℕ) → (0 < n) ⊎ (free ≡ false) → n + 1 ≡ needed_with free n
@@ -107,12 +114,14 @@ objects_step objs next spaces i k s small is number grown =
     ∙ ap (λ l. objs ++ l) (sym (map-append object_of plans (namespaces_from (after (length objs) (space_term s)) (i + 1) rest)))
     ∙ ap (λ l. objs ++ map object_of (namespaces_from (length objs) i (map space_term l))) (sym (next_space spaces i s small is))
 
-pub homes_step : (objs next : List Obj) (homes more : List ℕ) (spaces : List Space) (i k id : ℕ) (s : Space) → i < length spaces → s ≡ get_or spaces i s → id ≡ length objs → more ≡ homes ++ id ∷ [] → next ≡ objs ++ map object_of (namespace_plans (length objs) k (space_term s)) → more ++ homes_from (length next) (map space_term (drop (i + 1) spaces)) ≡ homes ++ homes_from (length objs) (map space_term (drop i spaces))
-homes_step objs next homes more spaces i k id s small is at put grown =
+pub homes_step : (objs next : List Obj) (homes more : List SpaceHome) (spaces : List Space) (i k : ℕ) (home : SpaceHome) (s : Space) → i < length spaces → s ≡ get_or spaces i s → home ≡ record { object = length objs; slots = length s.attrs } → more ≡ homes ++ home ∷ [] → next ≡ objs ++ map object_of (namespace_plans (length objs) k (space_term s)) → more ++ homes_from (length next) (map space_term (drop (i + 1) spaces)) ≡ homes ++ homes_from (length objs) (map space_term (drop i spaces))
+homes_step objs next homes more spaces i k home s small is at put grown =
     let rest = map space_term (drop (i + 1) spaces) in
-    ap (λ l. l ++ homes_from (length next) rest) (put ∙ ap (λ n. homes ++ n ∷ []) at)
-    ∙ ap (λ n. (homes ++ length objs ∷ []) ++ homes_from n rest) (ap length grown ∙ longer objs k (space_term s))
-    ∙ append_assoc homes (length objs ∷ []) (homes_from (after (length objs) (space_term s)) rest)
+    let here : SpaceHome = record { object = length objs; slots = length (space_term s).members.attrs } in
+    let same : home ≡ here = at ∙ ap (λ n. record { object = length objs; slots = n }) (sym (length-map s.attrs attr_term)) in
+    ap (λ l. l ++ homes_from (length next) rest) (put ∙ ap (λ h. homes ++ h ∷ []) same)
+    ∙ ap (λ n. (homes ++ here ∷ []) ++ homes_from n rest) (ap length grown ∙ longer objs k (space_term s))
+    ∙ append_assoc homes (here ∷ []) (homes_from (after (length objs) (space_term s)) rest)
     ∙ ap (λ l. homes ++ homes_from (length objs) (map space_term l)) (sym (next_space spaces i s small is))
 
 -- the whole
@@ -123,13 +132,13 @@ realm_objects spaces first all first_is all_is =
     ∙ ap (λ n. map object_of intrinsics ++ map object_of (namespaces_from n 0 (map space_term spaces))) (length-map intrinsics object_of ∙ intrinsics_are_18)
     ∙ sym (map-append object_of intrinsics (namespaces_from 18 0 (map space_term spaces)))
 
-pub realm_homes : (spaces : List Space) (first : List Obj) (none all : List ℕ) → first ≡ map object_of intrinsics → none ≡ [] → all ≡ none ++ homes_from (length first) (map space_term spaces) → all ≡ homes_from 18 (map space_term spaces)
+pub realm_homes : (spaces : List Space) (first : List Obj) (none all : List SpaceHome) → first ≡ map object_of intrinsics → none ≡ [] → all ≡ none ++ homes_from (length first) (map space_term spaces) → all ≡ homes_from 18 (map space_term spaces)
 realm_homes spaces first none all first_is none_is all_is =
     all_is
     ∙ ap (λ l. l ++ homes_from (length first) (map space_term spaces)) none_is
     ∙ ap (λ n. homes_from n (map space_term spaces)) (ap length first_is ∙ length-map intrinsics object_of ∙ intrinsics_are_18)
 
-pub realm_made : (spaces : List Space) (objs : List Obj) (homes : List ℕ) (store : StoreState) → objs ≡ map object_of (realm_plans (map space_term spaces)) → homes ≡ homes_from 18 (map space_term spaces) → store ≡ record { objects = objs; homes = record { ifaces = []; spaces = homes } } → store ≡ realm_over (map space_term spaces)
+pub realm_made : (spaces : List Space) (objs : List Obj) (homes : List SpaceHome) (store : StoreState) → objs ≡ map object_of (realm_plans (map space_term spaces)) → homes ≡ homes_from 18 (map space_term spaces) → store ≡ record { objects = objs; homes = record { ifaces = []; spaces = homes } } → store ≡ realm_over (map space_term spaces)
 unfolding realm_over
 realm_made spaces objs homes store a b is = is ∙ (λ i. record { objects = a i; homes = record { ifaces = []; spaces = b i } })
 

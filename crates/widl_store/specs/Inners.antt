@@ -1,6 +1,6 @@
 -- The inner parts of objects as plain terms: IDL values by their terms, without places in memory.
 -- Source: ECMA-262, "Object Internal Methods and Internal Slots"; Web IDL, "platform object", "Namespace object", "Interface object".
-use Rattle.std.specs.Prelude.{ℕ, Bool, true, false, Option, List}
+use Rattle.std.specs.Prelude.{ℕ, Bool, true, false, Option, List, length}
 use Rattle.widl_value.specs.IdlTerms.{IdlTerm, slot_terms, pair_terms}
 use Rattle.widl_value.specs.declared.object.ObjRef.{ObjRef}
 use Rattle.widl_value.specs.declared.object.Shape.{Shape}
@@ -39,16 +39,16 @@ inner_term (parts.PairIterator of kind next) = PairIteratorPart of kind next
 inner_term (parts.ArrayIterator of next turn) = ArrayIteratorPart of next turn
 inner_term (parts.Promise state) = PromisePart state
 
--- the kinds of inner parts
+-- the kinds of inner parts; where one has slots, how many these are is a part of its kind
 pub data InnerKind : Type 0 where
   APlain : InnerKind
   AnArray : InnerKind
   AnError : InnerKind
   AScript : InnerKind
   ABuiltin : InnerKind
-  AnInterface : InnerKind
-  APlatform : InnerKind
-  ASpace : InnerKind
+  AnInterface : ℕ → InnerKind
+  APlatform : ℕ → InnerKind
+  ASpace : ℕ → InnerKind
   APairIterator : InnerKind
   AnArrayIterator : InnerKind
   APromise : InnerKind
@@ -59,9 +59,9 @@ kind_of ArrayPart = AnArray
 kind_of ErrorPart = AnError
 kind_of (ScriptPart f) = AScript
 kind_of (BuiltinPart f) = ABuiltin
-kind_of (InterfacePart iface slots) = AnInterface
-kind_of (PlatformPart slots pairs) = APlatform
-kind_of (SpacePart slots) = ASpace
+kind_of (InterfacePart iface slots) = AnInterface (length slots)
+kind_of (PlatformPart slots pairs) = APlatform (length slots)
+kind_of (SpacePart slots) = ASpace (length slots)
 kind_of (PairIteratorPart of kind next) = APairIterator
 kind_of (ArrayIteratorPart of next turn) = AnArrayIterator
 kind_of (PromisePart state) = APromise
@@ -77,12 +77,12 @@ is_array inner = is_array_kind (kind_of inner)
 abbrev pub has_shape : InnerKind → Shape → Bool
 has_shape AScript shapes.Callable = true
 has_shape ABuiltin shapes.Callable = true
-has_shape AnInterface shapes.Callable = true
-has_shape APlatform (shapes.Platform iface) = true
+has_shape (AnInterface slots) shapes.Callable = true
+has_shape (APlatform slots) (shapes.Platform iface) = true
 has_shape APlain shapes.Plain = true
 has_shape AnArray shapes.Plain = true
 has_shape AnError shapes.Plain = true
-has_shape ASpace shapes.Plain = true
+has_shape (ASpace slots) shapes.Plain = true
 has_shape APairIterator shapes.Plain = true
 has_shape AnArrayIterator shapes.Plain = true
 has_shape APromise shapes.Plain = true

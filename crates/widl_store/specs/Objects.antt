@@ -94,6 +94,6 @@ function_object id = record { id = id; shape = shapes.Callable }
 -- the object that stands for a definition
 abbrev pub home_of : Homes → Home → Option ObjRef
 home_of homes (places.Owner (Iface i)) = option_map (λ h. function_object h.object) (slice_get homes.ifaces i)
-home_of homes (places.Owner (Space i)) = option_map plain_object (slice_get homes.spaces i)
+home_of homes (places.Owner (Space i)) = option_map (λ h. plain_object h.object) (slice_get homes.spaces i)
 home_of homes (places.Prototype i) = option_map (λ h. plain_object h.prototype) (slice_get homes.ifaces i)
 home_of homes (places.PairPrototype i) = option_and_then (λ h. option_map plain_object h.pair_prototype) (slice_get homes.ifaces i)

@@ -1,16 +1,18 @@
 -- The store before a script begins, for lists of namespaces with operations alone.
 -- Source: Web IDL, "Namespace object", "Defining the operations"; the numbers are this program's own.
-use Rattle.std.specs.Prelude.{ℕ, ◌+◌, ◌&&◌, Bool, if◌then◌else◌, min, fold, nat_eq, List, [], ◌∷◌, ◌++◌, length, map}
+use Rattle.std.specs.Prelude.{ℕ, ◌+◌, ◌&&◌, Bool, if◌then◌else◌, min, fold, nat_eq, List, [], ◌∷◌, ◌++◌, length, map, Option, None, replicate}
 use Rattle.widl_idl.specs.declared.callee.Owner.TheVariants.{Space}
 use Rattle.widl_idl.specs.declared.callee.Part.TheVariants.{Op}
 use Rattle.widl_idl.specs.DefinitionTerms.{DefsTerm, SpaceTerm, OpNameTerm, SigTerm, ArgTerm}
 use Rattle.widl_overload.specs.sets.Sets.{is_end, is_free}
+use Rattle.widl_store.specs.declared.homes.SpaceHome.{SpaceHome}
 use Rattle.widl_store.specs.declared.inner.Builtin.TheVariants.{Callee}
 use Rattle.widl_store.specs.Inners.{SpacePart}
 use Rattle.widl_store.specs.Intrinsics.{intrinsics}
 use Rattle.widl_store.specs.Objects.{StoreState}
 use Rattle.widl_store.specs.Plans.{Plan, operation, tag, object_on, function, object_of}
 use Rattle.widl_text.specs.declared.key.Key.{Key}
+use Rattle.widl_value.specs.IdlTerms.{IdlTerm}
 use Rattle.widl_store.specs.declared.property.Prop.{Prop}
 
 -- how many arguments a call of an overload has to give: all but those at the end that it may leave out
@@ -41,9 +43,13 @@ abbrev pub operations_from : ℕ → List OpNameTerm → List (Key × Prop)
 operations_from id [] = []
 operations_from id (op ∷ ops) = operation op.name id ∷ operations_from (id + 1) ops
 
--- the namespace object of this number, which has its operations and then its tag
+-- so many slots, all unset
+abbrev pub unset_slots : ℕ → List (Option IdlTerm)
+unset_slots count = replicate count None
+
+-- the namespace object of this number, which has a slot for each attribute, its operations and then its tag
 abbrev pub namespace_object : ℕ → SpaceTerm → Plan
-namespace_object id n = object_on 0 (SpacePart []) (operations_from (id + 1) n.members.ops ++ tag n.name ∷ [])
+namespace_object id n = object_on 0 (SpacePart (unset_slots (length n.members.attrs))) (operations_from (id + 1) n.members.ops ++ tag n.name ∷ [])
 
 -- a namespace object, and then its functions
 abbrev pub namespace_plans : ℕ → ℕ → SpaceTerm → List Plan
@@ -58,10 +64,10 @@ abbrev pub namespaces_from : ℕ → ℕ → List SpaceTerm → List Plan
 namespaces_from id space [] = []
 namespaces_from id space (n ∷ rest) = namespace_plans id space n ++ namespaces_from (after id n) (space + 1) rest
 
--- the numbers of their objects
-abbrev pub homes_from : ℕ → List SpaceTerm → List ℕ
+-- the numbers of their objects, and how many slots these have
+abbrev pub homes_from : ℕ → List SpaceTerm → List SpaceHome
 homes_from id [] = []
-homes_from id (n ∷ rest) = id ∷ homes_from (after id n) rest
+homes_from id (n ∷ rest) = record { object = id; slots = length n.members.attrs } ∷ homes_from (after id n) rest
 
 abbrev pub realm_plans : List SpaceTerm → List Plan
 realm_plans spaces = intrinsics ++ namespaces_from 18 0 spaces

@@ -4,7 +4,7 @@ use thiserror::Error;
 use widl_value::{Flags, ObjRef, Value};
 
 /// What a put that isn't refused did.
-#[derive(Debug, PartialEq, Eq, Drop)]
+#[derive(Drop)]
 pub enum Put {
     /// The object has the value.
     Done,

@@ -66,9 +66,16 @@ fn push_last(entries: &mut Vec<(Label, Prop)>, key: Key, prop: Prop) -> Result<(
     ensures ok { OnOk result (entries.new.items ≡ entries.old.items ++ (key, prop) ∷ []) }
     ensures err { OnErr result (entries.new.items ≡ entries.old.items) }
 {
-    let label = Label::new(*entries.allocator(), key)?;
+    let Ok(label) = Label::new(*entries.allocator(), key) else {
+        drop(prop);
+        return Err(AllocError);
+    };
     let more = if entries.is_empty() { 2 } else { 1 };
-    entries.reserve_exact(more)?;
+    let Ok(()) = entries.reserve_exact(more) else {
+        drop(label);
+        drop(prop);
+        return Err(AllocError);
+    };
     entries.push_reserved((label, prop));
     Ok(())
 }
@@ -110,10 +117,34 @@ pub(crate) fn numbered(alloc: Global, entries: &[(Label, Prop)]) -> Result<Numbe
     ensures { IfOk result (λ map. map ≡ entries.now) }
 {
     let mut map = NumberedMap::new(alloc);
-    for (label, prop) in entries {
-        map.create(label.key(alloc)?, prop.copy()?)?;
+    match add_copies(alloc, entries, &mut map) {
+        Ok(()) => Ok(map),
+        Err(error) => {
+            drop(map);
+            Err(error)
+        }
     }
-    Ok(map)
+}
+
+/// Adds copies of the properties to an empty map.
+fn add_copies(
+    alloc: Global,
+    entries: &[(Label, Prop)],
+    map: &mut NumberedMap,
+) -> Result<(), AllocError>
+    requires once { HasEachOnce entries.now }
+    requires empty { map.old ≡ [] }
+    ensures { OnOk result (map.new ≡ entries.now) }
+{
+    for (label, prop) in entries {
+        let key = label.key(alloc)?;
+        let Ok(copy) = prop.copy() else {
+            drop(key);
+            return Err(AllocError);
+        };
+        map.create(key, copy)?;
+    }
+    Ok(())
 }
 
 /// The place of the entry of the key.

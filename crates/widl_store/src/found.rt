@@ -3,7 +3,7 @@
 use widl_value::{ObjRef, Value};
 
 /// What an object or else its chain of prototypes has at a key.
-#[derive(Debug, Drop)]
+#[derive(Drop)]
 pub enum Found<'a> {
     /// A value.
     Held(&'a Value),

@@ -8,7 +8,7 @@ use widl_text::Items;
 use widl_value::{ObjRef, Shape};
 
 /// An object that stands for a definition.
-#[derive(Clone, Copy, Debug, PartialEq, Eq)]
+#[derive(Clone, Copy)]
 pub enum Home {
     /// The interface object of an interface, or the namespace object of a namespace.
     Owner(Owner),
@@ -19,7 +19,7 @@ pub enum Home {
 }
 
 /// The numbers of an interface's objects.
-#[derive(Clone, Copy, Debug, PartialEq, Eq)]
+#[derive(Clone, Copy)]
 pub struct IfaceHome {
     /// Its interface object.
     pub object: u32,
@@ -27,15 +27,26 @@ pub struct IfaceHome {
     pub prototype: u32,
     /// Its iterator prototype object, where it declares an iterable.
     pub pair_prototype: Option<u32>,
+    /// How many slots its interface object has: one for each static attribute.
+    pub slots: usize,
+}
+
+/// The number of a namespace's object.
+#[derive(Clone, Copy)]
+pub struct SpaceHome {
+    /// Its namespace object.
+    pub object: u32,
+    /// How many slots that has: one for each attribute.
+    pub slots: usize,
 }
 
 /// The numbers of the objects of all interfaces and namespaces, by the numbers of these.
-#[derive(Debug, Drop)]
+#[derive(Drop)]
 pub struct Homes {
     /// Those of interfaces.
     pub ifaces: Items<IfaceHome>,
     /// Those of namespaces.
-    pub spaces: Items<u32>,
+    pub spaces: Items<SpaceHome>,
 }
 
 impl Homes {
@@ -51,7 +62,7 @@ impl Homes {
                 self.spaces
                     .as_slice()
                     .get(space as usize)
-                    .map(|id| plain(*id))
+                    .map(|home| plain(home.object))
             }
             Home::Prototype(iface) => self.iface(iface).map(|home| plain(home.prototype)),
             Home::PairPrototype(iface) => {

@@ -6,7 +6,7 @@ ghost use Rattle.widl_overload.specs.OperationsAlone.{HasOperationsAlone};
 ghost use Rattle.widl_store.specs.Bounds.{HasRoom};
 ghost use Rattle.widl_store.specs.Effects.{new_object, with_props};
 ghost use Rattle.widl_store.specs.Intrinsics.{intrinsics};
-ghost use Rattle.widl_store.specs.Objects.{length_key, plain_object};
+ghost use Rattle.widl_store.specs.Objects.{length_key, plain_object, with_prop};
 ghost use Rattle.widl_store.specs.Plans.{object_of, with_entries};
 ghost use Rattle.widl_store.specs.Realm.{realm_of, realm_over};
 ghost use Rattle.widl_store.specs.Rows.{entry_of_cell, part_of_row, plan_of_row, shape_of_row};
@@ -45,10 +45,20 @@ fn store_over(alloc: Global, spaces: &[Space]) -> Result<Store, AllocError>
     ensures { IfOk result (λ store. store ≡ realm_over (map space_term spaces.now)) }
 {
     let lengths = length_key(alloc)?;
-    let mut objects = intrinsics(alloc, &lengths)?;
+    let Ok(mut objects) = intrinsics(alloc, &lengths) else {
+        drop(lengths);
+        return Err(AllocError);
+    };
     let mut homes = Items::new(alloc);
-    add_namespaces(alloc, &lengths, &mut objects, &mut homes, spaces)?;
-    Ok(Store::of(alloc, objects, homes, lengths))
+    match add_namespaces(alloc, &lengths, &mut objects, &mut homes, spaces) {
+        Ok(()) => Ok(Store::of(alloc, objects, homes, lengths)),
+        Err(error) => {
+            drop(objects);
+            drop(homes);
+            drop(lengths);
+            Err(error)
+        }
+    }
 }
 
 /// The objects that are there whatever the definitions are.
@@ -77,8 +87,13 @@ fn object_of(alloc: Global, lengths: &Key, row: &Row) -> Result<Object, AllocErr
     ensures { IfOk result (λ o. o ≡ object_of (plan_of_row row.now)) }
 {
     let mut object = empty_object(alloc, lengths, row.proto, row.kind)?;
-    set_cells(alloc, &mut object, row.cells)?;
-    Ok(object)
+    match set_cells(alloc, &mut object, row.cells) {
+        Ok(()) => Ok(object),
+        Err(error) => {
+            drop(object);
+            Err(error)
+        }
+    }
 }
 
 /// The object of a row, without its properties.
@@ -111,8 +126,21 @@ fn set_cells(alloc: Global, object: &mut Object, cells: &[Cell]) -> Result<(), A
     ensures { OnOk result (object.new ≡ with_props object.old (with_entries object.old.props (map entry_of_cell cells.now))) }
 {
     for cell in cells {
-        object.set(cell_key(alloc, cell)?, cell_prop(alloc, cell)?)?;
+        set_cell(alloc, object, cell)?;
     }
+    Ok(())
+}
+
+/// Defines a property of a row.
+fn set_cell(alloc: Global, object: &mut Object, cell: &Cell) -> Result<(), AllocError>
+    ensures { OnOk result (object.new ≡ with_props object.old (with_prop object.old.props (entry_of_cell cell.now).0 (entry_of_cell cell.now).1)) }
+{
+    let key = cell_key(alloc, cell)?;
+    let Ok(prop) = cell_prop(alloc, cell) else {
+        drop(key);
+        return Err(AllocError);
+    };
+    object.set(key, prop)?;
     Ok(())
 }
 

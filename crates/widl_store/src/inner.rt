@@ -70,7 +70,7 @@ pub enum PairKind {
 }
 
 /// The functions of an interface with a pair iterator (Web IDL, "Iterable declarations").
-#[derive(Clone, Copy, Debug, PartialEq, Eq)]
+#[derive(Clone, Copy)]
 pub enum PairCall {
     /// `entries`.
     Entries,
@@ -85,7 +85,7 @@ pub enum PairCall {
 }
 
 /// A function that is there before a script begins.
-#[derive(Clone, Copy, Debug, PartialEq, Eq)]
+#[derive(Clone, Copy)]
 pub enum Builtin {
     /// The function of this number, which is there whatever the definitions are.
     Intrinsic(u8),
@@ -114,7 +114,7 @@ pub enum Turn {
 }
 
 /// The state of a promise (ECMA-262, "Properties of Promise Instances").
-#[derive(Debug, PartialEq, Eq, Drop)]
+#[derive(Drop)]
 pub enum Settled {
     /// Nothing is known of it.
     Pending,

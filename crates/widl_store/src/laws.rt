@@ -1,6 +1,7 @@
 //! Laws of stores and of the first store, which take no step.
 
-ghost use Rattle.std.specs.Prelude.{◌≡◌, ◌≤◌, ◌∷◌, ℕ, Contains, List, length, map};
+ghost use Rattle.std.specs.Prelude.{◌≡◌, ◌≤◌, ◌∷◌, ℕ, Contains, List, Option, length, map, slice_get};
+ghost use Rattle.std.specs.Option.{option_map};
 ghost use Rattle.widl_idl.specs.DefinitionTerms.{DefsTerm, SigTerm, SpaceTerm};
 ghost use Rattle.widl_overload.specs.sets.Sets.{TupleTerm, effective_tuples};
 ghost use Rattle.widl_store.specs.Bounds.{AreFewObjects, AreSharesKept, AreWithinShares};
@@ -21,7 +22,7 @@ pub fn references_stay_live()
     ensures put { (objects : List Obj) (id : ℕ) (key : keys.Key) (value : values.Value) (p : references.ObjRef) → IsLive objects p → IsLive (put_in objects id key value) p }
     ensures defined { (objects : List Obj) (id : ℕ) (key : keys.Key) (prop : props.Prop) (p : references.ObjRef) → IsLive objects p → IsLive (defined objects id key prop) p }
     ensures deleted { (objects : List Obj) (id : ℕ) (key : keys.Key) (p : references.ObjRef) → IsLive objects p → IsLive (deleted objects id key) p }
-    ensures added { (objects : List Obj) (inner : InnerTerm) (shape : shapes.Shape) (proto p : references.ObjRef) → IsLive objects p → IsLive (added objects (Some proto) shape inner) p }
+    ensures added { (objects : List Obj) (inner : InnerTerm) (shape : shapes.Shape) (proto : Option references.ObjRef) (p : references.ObjRef) → IsLive objects p → IsLive (added objects proto shape inner) p }
     ensures inner { (objects : List Obj) (id : ℕ) (inner : InnerTerm) (p : references.ObjRef) → IsLive objects p → IsLive (with_inner objects id inner) p }
 {}
 
@@ -42,6 +43,12 @@ pub fn operations_have_one_function()
 /// That what stands for a definition is live in the first store.
 pub fn homes_are_live()
     ensures { (spaces : List SpaceTerm) (home : homes.Home) (obj : references.ObjRef) → home_of (realm_over spaces).homes home ≡ Some obj → IsLive (realm_over spaces).objects obj }
+{}
+
+/// That a namespace has as many slots in the first store as it has attributes. No change of a store changes
+/// that, and the object of the namespace always has them (`Store::is_sound`).
+pub fn attributes_have_slots()
+    ensures { (spaces : List SpaceTerm) (i : ℕ) → option_map (λ home. home.slots) (slice_get (realm_over spaces).homes.spaces i) ≡ option_map (λ n. length n.members.attrs) (slice_get spaces i) }
 {}
 
 /// That the first store has at most 1,000,018 objects: beside the 18 that are always there they are no more

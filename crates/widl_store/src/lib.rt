@@ -28,7 +28,7 @@ mod store;
 
 pub use effects::{DefineFault, NotConfigurable, Put, PutFault};
 pub use found::Found;
-pub use homes::{Home, Homes, IfaceHome};
+pub use homes::{Home, Homes, IfaceHome, SpaceHome};
 pub use initial_store::realm;
 pub use inner::{Builtin, Inner, PairCall, PairKind, Settled, Turn};
 pub use property::Prop;

@@ -6,10 +6,12 @@ ghost use Rattle.widl_store.specs.Bounds.{HasRoom};
 ghost use Rattle.widl_store.specs.Effects.{with_props};
 ghost use Rattle.widl_store.specs.Inners.{SpacePart};
 ghost use Rattle.widl_store.specs.Objects.{length_key};
-ghost use Rattle.widl_store.specs.Plans.{object_of, object_on, with_entries};
-ghost use Rattle.widl_store.specs.Realm.{after, functions_from, homes_from, namespace_object, namespace_plans, namespaces_from, operation_function, operations_from};
+ghost use Rattle.widl_store.specs.Plans.{object_of, object_on, tag, with_entries};
+ghost use Rattle.widl_store.specs.Realm.{after, functions_from, homes_from, namespace_object, namespace_plans, namespaces_from, operation_function, operations_from, unset_slots};
+ghost use Rattle.widl_value.specs.IdlTerms.{slot_terms};
 
 use crate::functions::{function, shortest};
+use crate::homes::SpaceHome;
 use crate::inner::{Builtin, Inner};
 use crate::object::Object;
 use crate::plans::{operation, text};
@@ -30,7 +32,7 @@ pub(crate) fn add_namespaces(
     alloc: Global,
     lengths: &Key,
     objects: &mut Vec<Object>,
-    homes: &mut Items<u32>,
+    homes: &mut Items<SpaceHome>,
     spaces: &[Space],
 ) -> Result<(), AllocError>
     requires key { lengths.now ≡ length_key }
@@ -39,7 +41,7 @@ pub(crate) fn add_namespaces(
     ensures homes { OnOk result (homes.new ≡ homes.old ++ homes_from (length objects.old.items) (map space_term spaces.now)) }
 {
     for (number, space) in spaces.iter().enumerate() {
-        homes.push(next_id(objects))?;
+        homes.push(namespace_home(objects, space))?;
         add_namespace(alloc, lengths, objects, number as u32, space)?;
     }
     Ok(())
@@ -51,6 +53,17 @@ fn next_id(objects: &Vec<Object>) -> u32
     ensures { result ≡ length objects.now.items }
 {
     objects.len() as u32
+}
+
+/// Where the object of a namespace stands, which is the next one.
+fn namespace_home(objects: &Vec<Object>, space: &Space) -> SpaceHome
+    requires { length objects.now.items < 2 ^ 32 }
+    ensures { result ≡ record { object = length objects.now.items; slots = length space.now.attrs } }
+{
+    SpaceHome {
+        object: next_id(objects),
+        slots: space.attrs.len(),
+    }
 }
 
 /// Adds the object of a namespace, and after it its functions.
@@ -83,22 +96,37 @@ fn namespace_object(
     requires room { after id (space_term space.now) < 2 ^ 32 }
     ensures { IfOk result (λ o. o ≡ object_of (namespace_object id (space_term space.now))) }
 {
-    let mut object = empty_namespace(alloc, lengths)?;
-    set_operations(&mut object, id, space.ops.as_slice())?;
-    object.set(Key::Sym(TO_STRING_TAG), text(space.name.copy()?))?;
-    Ok(object)
+    let mut object = empty_namespace(alloc, lengths, space.attrs.len())?;
+    match set_members(&mut object, id, space) {
+        Ok(()) => Ok(object),
+        Err(error) => {
+            drop(object);
+            Err(error)
+        }
+    }
 }
 
-/// The object of a namespace, without its properties.
-fn empty_namespace(alloc: Global, lengths: &Key) -> Result<Object, AllocError>
+/// Gives the object of a namespace its operations, whose functions have the numbers after this one, and its tag.
+fn set_members(object: &mut Object, id: u32, space: &Space) -> Result<(), AllocError>
+    requires { after id (space_term space.now) < 2 ^ 32 }
+    ensures { OnOk result (object.new ≡ with_props object.old (with_entries object.old.props (operations_from (id + 1) (space_term space.now).members.ops ++ tag space.now.name ∷ []))) }
+{
+    set_operations(object, id, space.ops.as_slice())?;
+    let name = space.name.copy()?;
+    object.set(Key::Sym(TO_STRING_TAG), text(name))?;
+    Ok(())
+}
+
+/// The object of a namespace with so many attributes, without its properties.
+fn empty_namespace(alloc: Global, lengths: &Key, attributes: usize) -> Result<Object, AllocError>
     requires { lengths.now ≡ length_key }
-    ensures { IfOk result (λ o. o ≡ object_of (object_on 0 (SpacePart []) [])) }
+    ensures { IfOk result (λ o. o ≡ object_of (object_on 0 (SpacePart (unset_slots attributes)) [])) }
 {
     let proto = ObjRef {
         id: 0,
         shape: Shape::Plain,
     };
-    let slots = IdlSlots::new(alloc);
+    let slots = unset_slots(alloc, attributes)?;
     let object = Object::new(
         alloc,
         lengths,
@@ -107,6 +135,17 @@ fn empty_namespace(alloc: Global, lengths: &Key) -> Result<Object, AllocError>
         Inner::Space { slots },
     )?;
     Ok(object)
+}
+
+/// So many slots, all unset.
+fn unset_slots(alloc: Global, count: usize) -> Result<IdlSlots, AllocError>
+    ensures { IfOk result (λ slots. slot_terms slots ≡ unset_slots count) }
+{
+    let mut slots = IdlSlots::new(alloc);
+    for _ in 0..count {
+        slots.push(None)?;
+    }
+    Ok(slots)
 }
 
 /// Gives the object its operations, whose functions have the numbers after this one.

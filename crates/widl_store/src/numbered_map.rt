@@ -131,7 +131,10 @@ fn insert_in(entries: &mut IndexMap<Key, Held>, key: Key, held: Held) -> Result<
     ensures unique { IsUnique same_key entries.new }
 {
     match entries.insert(key, held) {
-        Ok(_) => Ok(()),
+        Ok(former) => {
+            drop(former);
+            Ok(())
+        }
         Err(_) => Err(AllocError),
     }
 }

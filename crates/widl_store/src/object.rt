@@ -8,7 +8,7 @@ ghost use Rattle.widl_store.specs.Created.{prop_of};
 ghost use Rattle.widl_store.specs.Effects.{is_above, is_fixed_in, new_object, placed, raised, with_part, with_props};
 ghost use Rattle.widl_store.specs.Inners.{inner_term, is_array, kind_of};
 ghost use Rattle.widl_store.specs.Objects.{length_flags, length_key, length_prop, prop_at, same_key, with_prop, without_prop};
-ghost use Rattle.widl_store.specs.Sound.{SoundAt};
+ghost use Rattle.widl_store.specs.Sound.{KeepsKind, SoundAt};
 ghost use Rattle.widl_text.specs.Index.{index_of};
 
 use crate::inner::Inner;
@@ -65,7 +65,10 @@ impl Object {
         requires { lengths.now ≡ length_key }
         ensures { IfOk result (λ o. o ≡ new_object proto shape (inner_term inner)) }
     {
-        let props = first_props(alloc, lengths, is_array(&inner))?;
+        let Ok(props) = first_props(alloc, lengths, is_array(&inner)) else {
+            drop(inner);
+            return Err(AllocError);
+        };
         Ok(Object {
             proto,
             shape,
@@ -127,6 +130,7 @@ impl Object {
         ensures err { OnErr result (self.new ≡ self.old) }
         ensures absent { OnErr result (prop_at self.old.props key ≡ None) }
         ensures sound { (id : ℕ) → SoundAt id self.old → SoundAt id self.new }
+        ensures kind { KeepsKind self.old self.new }
     {
         match self.place(lengths, key, prop) {
             Ok(()) => Ok(()),
@@ -162,6 +166,7 @@ impl Object {
         requires { is_fixed_in self.old key.now ≡ false }
         ensures done { self.new ≡ with_props self.old (without_prop self.old.props key.now) }
         ensures sound { (id : ℕ) → SoundAt id self.old → SoundAt id self.new }
+        ensures kind { KeepsKind self.old self.new }
     {
         self.take(key);
     }
@@ -172,13 +177,14 @@ impl Object {
         self.props.delete(key);
     }
 
-    /// Replaces the inner part by one of the same kind; the answer is the old one.
+    /// Replaces the inner part by one of the same kind, with as many slots; the answer is the old one.
     #[tactic(auto, using(crate::proofs::SoundObjects::inner_at))]
     pub(crate) fn set_inner(&mut self, inner: Inner) -> Inner
         requires { kind_of self.old.inner ≡ kind_of (inner_term inner) }
         ensures done { self.new ≡ with_part self.old (inner_term inner) }
         ensures former { inner_term result ≡ self.old.inner }
         ensures sound { (id : ℕ) → SoundAt id self.old → SoundAt id self.new }
+        ensures kind { KeepsKind self.old self.new }
     {
         self.exchange(inner)
     }

@@ -7,7 +7,7 @@ use std::alloc::AllocError;
 use widl_value::{Flags, ObjRef, Value};
 
 /// A property of an object (ECMA-262, "Property Attributes").
-#[derive(Debug, PartialEq, Eq, Drop)]
+#[derive(Drop)]
 pub enum Prop {
     /// A data property.
     Plain {

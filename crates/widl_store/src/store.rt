@@ -9,12 +9,13 @@ ghost use Rattle.widl_store.specs.Inners.{has_shape, inner_term, kind_of};
 ghost use Rattle.widl_store.specs.Meeting.{answer_of};
 ghost use Rattle.widl_store.specs.Objects.{IsLive, home_of, length_key, own_at, same_key, with_objects};
 ghost use Rattle.widl_store.specs.OwnKeys.{OwnKeys, keys_at};
-ghost use Rattle.widl_store.specs.Sound.{Sound, SoundAt};
+ghost use Rattle.widl_store.specs.declared.homes.Homes.{Homes as Places};
+ghost use Rattle.widl_store.specs.Sound.{Sound, SoundAt, SoundHomes};
 ghost use Rattle.widl_value.specs.declared.value.Value as ValueType;
 
 use crate::effects::{DefineFault, NotConfigurable, Put, PutFault};
 use crate::found::Found;
-use crate::homes::{Home, Homes};
+use crate::homes::{Home, Homes, SpaceHome};
 use crate::inner::Inner;
 use crate::meets::Meets;
 use crate::object::{LENGTH_FLAGS, Object};
@@ -56,13 +57,19 @@ impl Model for Store {
 
     ghost view = { λ s. record { objects = s.objects.items; homes = s.homes } };
 
-    ghost invariant = { λ s. SoundStore s.objects.items s.lengths };
+    ghost invariant = { λ s. SoundStore s.objects.items s.homes s.lengths };
 }
 
 impl Store {
     /// The store of these objects and of the namespaces' numbers, without interfaces.
-    pub(crate) fn of(alloc: Global, objects: Vec<Object>, spaces: Items<u32>, lengths: Key) -> Store
+    pub(crate) fn of(
+        alloc: Global,
+        objects: Vec<Object>,
+        spaces: Items<SpaceHome>,
+        lengths: Key,
+    ) -> Store
         requires sound { Sound objects.items }
+        requires homes { SoundHomes objects.items (record { ifaces = []; spaces = spaces }) }
         requires lengths { lengths ≡ length_key }
         ensures { result ≡ record { objects = objects.items; homes = record { ifaces = []; spaces = spaces } } }
     {
@@ -239,7 +246,7 @@ impl Store {
         object_at(&self.objects, obj.id as usize).inner()
     }
 
-    /// Replaces the inner part by one of the same kind; the answer is the old one.
+    /// Replaces the inner part by one of the same kind, with as many slots; the answer is the old one.
     pub fn set_inner(&mut self, obj: ObjRef, inner: Inner) -> Inner
         requires live { IsLive self.old.objects obj }
         requires kind { option_map (λ o. kind_of o.inner) (slice_get self.old.objects obj.id) ≡ Some (kind_of (inner_term inner)) }
@@ -259,7 +266,8 @@ impl Store {
 
     /// That what holds of every store holds of this one: a law, which takes no step.
     pub fn is_sound(&self)
-        ensures { Sound self.now.objects }
+        ensures objects { Sound self.now.objects }
+        ensures homes { SoundHomes self.now.objects self.now.homes }
     {
         let _objects = &self.objects;
     }
@@ -363,6 +371,7 @@ fn put_at(
     ensures kept { OnErr result (objects.new.items ≡ objects.old.items) }
     ensures absent { OnErr result (own_at objects.old.items at key ≡ None) }
     ensures sound { Sound objects.old.items → Sound objects.new.items }
+    ensures homes { (places : Places) → SoundHomes objects.old.items places → SoundHomes objects.new.items places }
 {
     objects[at].put(lengths, key, prop)
 }
@@ -373,6 +382,7 @@ fn remove_at(objects: &mut Vec<Object>, at: usize, key: &Key)
     requires free { is_fixed objects.old.items at key.now ≡ false }
     ensures done { objects.new.items ≡ deleted objects.old.items at key.now }
     ensures sound { Sound objects.old.items → Sound objects.new.items }
+    ensures homes { (places : Places) → SoundHomes objects.old.items places → SoundHomes objects.new.items places }
 {
     objects[at].remove(key);
 }
@@ -381,6 +391,7 @@ fn push(objects: &mut Vec<Object>, object: Object) -> Result<(), AllocError>
     ensures ok { OnOk result (objects.new.items ≡ objects.old.items ++ object ∷ []) }
     ensures err { OnErr result (objects.new.items ≡ objects.old.items) }
     ensures sound { Sound objects.old.items → SoundAt (length objects.old.items) object → Sound objects.new.items }
+    ensures homes { (places : Places) → SoundHomes objects.old.items places → SoundHomes objects.new.items places }
 {
     objects.push(object)?;
     Ok(())
@@ -392,6 +403,7 @@ fn replace_inner(objects: &mut Vec<Object>, at: usize, inner: Inner) -> Inner
     ensures done { objects.new.items ≡ with_inner objects.old.items at (inner_term inner) }
     ensures former { option_map (λ o. o.inner) (slice_get objects.old.items at) ≡ Some (inner_term result) }
     ensures sound { Sound objects.old.items → Sound objects.new.items }
+    ensures homes { (places : Places) → SoundHomes objects.old.items places → SoundHomes objects.new.items places }
 {
     objects[at].set_inner(inner)
 }

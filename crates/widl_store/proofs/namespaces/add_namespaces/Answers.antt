@@ -5,8 +5,8 @@ use Rattle.widl_store.proofs.FirstObjects.{few_spaces, room_next}
 use Rattle.widl_store.proofs.RealmSteps.{objects_step, homes_step}
 use Rattle.widl_store.proofs.namespaces.add_namespaces.Goals as goal
 
-pub next_id-requires : goal.next_id-requires
-next_id-requires c =
+pub namespace_home-requires : goal.namespace_home-requires
+namespace_home-requires c =
     let room : after (length c.loop-number.objects.items) (space_term c.index-spaces-number.result) < 2 ^ 32 =
     room_next c.args.objects.now.items c.loop-number.objects.items c.args.spaces.now c.loop-number.number c.index-spaces-number.result c.requires.room c.loop-number-test.true c.index-spaces-number.is c.loop-number.invariant.0 in
     omega (arith, room)
@@ -23,5 +23,5 @@ add_namespace-requires-clause-room c =
 pub loop-number-preserved : goal.loop-number-preserved
 loop-number-preserved c = (
   objects_step c.loop-number.objects.items c.add_namespace.new.objects.items c.args.spaces.now c.loop-number.number c.loop-number.number c.index-spaces-number.result c.loop-number-test.true c.index-spaces-number.is refl c.in_ok-add_namespace.ensures ∙ c.loop-number.invariant.0,
-  homes_step c.loop-number.objects.items c.add_namespace.new.objects.items c.loop-number.homes c.push.new.self c.args.spaces.now c.loop-number.number c.loop-number.number c.next_id.result c.index-spaces-number.result c.loop-number-test.true c.index-spaces-number.is c.next_id.ensures c.in_ok-push.ensures.ok c.in_ok-add_namespace.ensures ∙ c.loop-number.invariant.1,
+  homes_step c.loop-number.objects.items c.add_namespace.new.objects.items c.loop-number.homes c.push.new.self c.args.spaces.now c.loop-number.number c.loop-number.number c.namespace_home.result c.index-spaces-number.result c.loop-number-test.true c.index-spaces-number.is c.namespace_home.ensures c.in_ok-push.ensures.ok c.in_ok-add_namespace.ensures ∙ c.loop-number.invariant.1,
 )
