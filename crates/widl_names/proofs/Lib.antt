@@ -16,3 +16,4 @@ pub mod TypedefLinks
 pub mod ParentGraphs
 pub mod KnownTexts
 pub mod MappedLoops
+pub mod Extents

@@ -17,7 +17,9 @@ use Rattle.widl_idl.specs.Resolution.{Note, WrittenType, nullable_of, resolved, 
 use Rattle.widl_idl.specs.Terms.{TypeTerm, NullableType, RecordType, more_types, packed}
 use Rattle.widl_idl.specs.WrittenTypes.{named_type, nullable_if, type_of_meaning, typedef_in_tree, typedefs, written_form, written_members, written_type}
 use Rattle.widl_names.specs.declared.annotations.Annotations.{Annotations}
+use Rattle.widl_names.specs.declared.extent.Extent.{Extent}
 use Rattle.widl_names.specs.declared.resolver.Use.{Use}
+use Rattle.widl_names.specs.Extents.{made}
 use Rattle.widl_names.specs.SaidNotes.{Says}
 use Rattle.widl_names.specs.TypeUses.{Leads, MeansWritten, capped, container_meaning, form_in, form_meaning, is_followed, meaning_at, meaning_of_form, meaning_of_use, notes_from, notes_in, notes_of_typedef, own_meaning, question_count, questioned, type_in, typedef_of_form, typedef_type, without_parts}
 use Rattle.widl_names.proofs.KindNumbers.{typedef_numbered}
@@ -67,6 +69,10 @@ means_written u t at question is count = record {
 -- what a use of a type means is what the type as it is written does
 pub use_means : (definitions : List PlainDefinition) (u : Use) (t : PlainType) (annotations : Annotations) (levels : ℕ) → MeansWritten u t → u.annotations ≡ annotations → u.typedefs ≡ levels → (x : TypeTerm) → ((notes : List Note) → Says u.annotations notes → x ≡ meaning_of_use definitions notes u) → (notes : List Note) → Says annotations notes → x ≡ meaning_at definitions levels notes t
 use_means definitions u t annotations levels written same count x so notes said = so notes (subst (λ a. Says a notes) (sym same) said) ∙ written.same definitions notes ∙ ap (λ l. meaning_at definitions l notes t) count
+
+-- the same of what is made of it
+pub use_made : (definitions : List PlainDefinition) (extent : Extent) (u : Use) (t : PlainType) (annotations : Annotations) (levels : ℕ) → MeansWritten u t → u.annotations ≡ annotations → u.typedefs ≡ levels → (x : TypeTerm) → ((notes : List Note) → Says u.annotations notes → x ≡ made extent (meaning_of_use definitions notes u)) → (notes : List Note) → Says annotations notes → x ≡ made extent (meaning_at definitions levels notes t)
+use_made definitions extent u t annotations levels written same count x so notes said = so notes (subst (λ a. Says a notes) (sym same) said) ∙ ap (made extent) (written.same definitions notes ∙ ap (λ l. meaning_at definitions l notes t) count)
 
 pub leads_here : (definitions : List PlainDefinition) (u : Use) → Leads definitions u u
 leads_here definitions u = record { same = λ notes. (notes, λ s. s, refl, refl) }

@@ -7,3 +7,4 @@ pub mod TypeUses
 pub mod TypedefEnds
 pub mod TypedefLinks
 pub mod KnownTexts
+pub mod Extents

@@ -8,6 +8,7 @@
 
 mod annotations;
 mod definitions;
+mod extent;
 mod kind_numbers;
 mod listings;
 mod meanings;
@@ -23,6 +24,7 @@ mod resolver;
 mod scope;
 mod typedef_ends;
 mod typedef_links;
+mod typedef_sizes;
 mod written_values;
 
 pub use annotations::Annotations;

@@ -14,17 +14,21 @@ ghost use Rattle.widl_idl.specs.PlainTrees.{plain_definitions};
 ghost use Rattle.widl_idl.specs.PlainTypes.{annotated_of, attribute_of, form_term, type_of, union_of};
 ghost use Rattle.widl_idl.specs.Resolution.{Note, is_nullable, is_nullable_twice, nullable_of, resolved_members, typedef_in};
 ghost use Rattle.widl_idl.specs.Terms.{packed, type_term, type_terms};
-ghost use Rattle.widl_idl.specs.WrittenTypes.{meaning_alone, meaning_of_type, meaning_with, type_of_kind, type_of_meaning, typedefs, written_members};
+ghost use Rattle.widl_idl.specs.WrittenTypes.{meaning_alone, meaning_of_annotated, meaning_of_type, meaning_with, type_of_kind, type_of_meaning, typedefs, written_members};
+ghost use Rattle.widl_names.specs.Extents.{made, made_inside, made_members, outline};
 ghost use Rattle.widl_names.specs.SaidNotes.{Says};
 ghost use Rattle.widl_names.specs.TypedefEnds.{GoesTo, IsNext};
 ghost use Rattle.widl_names.specs.TypeUses.{After, IsKnown, IsLast, Leads, MeansWritten, container_meaning, form_in, form_meaning, meaning_at, meaning_of_use, numbered_kind, own_meaning, questioned, typedef_at, typedef_notes, without_parts};
 
 use crate::annotations::Annotations;
+use crate::extent::Extent;
 use crate::kind_numbers::{KindNumbers, number_kinds};
 use crate::meanings::{Meanings, kind_at};
+use crate::most_types::MOST_TYPES;
 use crate::names::kind_of;
 use crate::typedef_ends::{ChainEnd, count_question, kept_end, more_questions, typedef_ends};
-use crate::typedef_links::{meaning_of_form, typedef_at};
+use crate::typedef_links::{meaning_of_form, typedef_at, typedef_order};
+use crate::typedef_sizes::TypedefSizes;
 use std::alloc::{AllocError, Global};
 use std::marker::Model;
 use widl_idl::tree::{AnnotatedType, Container, ExtendedAttribute, TypeForm, WrittenType};
@@ -37,6 +41,7 @@ pub struct Resolver<'d, 'a> {
     kinds: KindNumbers,
     /// For each definition the end of its chain, if it is a typedef.
     ends: Vec<Option<ChainEnd<'a>>>,
+    sizes: TypedefSizes,
 }
 
 impl<'d, 'a> Model for Resolver<'d, 'a> {
@@ -119,11 +124,14 @@ impl<'d, 'a> Resolver<'d, 'a> {
         ensures { IfOk result (λ resolver. resolver ≡ meanings.entry) }
     {
         let kinds = number_kinds(alloc, meanings.all())?;
-        let ends = typedef_ends(alloc, &meanings)?;
+        let order = typedef_order(alloc, &meanings)?;
+        let ends = typedef_ends(alloc, &meanings, &order)?;
+        let sizes = TypedefSizes::of(alloc, &meanings, &order)?;
         Ok(Resolver {
             meanings,
             kinds,
             ends,
+            sizes,
         })
     }
 
@@ -134,14 +142,51 @@ impl<'d, 'a> Resolver<'d, 'a> {
         &self.meanings
     }
 
-    /// What a type means after these annotations (Web IDL, "Typedefs" and "Annotated types").
+    /// What a type means after these annotations (Web IDL, "Typedefs" and "Annotated types"), made so
+    /// far.
     ///
-    /// Typedefs of typedefs may make types that grow far faster than their source. So `room` counts down
-    /// with each type that stands in the type of a typedef.
+    /// Typedefs of typedefs may mean types that grow far faster than their source. So `room` counts down
+    /// by the types that stand in the type of a typedef, before one of them is made.
     ///
     /// # Errors
     ///
-    /// `AllocError` where there is no memory, also where typedefs make more types than `room` has.
+    /// `AllocError` where there is no memory, also where typedefs mean more types than `room` has.
+    fn make(
+        &self,
+        alloc: Global,
+        extent: Extent,
+        room: &mut usize,
+        annotations: Annotations,
+        ty: &'a WrittenType,
+    ) -> Result<IdlType, AllocError>
+        ensures { IfOk result (λ t. (notes : List Note) → Says annotations notes → type_term t ≡ made extent (meaning_of_type (plain_definitions self.now) notes (type_of ty.now))) }
+    {
+        let start = Use::of(ty, annotations, self.kinds.counts.count(Kind::Typedef));
+        self.use_type(alloc, extent, room, &start)
+    }
+
+    /// What a type means after these annotations, as far as the rules on types look into it.
+    ///
+    /// # Errors
+    ///
+    /// Those of [`Resolver::resolve`] for at most [`MOST_TYPES`].
+    pub fn outline(
+        &self,
+        alloc: Global,
+        annotations: Annotations,
+        ty: &'a WrittenType,
+    ) -> Result<IdlType, AllocError>
+        ensures { IfOk result (λ t. (notes : List Note) → Says annotations notes → type_term t ≡ outline (meaning_of_type (plain_definitions self.now) notes (type_of ty.now))) }
+    {
+        let mut room = MOST_TYPES;
+        self.make(alloc, Extent::Outline, &mut room, annotations, ty)
+    }
+
+    /// What a type means after these annotations (Web IDL, "Typedefs" and "Annotated types").
+    ///
+    /// # Errors
+    ///
+    /// Those of [`Resolver::make`].
     pub fn resolve(
         &self,
         alloc: Global,
@@ -151,8 +196,7 @@ impl<'d, 'a> Resolver<'d, 'a> {
     ) -> Result<IdlType, AllocError>
         ensures { IfOk result (λ t. (notes : List Note) → Says annotations notes → type_term t ≡ meaning_of_type (plain_definitions self.now) notes (type_of ty.now)) }
     {
-        let start = Use::of(ty, annotations, self.kinds.counts.count(Kind::Typedef));
-        self.use_type(alloc, room, &start)
+        self.make(alloc, Extent::Whole, room, annotations, ty)
     }
 
     /// What a type without annotations means, as that of a result or a constant.
@@ -189,6 +233,32 @@ impl<'d, 'a> Resolver<'d, 'a> {
         let before = Annotations::of(attributes);
         let own = Annotations::of(ty.attributes.as_slice());
         self.resolve(alloc, room, before.followed_by(own), &ty.ty)
+    }
+
+    /// The outline of a type without annotations, as that of a result or a constant.
+    ///
+    /// # Errors
+    ///
+    /// Those of [`Resolver::outline`].
+    pub fn outline_alone(&self, alloc: Global, ty: &'a WrittenType) -> Result<IdlType, AllocError>
+        ensures { IfOk result (λ t. type_term t ≡ outline (meaning_alone (plain_definitions self.now) (type_of ty.now))) }
+    {
+        self.outline(alloc, Annotations::none(), ty)
+    }
+
+    /// The outline of a type after its own annotations alone.
+    ///
+    /// # Errors
+    ///
+    /// Those of [`Resolver::outline`].
+    pub fn outline_annotated(
+        &self,
+        alloc: Global,
+        ty: &'a AnnotatedType,
+    ) -> Result<IdlType, AllocError>
+        ensures { IfOk result (λ t. type_term t ≡ outline (meaning_of_annotated (plain_definitions self.now) [] (annotated_of ty.now))) }
+    {
+        self.outline(alloc, Annotations::of(ty.attributes.as_slice()), &ty.ty)
     }
 
     /// What the annotations of a type say: these, and then those of the typedefs that it leads to.
@@ -332,28 +402,38 @@ impl<'d, 'a> Resolver<'d, 'a> {
     fn use_type(
         &self,
         alloc: Global,
+        extent: Extent,
         room: &mut usize,
         start: &Use<'a>,
     ) -> Result<IdlType, AllocError>
-        ensures { IfOk result (λ t. (notes : List Note) → Says start.now.annotations notes → type_term t ≡ meaning_of_use (plain_definitions self.now) notes start.now) }
+        ensures { IfOk result (λ t. (notes : List Note) → Says start.now.annotations notes → type_term t ≡ made extent (meaning_of_use (plain_definitions self.now) notes start.now)) }
     {
         let last = self.follow(start);
-        self.count(room, &last.usage)?;
-        let inner = self.form_type(alloc, room, &last)?;
+        self.count_followed(extent, room, start, &last.usage)?;
+        let inner = self.form_type(alloc, extent, room, &last)?;
         with_questions(alloc, inner, last.usage.questions)
     }
 
-    /// Counts down by the types that a use is with its `?`s, if typedefs led to it.
-    fn count(&self, room: &mut usize, usage: &Use<'_>) -> Result<(), AllocError> {
-        if usage.typedefs == self.kinds.counts.count(Kind::Typedef) {
+    /// Counts down by the types that stand in the type of a typedef, if such a use leads there. What is used
+    /// inside the type of a typedef is counted with it.
+    fn count_followed(
+        &self,
+        extent: Extent,
+        room: &mut usize,
+        start: &Use<'_>,
+        last: &Use<'_>,
+    ) -> Result<(), AllocError> {
+        if self.is_inside(start) || !self.is_inside(last) {
             return Ok(());
         }
-        let count = usage.questions.saturating_add(1);
-        if *room < count {
-            return Err(AllocError);
-        }
-        *room -= count;
+        let size = self.sizes.of_form(&self.meanings, start.form);
+        *room = room.checked_sub(size.total(extent)).ok_or(AllocError)?;
         Ok(())
+    }
+
+    /// Whether a use of a type stands in the type of a typedef.
+    fn is_inside(&self, usage: &Use<'_>) -> bool {
+        usage.typedefs < self.kinds.counts.count(Kind::Typedef)
     }
 
     /// The same of a use of a type that is no typedef's name, without its `?`s.
@@ -361,12 +441,13 @@ impl<'d, 'a> Resolver<'d, 'a> {
     fn form_type(
         &self,
         alloc: Global,
+        extent: Extent,
         room: &mut usize,
         last: &KnownUse<'a>,
     ) -> Result<IdlType, AllocError>
         requires last { IsLast (plain_definitions self.now) last.now.usage }
         requires known { IsKnown (plain_definitions self.now) last.now }
-        ensures { IfOk result (λ t. (notes : List Note) → Says last.now.usage.annotations notes → type_term t ≡ form_meaning (plain_definitions self.now) last.now.usage.typedefs notes (form_term last.now.usage.form.now)) }
+        ensures { IfOk result (λ t. (notes : List Note) → Says last.now.usage.annotations notes → type_term t ≡ made extent (form_meaning (plain_definitions self.now) last.now.usage.typedefs notes (form_term last.now.usage.form.now))) }
     {
         let left = last.usage.typedefs;
         match last.usage.form {
@@ -377,18 +458,18 @@ impl<'d, 'a> Resolver<'d, 'a> {
             TypeForm::Text(kind) => Ok(last.usage.annotations.text(*kind)),
             TypeForm::Named(_) => Ok(self.meant_type(last.meaning)),
             TypeForm::Container(container, inner) => {
-                self.container_type(alloc, room, left, *container, inner)
+                self.container_type(alloc, extent, room, left, *container, inner)
             }
             TypeForm::Record(key, inner) => {
-                let value = self.boxed_type(alloc, room, left, inner)?;
+                let value = self.boxed_type(alloc, extent, room, left, inner)?;
                 Ok(IdlType::Rec(*key, value))
             }
             TypeForm::Promise(inner) => {
-                let value = self.promised_type(alloc, room, left, inner)?;
+                let value = self.promised_type(alloc, extent, room, left, inner)?;
                 Ok(IdlType::Promise(value))
             }
             TypeForm::Union(members) => {
-                let types = self.member_types(alloc, room, left, members.as_slice())?;
+                let types = self.member_types(alloc, extent, room, left, members.as_slice())?;
                 Ok(IdlType::Union(types))
             }
             _ => Ok(IdlType::Any),
@@ -400,16 +481,17 @@ impl<'d, 'a> Resolver<'d, 'a> {
     fn container_type(
         &self,
         alloc: Global,
+        extent: Extent,
         room: &mut usize,
         left: u32,
         container: Container,
         inner: &'a AnnotatedType,
     ) -> Result<IdlType, AllocError>
-        ensures { IfOk result (λ t. type_term t ≡ container_meaning (plain_definitions self.now) left container (annotated_of inner.now)) }
+        ensures { IfOk result (λ t. type_term t ≡ made extent (container_meaning (plain_definitions self.now) left container (annotated_of inner.now))) }
     {
         match container {
             Container::Sequence => {
-                let element = self.boxed_type(alloc, room, left, inner)?;
+                let element = self.boxed_type(alloc, extent, room, left, inner)?;
                 Ok(IdlType::Seq(element))
             }
             Container::AsyncSequence | Container::FrozenArray | Container::ObservableArray => {
@@ -423,15 +505,21 @@ impl<'d, 'a> Resolver<'d, 'a> {
     fn promised_type(
         &self,
         alloc: Global,
+        extent: Extent,
         room: &mut usize,
         left: u32,
         ty: &'a WrittenType,
     ) -> Result<Box<IdlType>, AllocError>
-        ensures { IfOk result (λ t. type_term t.value ≡ meaning_at (plain_definitions self.now) left [] (type_of ty.now)) }
+        ensures { IfOk result (λ t. type_term t.value ≡ made_inside extent (meaning_at (plain_definitions self.now) left [] (type_of ty.now))) }
     {
-        let start = Use::of(ty, Annotations::none(), left);
-        let value = self.use_type(alloc, room, &start)?;
-        Ok(Box::new(alloc, value)?)
+        match extent {
+            Extent::Whole => {
+                let start = Use::of(ty, Annotations::none(), left);
+                let value = self.use_type(alloc, Extent::Whole, room, &start)?;
+                Ok(Box::new(alloc, value)?)
+            }
+            Extent::Outline => Ok(Box::new(alloc, IdlType::Any)?),
+        }
     }
 
     /// What a type means after its own annotations alone.
@@ -439,14 +527,15 @@ impl<'d, 'a> Resolver<'d, 'a> {
     fn annotated_type(
         &self,
         alloc: Global,
+        extent: Extent,
         room: &mut usize,
         left: u32,
         ty: &'a AnnotatedType,
     ) -> Result<IdlType, AllocError>
-        ensures { IfOk result (λ t. type_term t ≡ own_meaning (plain_definitions self.now) left (annotated_of ty.now)) }
+        ensures { IfOk result (λ t. type_term t ≡ made extent (own_meaning (plain_definitions self.now) left (annotated_of ty.now))) }
     {
         let start = Use::of(&ty.ty, Annotations::of(ty.attributes.as_slice()), left);
-        self.use_type(alloc, room, &start)
+        self.use_type(alloc, extent, room, &start)
     }
 
     /// The same in memory of its own.
@@ -454,14 +543,39 @@ impl<'d, 'a> Resolver<'d, 'a> {
     fn boxed_type(
         &self,
         alloc: Global,
+        extent: Extent,
         room: &mut usize,
         left: u32,
         ty: &'a AnnotatedType,
     ) -> Result<Box<IdlType>, AllocError>
-        ensures { IfOk result (λ t. type_term t.value ≡ own_meaning (plain_definitions self.now) left (annotated_of ty.now)) }
+        ensures { IfOk result (λ t. type_term t.value ≡ made_inside extent (own_meaning (plain_definitions self.now) left (annotated_of ty.now))) }
     {
-        let value = self.annotated_type(alloc, room, left, ty)?;
-        Ok(Box::new(alloc, value)?)
+        match extent {
+            Extent::Whole => {
+                let value = self.annotated_type(alloc, Extent::Whole, room, left, ty)?;
+                Ok(Box::new(alloc, value)?)
+            }
+            Extent::Outline => Ok(Box::new(alloc, IdlType::Any)?),
+        }
+    }
+
+    /// Checks that there is room for all members of a union that stands in no typedef's type, before the first of
+    /// them is made.
+    fn check_members(
+        &self,
+        extent: Extent,
+        room: &usize,
+        left: u32,
+        members: &[AnnotatedType],
+    ) -> Result<(), AllocError> {
+        if left < self.kinds.counts.count(Kind::Typedef) {
+            return Ok(());
+        }
+        let size = self.sizes.of_members(&self.meanings, members);
+        if *room < size.total(extent) {
+            return Err(AllocError);
+        }
+        Ok(())
     }
 
     /// What the members of a union mean.
@@ -469,15 +583,17 @@ impl<'d, 'a> Resolver<'d, 'a> {
     fn member_types(
         &self,
         alloc: Global,
+        extent: Extent,
         room: &mut usize,
         left: u32,
         members: &'a [AnnotatedType],
     ) -> Result<IdlTypes, AllocError>
-        ensures { IfOk result (λ types. packed (type_terms types) ≡ resolved_members (typedef_in (typedefs (plain_definitions self.now)) left) (written_members (plain_definitions self.now) (union_of members.now))) }
+        ensures { IfOk result (λ types. packed (type_terms types) ≡ made_members extent (resolved_members (typedef_in (typedefs (plain_definitions self.now)) left) (written_members (plain_definitions self.now) (union_of members.now)))) }
     {
+        self.check_members(extent, room, left, members)?;
         let mut types = IdlTypes::new(alloc);
         for member in members {
-            let ty = self.annotated_type(alloc, room, left, member)?;
+            let ty = self.annotated_type(alloc, extent, room, left, member)?;
             types.push(ty)?;
         }
         Ok(types)

@@ -13,7 +13,7 @@ ghost use Rattle.widl_names.specs.TypeUses.{capped, question_count, typedef_at, 
 
 use crate::annotations::Annotations;
 use crate::meanings::Meanings;
-use crate::typedef_links::{number_named, typedef_at, typedef_order};
+use crate::typedef_links::{number_named, typedef_at};
 use std::alloc::{AllocError, Global};
 use widl_idl::tree::{AnnotatedType, TypeForm};
 use widl_text::Place;
@@ -71,7 +71,7 @@ impl<'a> ChainEnd<'a> {
     }
 }
 
-/// For each definition the end of its chain, if it is a typedef.
+/// For each definition the end of its chain, if it is a typedef, where typedefs are taken in this order.
 ///
 /// # Errors
 ///
@@ -79,12 +79,12 @@ impl<'a> ChainEnd<'a> {
 pub fn typedef_ends<'a>(
     alloc: Global,
     meanings: &Meanings<'_, 'a>,
+    order: &[usize],
 ) -> Result<Vec<Option<ChainEnd<'a>>>, AllocError>
     ensures { IfOk result (λ ends. AreEnds (plain_definitions meanings.now) ends.items) }
 {
-    let order = typedef_order(alloc, meanings)?;
     let mut ends = vec![in alloc; None; meanings.all().len()]?;
-    for number in order.iter() {
+    for number in order {
         let end = end_of(meanings, ends.as_slice(), *number);
         keep_end(&mut ends, *number, end);
     }

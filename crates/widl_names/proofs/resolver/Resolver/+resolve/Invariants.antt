@@ -2,6 +2,7 @@ use Rattle.std.proofs.Common.{◌≡◌, ◌+◌, ◌*◌, [], map, take}
 use Rattle.widl_idl.specs.PlainTrees.{plain_definitions}
 use Rattle.widl_idl.specs.PlainTypes.{annotated_of, form_term, type_of}
 use Rattle.widl_idl.specs.Terms.{packed, type_terms}
+use Rattle.widl_names.specs.Extents.{made}
 use Rattle.widl_names.specs.TypeUses.{container_meaning, form_meaning, meaning_at, meaning_of_use, own_meaning}
 use Rattle.widl_names.proofs.Heights.{height, heights}
 use Rattle.widl_names.proofs.resolver.Resolver.+resolve.Given as goal
@@ -28,4 +29,4 @@ abbrev pub decreases-annotated_type : goal.decreases-annotated_type
 decreases-annotated_type l = 8 * height (own_meaning (plain_definitions l.self.now) l.left (annotated_of l.ty.now)) + 4
 
 abbrev pub invariant-member_types-loop-member : goal.invariant-member_types-loop-member
-invariant-member_types-loop-member l = type_terms l.types ≡ map (λ m. own_meaning (plain_definitions l.self) l.left (annotated_of m)) (take l.member-index l.members)
+invariant-member_types-loop-member l = type_terms l.types ≡ map (λ m. made l.extent (own_meaning (plain_definitions l.self) l.left (annotated_of m))) (take l.member-index l.members)
