@@ -144,12 +144,25 @@ impl Store {
         ensures kept { result ≢ Ok Put.Done → self.new ≡ self.old }
     {
         if self.is_fixed(obj, &key) {
+            drop(key);
+            drop(value);
             return Err(PutFault::Length);
         }
         match self.meets(obj.id, &key) {
-            Meets::ReadOnly(flags) => Err(PutFault::ReadOnly(flags)),
-            Meets::NoSetter => Err(PutFault::NoSetter),
-            Meets::Setter(setter) => Ok(Put::Setter(setter, value)),
+            Meets::ReadOnly(flags) => {
+                drop(key);
+                drop(value);
+                Err(PutFault::ReadOnly(flags))
+            }
+            Meets::NoSetter => {
+                drop(key);
+                drop(value);
+                Err(PutFault::NoSetter)
+            }
+            Meets::Setter(setter) => {
+                drop(key);
+                Ok(Put::Setter(setter, value))
+            }
             Meets::Way => {
                 let flags = self.own(obj, &key).unwrap_or(ALL_FLAGS);
                 let prop = Prop::Plain { value, flags };
@@ -177,10 +190,16 @@ impl Store {
         ensures kept { OnErr result (self.new ≡ self.old) }
     {
         if self.is_fixed(obj, &key) {
+            drop(key);
+            drop(prop);
             return Err(DefineFault::Length);
         }
         match self.own(obj, &key) {
-            Some(flags) if !flags.configurable => Err(DefineFault::NotConfigurable(flags)),
+            Some(flags) if !flags.configurable => {
+                drop(key);
+                drop(prop);
+                Err(DefineFault::NotConfigurable(flags))
+            }
             _ => match self.put_own(obj, key, prop) {
                 Ok(()) => Ok(()),
                 Err(_) => Err(DefineFault::Memory),
