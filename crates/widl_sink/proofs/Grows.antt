@@ -43,12 +43,6 @@ sent_more all done rest n e = e ∙ ap (λ l. done ++ l) (sym (take-append-drop 
 pub grown_more : (a b c : Option (List ℕ)) (done more : List ℕ) → b ≡ append_known a done → c ≡ append_known b more → c ≡ append_known a (done ++ more)
 grown_more a b c done more p q = q ∙ ap (λ o. append_known o more) p ∙ append_known-append a done more
 
--- the same, where it holds only at an error
-pub prefix_after_err : {T F : Type 0} (r : Result T F) (a b c : Option (List ℕ)) (first others : List ℕ)
-    → b ≡ append_known a first → OnErr r (GrewByPrefix b c others) → OnErr r (GrewByPrefix a c (first ++ others))
-prefix_after_err (Ok x) a b c first others grown p = tt
-prefix_after_err (Err e) a b c first others grown p = prefix_after a b c first others grown p
-
 pub on_err : {T F : Type 0} (r : Result T F) (P : Type 0) → P → OnErr r P
 on_err (Ok x) P p = tt
 on_err (Err e) P p = p
@@ -78,16 +72,6 @@ sends_so_far a b w e x p = record { written = p.sent; rest = x; whole = p.whole;
 -- nothing was kept at last
 pub sends_end : (a b : Option (List ℕ)) (w e x : List ℕ) → Sends a b w e x → x ≡ [] → b ≡ append_known a (w ++ e)
 sends_end a b w e x p none = p.grew ∙ ap (append_known a) (sym (p.whole ∙ ap (λ l. p.sent ++ l) none ∙ append-nil p.sent))
-
--- what was kept, then a line, then its end
-pub sends_three : {T F : Type 0} (r : Result T F) (a b c d : Option (List ℕ)) (kept line finish now : List ℕ)
-    → b ≡ append_known a kept → c ≡ append_known b line → OnOk r (d ≡ append_known c finish) → now ≡ [] → OnOk r (Sends a d kept (line ++ finish) now)
-sends_three (Err e) a b c d kept line finish now p q h none = tt
-sends_three (Ok x) a b c d kept line finish now p q h none = record {
-  sent = kept ++ (line ++ finish);
-  whole = sym (append-nil (kept ++ (line ++ finish))) ∙ ap (λ l. (kept ++ (line ++ finish)) ++ l) (sym none);
-  grew = grown_more a b d kept (line ++ finish) p (grown_more b c d line finish q h);
-}
 
 pub sends_none : (a : Option (List ℕ)) (w : List ℕ) → Sends a a w [] w
 sends_none a w = record { sent = []; whole = append-nil w; grew = sym (append_known-nil a) }

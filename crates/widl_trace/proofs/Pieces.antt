@@ -28,7 +28,7 @@ piece_more f (y ∷ xs) (suc i) x is =
     let n : suc i + 1 ≡ suc (i + 1) = omega arith in
     ap (λ k. flat_map f (take k (y ∷ xs))) n ∙ ap (λ zs. f y ++ zs) (piece_more f xs i x is) ∙ sym (append_assoc (f y) (flat_map f (take i xs)) (f x))
 
-sign_later : (sign : List ℕ) (i : ℕ) → sign_before sign (suc i) ≡ sign
+pub sign_later : (sign : List ℕ) (i : ℕ) → sign_before sign (suc i) ≡ sign
 sign_later sign i = ap (λ b. cond b [] sign) (ne_eqb (suc i) 0 (λ e. absurd (omega (arith, e))))
 
 -- the texts before a place, the sign and the text there are no longer than all

@@ -11,6 +11,7 @@ mod event;
 mod event_line;
 mod idl_value_text;
 mod laws;
+mod unfinished;
 mod value_text;
 mod whole;
 
