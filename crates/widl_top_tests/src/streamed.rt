@@ -127,7 +127,13 @@ fn folder_of(rt: &impl Abort, alloc: Global, run: &Run) -> SureFolder {
     let script = repeated(rt, alloc, run.script, run.times, "");
     let mut files = Files::new(alloc);
     add_bytes(rt, alloc, &mut files, "s", script);
-    add_bytes(rt, alloc, &mut files, "n.idl", bytes_of(rt, alloc, run.fragment));
+    add_bytes(
+        rt,
+        alloc,
+        &mut files,
+        "n.idl",
+        bytes_of(rt, alloc, run.fragment),
+    );
     SureFolder::new(files)
 }
 
