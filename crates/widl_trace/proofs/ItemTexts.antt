@@ -1,30 +1,15 @@
--- The terms of values that have others in them, and the texts of those.
-use Rattle.std.proofs.Common.{◌≡◌, ℕ, ◌++◌, List, [], ◌∷◌, codes, map, refl, ap, sym, ◌∙◌}
+-- The texts of values that have others in them, by the texts of these.
+use Rattle.std.proofs.Common.{◌≡◌, ℕ, ◌++◌, List, [], ◌∷◌, codes, map, refl, ap, ◌∙◌}
 use Rattle.widl_idl.specs.DefinitionTerms.{DefsTerm}
-use Rattle.widl_value.specs.IdlTerms.{IdlTerm, IdlTerms, EntryTerms, MemberTerms, SequenceValue, RecordValue, idl_term, idl_terms, entry_terms, member_terms, packed_entries, packed_members, packed_values, value_level, entries_level, members_level, values_level}
+use Rattle.widl_value.specs.IdlTerms.{IdlTerm, idl_term, idl_terms, entry_terms, member_terms, packed_entries, packed_members, packed_values}
 use Rattle.widl_value.specs.declared.idl_entries.IdlEntries.{IdlEntries}
 use Rattle.widl_value.specs.declared.idl_members.IdlMembers.{IdlMembers}
 use Rattle.widl_value.specs.declared.idl_values.IdlValues.{IdlValues}
-use Rattle.widl_value.proofs.Dictionaries.{dictionary_term}
+use Rattle.widl_value.proofs.Dictionaries.{dictionary_term, record_term, sequence_term}
 use Rattle.widl_spell.specs.Names.{separated}
 use Rattle.widl_trace.specs.CalleeTexts.{name_or_nothing}
 use Rattle.widl_value.specs.declared.idl_value.IdlValue as variants
-use Rattle.widl_value.specs.declared.idl_value.IdlValue.TheOpen as levels
-use Rattle.widl_value.specs.declared.idl_value.IdlValue.TheVariants.{rolls-Entries, rolls-List}
-use Rattle.widl_value.specs.declared.idl_value.IdlValue.TheFolds.{fold-roll-IdlValue, fold_out-IdlEntries, fold_out-IdlValues}
 use Rattle.widl_trace.specs.IdlValueTexts.{dictionary_name, element_texts, entry_text, entry_texts, idl_value_text, member_text, member_texts}
-
-pub sequence_term : (values : IdlValues) → idl_term (variants.List values) ≡ SequenceValue (packed_values (idl_terms values))
-sequence_term values =
-    ap idl_term (sym (rolls-List values))
-    ∙ fold-roll-IdlValue IdlTerm EntryTerms MemberTerms IdlTerms value_level entries_level members_level values_level (levels.List values)
-    ∙ ap SequenceValue (fold_out-IdlValues IdlTerm EntryTerms MemberTerms IdlTerms value_level entries_level members_level values_level values)
-
-pub record_term : (entries : IdlEntries) → idl_term (variants.Entries entries) ≡ RecordValue (packed_entries (entry_terms entries))
-record_term entries =
-    ap idl_term (sym (rolls-Entries entries))
-    ∙ fold-roll-IdlValue IdlTerm EntryTerms MemberTerms IdlTerms value_level entries_level members_level values_level (levels.Entries entries)
-    ∙ ap RecordValue (fold_out-IdlEntries IdlTerm EntryTerms MemberTerms IdlTerms value_level entries_level members_level values_level entries)
 
 pub element_texts_are : (defs : DefsTerm) (values : List IdlTerm) → element_texts defs (packed_values values) ≡ map (idl_value_text defs) values
 element_texts_are defs [] = refl

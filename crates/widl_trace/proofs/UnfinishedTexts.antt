@@ -12,7 +12,8 @@ use Rattle.widl_value.specs.declared.idl_members.IdlMembers.{IdlMembers}
 use Rattle.widl_value.specs.declared.idl_value.IdlValue.{IdlValue}
 use Rattle.widl_value.specs.declared.idl_value.IdlValue as variants
 use Rattle.widl_value.specs.declared.idl_values.IdlValues.{IdlValues}
-use Rattle.widl_value.proofs.Dictionaries.{dictionary_term}
+use Rattle.widl_value.proofs.Dictionaries.{dictionary_term, record_term, sequence_term}
+use Rattle.widl_value.proofs.Places.{drop_at}
 use Rattle.widl_spell.specs.Names.{separated, sign_before}
 use Rattle.widl_trace.specs.CalleeTexts.{name_or_nothing}
 use Rattle.widl_trace.specs.IdlValueTexts.{dictionary_name, entry_text, idl_value_text, member_name, member_text}
@@ -21,15 +22,8 @@ use Rattle.widl_trace.specs.ValueTexts.{quoted}
 use Rattle.widl_trace.specs.declared.unfinished.Contents.{Contents}
 use Rattle.widl_trace.specs.declared.unfinished.Contents.TheVariants as kinds
 use Rattle.widl_trace.specs.declared.unfinished.Unfinished.{Unfinished}
-use Rattle.widl_trace.proofs.ItemTexts.{dictionary_text, record_term, record_text, sequence_term, sequence_text}
+use Rattle.widl_trace.proofs.ItemTexts.{dictionary_text, record_text, sequence_text}
 use Rattle.widl_trace.proofs.Pieces.{sign_later}
-
-pub drop_at : {X : Type 0} (xs : List X) (i : ℕ) (x : X) → slice_get xs i ≡ Some x → drop i xs ≡ x ∷ drop (i + 1) xs
-drop_at [] i x is = absurd (cc)
-drop_at (y ∷ xs) zero x is = ap (λ z. z ∷ xs) (same_Some y x is)
-drop_at (y ∷ xs) (suc i) x is =
-    let n : suc i + 1 ≡ suc (i + 1) = omega arith in
-    drop_at xs i x is ∙ ap (λ k. x ∷ drop k (y ∷ xs)) (sym n)
 
 -- the item at a place of a row has the sign before it
 pub row_at : (xs : List (List ℕ × IdlTerm)) (i : ℕ) → slice_get (in_a_row xs) i ≡ option_map (λ x. (sign_before (codes ", ") i ++ x.0, x.1)) (slice_get xs i)

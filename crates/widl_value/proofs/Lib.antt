@@ -1,6 +1,9 @@
+pub mod CopiedParts
 pub mod Dictionaries
 pub mod NearSigned
 pub mod NearUnique
 pub mod NearWords
 pub mod Places
 pub mod ShortNumbers
+pub mod Sizes
+pub mod StandingIn

@@ -1,4 +1,5 @@
 pub mod Classes
+pub mod Copies
 pub mod IdlTerms
 pub mod Near
 pub mod Rounding

@@ -62,18 +62,29 @@ impl IdlEntries {
         Ok(())
     }
 
+    /// The empty list, with room for as many.
+    pub(crate) fn room(&self) -> Result<IdlEntries, AllocError>
+        ensures { IfOk result (λ list. entry_terms list ≡ []) }
+    {
+        Ok(IdlEntries {
+            items: Vec::with_capacity(*self.items.allocator(), self.items.len())?,
+        })
+    }
+
+    /// Where the list has its memory from.
+    pub(crate) fn allocator(&self) -> Global {
+        *self.items.allocator()
+    }
+
     /// A list of the same entries.
     ///
     /// # Errors
     ///
     /// `AllocError` where there is no memory.
-    #[cycle(copy)]
     pub fn copy(&self) -> Result<IdlEntries, AllocError>
         ensures { IfOk result (λ copy. entry_terms copy ≡ entry_terms self.now) }
     {
-        let mut copy = IdlEntries {
-            items: Vec::with_capacity(*self.items.allocator(), self.items.len())?,
-        };
+        let mut copy = self.room()?;
         for entry in &self.items {
             let key = entry.0.copy()?;
             let value = entry.1.copy()?;

@@ -63,18 +63,29 @@ impl IdlMembers {
         Ok(())
     }
 
+    /// The empty list, with room for as many.
+    pub(crate) fn room(&self) -> Result<IdlMembers, AllocError>
+        ensures { IfOk result (λ list. member_terms list ≡ []) }
+    {
+        Ok(IdlMembers {
+            items: Vec::with_capacity(*self.items.allocator(), self.items.len())?,
+        })
+    }
+
+    /// Where the list has its memory from.
+    pub(crate) fn allocator(&self) -> Global {
+        *self.items.allocator()
+    }
+
     /// A list of the same members.
     ///
     /// # Errors
     ///
     /// `AllocError` where there is no memory.
-    #[cycle(copy)]
     pub fn copy(&self) -> Result<IdlMembers, AllocError>
         ensures { IfOk result (λ copy. member_terms copy ≡ member_terms self.now) }
     {
-        let mut copy = IdlMembers {
-            items: Vec::with_capacity(*self.items.allocator(), self.items.len())?,
-        };
+        let mut copy = self.room()?;
         for member in &self.items {
             let value = member.2.copy()?;
             copy.push((member.0, member.1, value))?;

@@ -3,6 +3,7 @@
 ghost use Rattle.std.specs.Prelude.{◌≡◌, IfOk};
 ghost use Rattle.widl_value.specs.IdlTerms.{idl_term};
 
+use crate::copying::copy_of;
 use crate::idl_entries::IdlEntries;
 use crate::idl_members::IdlMembers;
 use crate::idl_values::IdlValues;
@@ -14,9 +15,8 @@ use widl_text::Units;
 /// A value of an IDL type (Web IDL, "Types"). A number names a definition by its place in its list.
 ///
 /// A type nests at most 16 levels and a chain of dictionaries has at most 256, so a value that a
-/// conversion makes nests at most 4,096 levels. That bounds the recursions over values here. None of
-/// them goes over the items of a list: these stand in one vector, which is walked and dropped by a
-/// loop.
+/// conversion makes nests at most 4,096 levels. That bounds the recursion with which a value is
+/// dropped; the items of a list stand in one vector, which is dropped by a loop.
 #[cycle(idl_values)]
 #[derive(Drop)]
 pub enum IdlValue {
@@ -65,33 +65,9 @@ impl IdlValue {
     /// # Errors
     ///
     /// `AllocError` where there is no memory.
-    #[cycle(copy)]
     pub fn copy(&self) -> Result<IdlValue, AllocError>
         ensures { IfOk result (λ copy. idl_term copy ≡ idl_term self.now) }
     {
-        match self {
-            IdlValue::Undefined => Ok(IdlValue::Undefined),
-            IdlValue::Null => Ok(IdlValue::Null),
-            IdlValue::Missing => Ok(IdlValue::Missing),
-            IdlValue::Bool(b) => Ok(IdlValue::Bool(*b)),
-            IdlValue::Int(n) => Ok(IdlValue::Int(*n)),
-            IdlValue::Text(text) => Ok(IdlValue::Text(text.copy()?)),
-            IdlValue::Choice {
-                of: enumeration,
-                index,
-            } => Ok(IdlValue::Choice {
-                of: *enumeration,
-                index: *index,
-            }),
-            IdlValue::Object(object) => Ok(IdlValue::Object(*object)),
-            IdlValue::Any(value) => Ok(IdlValue::Any(value.copy()?)),
-            IdlValue::List(values) => Ok(IdlValue::List(values.copy()?)),
-            IdlValue::Entries(entries) => Ok(IdlValue::Entries(entries.copy()?)),
-            IdlValue::Dict { of, members } => Ok(IdlValue::Dict {
-                of: *of,
-                members: members.copy()?,
-            }),
-            IdlValue::Promise(promise) => Ok(IdlValue::Promise(*promise)),
-        }
+        copy_of(self)
     }
 }

@@ -61,18 +61,29 @@ impl IdlValues {
         Ok(())
     }
 
+    /// The empty list, with room for as many.
+    pub(crate) fn room(&self) -> Result<IdlValues, AllocError>
+        ensures { IfOk result (λ list. idl_terms list ≡ []) }
+    {
+        Ok(IdlValues {
+            items: Vec::with_capacity(*self.items.allocator(), self.items.len())?,
+        })
+    }
+
+    /// Where the list has its memory from.
+    pub(crate) fn allocator(&self) -> Global {
+        *self.items.allocator()
+    }
+
     /// A list of the same values.
     ///
     /// # Errors
     ///
     /// `AllocError` where there is no memory.
-    #[cycle(copy)]
     pub fn copy(&self) -> Result<IdlValues, AllocError>
         ensures { IfOk result (λ copy. idl_terms copy ≡ idl_terms self.now) }
     {
-        let mut copy = IdlValues {
-            items: Vec::with_capacity(*self.items.allocator(), self.items.len())?,
-        };
+        let mut copy = self.room()?;
         for item in &self.items {
             let item = item.copy()?;
             copy.push(item)?;

@@ -5,6 +5,7 @@
 #![tactic(auto)]
 
 mod class;
+mod copying;
 mod flags;
 mod idl_entries;
 mod idl_members;
