@@ -1,6 +1,6 @@
 //! Arguments.
 
-ghost use Rattle.std.specs.Prelude.{◌≡◌, ◌≢◌, ◌++◌, List, IfOk};
+ghost use Rattle.std.specs.Prelude.{◌≡◌, ◌≢◌, ◌++◌, [], List, IfOk};
 ghost use Rattle.widl_idl.specs.declared.tree.types.AnnotatedType.{AnnotatedType as TypeOfTree};
 ghost use Rattle.widl_lex.specs.Tokens.{Lexeme};
 ghost use Rattle.widl_grammar.specs.declared.rule.Rule.TheVariants as rule;
@@ -36,9 +36,23 @@ impl<'t, 's> Reader<'t, 's> {
         }
         let commas = self.separators_ahead(Terminal::Comma, Terminal::CloseParen);
         let mut arguments = Arguments::with_room(self.alloc(), commas.saturating_add(1))?;
+        match self.first_arguments(&mut arguments) {
+            Ok(()) => Ok(arguments),
+            Err(error) => {
+                drop(arguments);
+                Err(error)
+            }
+        }
+    }
+
+    /// Adds the first argument and those after it.
+    fn first_arguments(&mut self, arguments: &mut Arguments) -> Result<(), AllocError>
+        requires { arguments.old ≡ [] }
+        ensures { IfOk result (λ _. Reads (part rule.Argument ++ part rule.MoreArguments) (separated terminal.Comma argument arguments.new) self.old self.new) }
+    {
         arguments.push(self.argument()?)?;
-        self.more_arguments(&mut arguments)?;
-        Ok(arguments)
+        self.more_arguments(arguments)?;
+        Ok(())
     }
 
     /// Adds the arguments after the first one.
@@ -71,12 +85,24 @@ impl<'t, 's> Reader<'t, 's> {
         ensures { IfOk result (λ read. (start : List Lexeme) → Reads (part rule.ExtendedAttributeList) (extended_attributes attributes) start self.old → terminal_ahead self.old ≡ terminal.Optional → Reads (part rule.Argument) (argument read) start self.new) }
     {
         let _optional = self.take();
-        let ty = self.annotated_type()?;
-        let name = self.name()?;
-        let kind = ArgumentKind::Optional(self.default_value()?);
+        let Ok(ty) = self.annotated_type() else {
+            drop(attributes);
+            return Err(AllocError);
+        };
+        let Ok(name) = self.name() else {
+            drop(attributes);
+            drop(ty);
+            return Err(AllocError);
+        };
+        let Ok(default) = self.default_value() else {
+            drop(attributes);
+            drop(ty);
+            drop(name);
+            return Err(AllocError);
+        };
         Ok(Argument {
             attributes,
-            kind,
+            kind: ArgumentKind::Optional(default),
             ty,
             name,
         })
@@ -86,9 +112,16 @@ impl<'t, 's> Reader<'t, 's> {
     fn other_argument(&mut self, attributes: ExtendedAttributes) -> Result<Argument, AllocError>
         ensures { IfOk result (λ read. (start : List Lexeme) → Reads (part rule.ExtendedAttributeList) (extended_attributes attributes) start self.old → terminal_ahead self.old ≢ terminal.Optional → Reads (part rule.Argument) (argument read) start self.new) }
     {
-        let ty = self.unannotated_type()?;
+        let Ok(ty) = self.unannotated_type() else {
+            drop(attributes);
+            return Err(AllocError);
+        };
         let kind = self.ellipsis();
-        let name = self.name()?;
+        let Ok(name) = self.name() else {
+            drop(attributes);
+            drop(ty);
+            return Err(AllocError);
+        };
         Ok(Argument {
             attributes,
             kind,

@@ -73,8 +73,15 @@ impl<'t, 's> Reader<'t, 's> {
     {
         let name = self.name()?;
         let _equals = self.take();
-        let result = self.written_type()?;
-        let arguments = self.arguments()?;
+        let Ok(result) = self.written_type() else {
+            drop(name);
+            return Err(AllocError);
+        };
+        let Ok(arguments) = self.arguments() else {
+            drop(name);
+            drop(result);
+            return Err(AllocError);
+        };
         let _semicolon = self.take();
         Ok(Callback {
             name,
@@ -219,7 +226,10 @@ impl<'t, 's> Reader<'t, 's> {
     {
         let _word = self.take();
         let ty = self.annotated_type()?;
-        let name = self.name()?;
+        let Ok(name) = self.name() else {
+            drop(ty);
+            return Err(AllocError);
+        };
         let _semicolon = self.take();
         Ok(Typedef { ty, name })
     }

@@ -1,11 +1,11 @@
 //! Dictionaries and enumerations.
 
-ghost use Rattle.std.specs.Prelude.{◌≡◌, ◌≢◌, ◌++◌, IfOk, List, true, false};
+ghost use Rattle.std.specs.Prelude.{◌≡◌, ◌≢◌, ◌++◌, [], IfOk, List, true, false};
 ghost use Rattle.widl_grammar.specs.declared.rule.Rule.TheVariants as rule;
 ghost use Rattle.widl_grammar.specs.declared.terminal.Terminal.TheVariants as terminal;
 ghost use Rattle.widl_idl.specs.declared.tree.enumerations.EnumerationValue.{EnumerationValue};
 ghost use Rattle.widl_syntax.specs.Reading.{Reads, part, token, terminal_ahead};
-ghost use Rattle.widl_syntax.specs.Signs.{all_signs, after, ◌⧺◌};
+ghost use Rattle.widl_syntax.specs.Signs.{all_signs, after, separated, ◌⧺◌};
 ghost use Rattle.widl_syntax.specs.UnparsedDefinitions.{dictionary, dictionary_member, dictionary_member_rest, enumeration, enumeration_value};
 ghost use Rattle.widl_syntax.specs.UnparsedNames.{word_if};
 
@@ -94,8 +94,15 @@ impl<'t, 's> Reader<'t, 's> {
         ensures reads { IfOk result (λ read. Reads (part rule.DictionaryMemberRest) (dictionary_member_rest read) self.old self.new) }
     {
         let _word = self.take();
-        let ty = self.annotated_type()?;
-        let name = self.name()?;
+        let Ok(ty) = self.annotated_type() else {
+            drop(attributes);
+            return Err(AllocError);
+        };
+        let Ok(name) = self.name() else {
+            drop(attributes);
+            drop(ty);
+            return Err(AllocError);
+        };
         let _semicolon = self.take();
         Ok(DictionaryMember {
             attributes,
@@ -115,9 +122,21 @@ impl<'t, 's> Reader<'t, 's> {
         ensures attributes { IfOk result (λ read. read.attributes ≡ attributes) }
         ensures reads { IfOk result (λ read. Reads (part rule.DictionaryMemberRest) (dictionary_member_rest read) self.old self.new) }
     {
-        let ty = self.unannotated_type()?;
-        let name = self.name()?;
-        let default = self.default_value()?;
+        let Ok(ty) = self.unannotated_type() else {
+            drop(attributes);
+            return Err(AllocError);
+        };
+        let Ok(name) = self.name() else {
+            drop(attributes);
+            drop(ty);
+            return Err(AllocError);
+        };
+        let Ok(default) = self.default_value() else {
+            drop(attributes);
+            drop(ty);
+            drop(name);
+            return Err(AllocError);
+        };
         let _semicolon = self.take();
         Ok(DictionaryMember {
             attributes,
@@ -136,8 +155,11 @@ impl<'t, 's> Reader<'t, 's> {
         let name = self.name()?;
         let _open = self.take();
         let mut values = EnumerationValues::new(self.alloc());
-        values.push(self.enumeration_value()?)?;
-        let trailing_comma = self.more_values(&mut values)?;
+        let Ok(trailing_comma) = self.first_values(&mut values) else {
+            drop(name);
+            drop(values);
+            return Err(AllocError);
+        };
         let _close = self.take();
         let _semicolon = self.take();
         Ok(Enumeration {
@@ -145,6 +167,16 @@ impl<'t, 's> Reader<'t, 's> {
             values,
             trailing_comma,
         })
+    }
+
+    /// Adds the first value and those after it, and tells whether a comma stands after the last.
+    fn first_values(&mut self, values: &mut EnumerationValues) -> Result<bool, AllocError>
+        requires { values.old ≡ [] }
+        ensures { IfOk result (λ trailing_comma. Reads (token terminal.String ++ part rule.EnumMore) (separated terminal.Comma enumeration_value values.new ⧺ word_if trailing_comma terminal.Comma) self.old self.new) }
+    {
+        values.push(self.enumeration_value()?)?;
+        let trailing_comma = self.more_values(values)?;
+        Ok(trailing_comma)
     }
 
     /// Adds the values after the first one, and tells whether a comma stands after the last.

@@ -41,7 +41,10 @@ impl<'t, 's> Reader<'t, 's> {
         let at = self.take();
         let _less = self.take();
         let first = self.annotated_type()?;
-        let second = self.second_type()?;
+        let Ok(second) = self.second_type() else {
+            drop(first);
+            return Err(AllocError);
+        };
         let _greater = self.take();
         let _semicolon = self.take();
         let iterable = Iterable { at, first, second };
@@ -73,9 +76,16 @@ impl<'t, 's> Reader<'t, 's> {
         let word = self.async_word();
         let _less = self.take();
         let first = self.annotated_type()?;
-        let second = self.second_type()?;
+        let Ok(second) = self.second_type() else {
+            drop(first);
+            return Err(AllocError);
+        };
         let _greater = self.take();
-        let arguments = self.arguments_if()?;
+        let Ok(arguments) = self.arguments_if() else {
+            drop(first);
+            drop(second);
+            return Err(AllocError);
+        };
         let _semicolon = self.take();
         let iterable = AsyncIterable {
             at,
@@ -96,7 +106,10 @@ impl<'t, 's> Reader<'t, 's> {
         let _less = self.take();
         let key = self.annotated_type()?;
         let _comma = self.take();
-        let value = self.annotated_type()?;
+        let Ok(value) = self.annotated_type() else {
+            drop(key);
+            return Err(AllocError);
+        };
         let _greater = self.take();
         let _semicolon = self.take();
         let maplike = Maplike {

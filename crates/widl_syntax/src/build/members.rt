@@ -18,7 +18,7 @@ use widl_idl::tree::{
 };
 
 /// Whose members are read.
-#[derive(Clone, Copy, Debug)]
+#[derive(Clone, Copy)]
 pub enum MemberList {
     Interface,
     PartialInterface,
@@ -139,9 +139,16 @@ impl<'t, 's> Reader<'t, 's> {
     {
         let at = self.take();
         let ty = self.constant_type()?;
-        let name = self.name()?;
+        let Ok(name) = self.name() else {
+            drop(ty);
+            return Err(AllocError);
+        };
         let _equals = self.take();
-        let value = self.constant_value()?;
+        let Ok(value) = self.constant_value() else {
+            drop(ty);
+            drop(name);
+            return Err(AllocError);
+        };
         let _semicolon = self.take();
         let constant = Constant {
             at,
@@ -252,7 +259,10 @@ impl<'t, 's> Reader<'t, 's> {
     {
         let _word = self.take();
         let ty = self.annotated_type()?;
-        let name = self.name()?;
+        let Ok(name) = self.name() else {
+            drop(ty);
+            return Err(AllocError);
+        };
         let _semicolon = self.take();
         Ok(Attribute {
             kind,
@@ -285,9 +295,16 @@ impl<'t, 's> Reader<'t, 's> {
         ensures reads { IfOk result (λ operation. Reads (part rule.Operation) (operation_rest operation) self.old self.new) }
     {
         let result = self.written_type()?;
-        let name = self.operation_name()?;
+        let Ok(name) = self.operation_name() else {
+            drop(result);
+            return Err(AllocError);
+        };
         let open = self.at();
-        let arguments = self.arguments()?;
+        let Ok(arguments) = self.arguments() else {
+            drop(result);
+            drop(name);
+            return Err(AllocError);
+        };
         let _semicolon = self.take();
         Ok(Operation {
             kind,

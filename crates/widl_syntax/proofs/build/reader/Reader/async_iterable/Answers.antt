@@ -11,7 +11,7 @@ returns c = of_signs (ap async_iterable c.in_ok-new.ensures.ok) (by_only rule.As
     (and_then c.async_word-word.ensures
     (and_then (took terminal.Less c.take-less.ensures)
     (and_then c.in_ok-first.ensures.reads
-    (and_then c.in_ok-second.ensures
+    (and_then c.in-Ok.ensures
     (and_then (took terminal.Greater c.take-greater.ensures)
-    (and_then c.in_ok-arguments.ensures
+    (and_then c.in-Ok-arguments_if.ensures
     (took terminal.Semicolon c.take-semicolon.ensures)))))))))

@@ -9,5 +9,5 @@ pub returns-clause-reads : goal.returns-clause-reads
 returns-clause-reads c = by_only rule.Attribute refl
     (and_then (took terminal.Attribute c.take-word.ensures)
     (and_then c.in_ok-ty.ensures.reads
-    (and_then (by_word rule.AttributeName [] refl refl c.in_ok-name.ensures)
+    (and_then (by_word rule.AttributeName [] refl refl c.in-Ok.ensures)
     (took terminal.Semicolon c.take-semicolon.ensures))))

@@ -5,6 +5,6 @@ use Rattle.widl_syntax.proofs.build.reader.Reader.callback_function.Goals as goa
 pub returns : goal.returns
 returns c = (and_then (took_identifier c.in_ok-name.ensures)
     (and_then (took terminal.Equals c.take-equals.ensures)
-    (and_then c.in_ok-result.ensures.reads
-    (and_then c.in_ok-arguments.ensures
+    (and_then c.in-Ok.ensures.reads
+    (and_then c.in-Ok-arguments.ensures
     (took terminal.Semicolon c.take-semicolon.ensures)))))

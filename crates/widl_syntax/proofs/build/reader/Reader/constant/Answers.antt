@@ -10,7 +10,7 @@ pub returns : goal.returns
 returns c = of_signs (ap constant c.in_ok-new.ensures.ok) (by_only rule.Const refl
     (and_then (took_at terminal.Const c.take-at.ensures)
     (and_then c.in_ok-ty.ensures
-    (and_then (took_identifier c.in_ok-name.ensures)
+    (and_then (took_identifier c.in-Ok.ensures)
     (and_then (took terminal.Equals c.take-equals.ensures)
-    (and_then c.in_ok-value.ensures
+    (and_then c.in-Ok-constant_value.ensures
     (took terminal.Semicolon c.take-semicolon.ensures)))))))

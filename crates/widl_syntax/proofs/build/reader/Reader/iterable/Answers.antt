@@ -11,6 +11,6 @@ returns c = of_signs (ap iterable c.in_ok-new.ensures.ok) (by_only rule.Iterable
     (and_then (took_at terminal.Iterable c.take-at.ensures)
     (and_then (took terminal.Less c.take-less.ensures)
     (and_then c.in_ok-first.ensures.reads
-    (and_then c.in_ok-second.ensures
+    (and_then c.in-Ok.ensures
     (and_then (took terminal.Greater c.take-greater.ensures)
     (took terminal.Semicolon c.take-semicolon.ensures)))))))

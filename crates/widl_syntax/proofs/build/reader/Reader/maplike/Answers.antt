@@ -12,6 +12,6 @@ returns-clause-reads c = of_signs (ap maplike_rest c.in_ok-new.ensures.ok) (by_o
     (and_then (took terminal.Less c.take-less.ensures)
     (and_then c.in_ok-key.ensures.reads
     (and_then (took terminal.Comma c.take-comma.ensures)
-    (and_then c.in_ok-value.ensures.reads
+    (and_then c.in-Ok.ensures.reads
     (and_then (took terminal.Greater c.take-greater.ensures)
     (took terminal.Semicolon c.take-semicolon.ensures))))))))

@@ -7,6 +7,6 @@ use Rattle.widl_syntax.proofs.build.reader.Reader.operation.Goals as goal
 pub returns-clause-reads : goal.returns-clause-reads
 returns-clause-reads c = by_only rule.Operation refl
     (and_then c.in_ok-result.ensures.reads
-    (and_then c.in_ok-name.ensures
-    (at_token terminal.OpenParen c.at-open.ensures (and_then c.in_ok-arguments.ensures
+    (and_then c.in-Ok.ensures
+    (at_token terminal.OpenParen c.at-open.ensures (and_then c.in-Ok-arguments.ensures
     (took terminal.Semicolon c.take-semicolon.ensures)))))

@@ -9,6 +9,6 @@ pub returns : goal.returns
 returns c = λ start attributes optional. by_only rule.Argument refl
     (and_then attributes (by_row rule.ArgumentRest terminal.Optional optional refl refl
     (and_then (took terminal.Optional c.take-optional.ensures)
-    (and_then c.in_ok-ty.ensures.reads
-    (and_then (by_word rule.ArgumentName [] refl refl c.in_ok-name.ensures)
-    c.in_ok-default_value.ensures)))))
+    (and_then c.in-Ok.ensures.reads
+    (and_then (by_word rule.ArgumentName [] refl refl c.in-Ok-name.ensures)
+    c.in-Ok-default_value.ensures)))))

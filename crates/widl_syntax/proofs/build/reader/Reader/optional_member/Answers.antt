@@ -6,7 +6,7 @@ use Rattle.widl_syntax.proofs.build.reader.Reader.optional_member.Goals as goal
 
 pub returns-clause-reads : goal.returns-clause-reads
 returns-clause-reads c = by_rest rule.DictionaryMemberRest (terminal.Required ∷ []) 1 refl refl (other_than terminal.Required _ c.requires)
-    (and_then c.in_ok-ty.ensures
-    (and_then (took_identifier c.in_ok-name.ensures)
-    (and_then c.in_ok-default.ensures
+    (and_then c.in-Ok.ensures
+    (and_then (took_identifier c.in-Ok-name.ensures)
+    (and_then c.in-Ok-default_value.ensures
     (took terminal.Semicolon c.take-semicolon.ensures))))

@@ -10,5 +10,5 @@ use Rattle.widl_syntax.proofs.build.reader.Reader.other_argument.Goals as goal
 pub returns : goal.returns
 returns c = λ start attributes other. by_only rule.Argument refl
     (and_then attributes (by_rest rule.ArgumentRest (terminal.Optional ∷ []) 1 refl refl (other_than terminal.Optional _ other)
-    (c.ellipsis-kind.ensures _ _ (part rule.WholeType) (part rule.ArgumentName) c.in_ok-ty.ty (any_name rule.ArgumentName c.in_ok-name.name)
-    c.in_ok-ty.ensures (by_word rule.ArgumentName [] refl refl c.in_ok-name.ensures))))
+    (c.ellipsis-kind.ensures _ _ (part rule.WholeType) (part rule.ArgumentName) c.in-Ok.ty (any_name rule.ArgumentName c.in-Ok-name.name)
+    c.in-Ok.ensures (by_word rule.ArgumentName [] refl refl c.in-Ok-name.ensures))))

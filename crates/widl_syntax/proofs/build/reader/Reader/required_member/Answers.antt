@@ -7,6 +7,6 @@ use Rattle.widl_syntax.proofs.build.reader.Reader.required_member.Goals as goal
 pub returns-clause-reads : goal.returns-clause-reads
 returns-clause-reads c = by_row rule.DictionaryMemberRest terminal.Required c.requires refl refl
     (and_then (took terminal.Required c.take-word.ensures)
-    (and_then c.in_ok-ty.ensures.reads
-    (and_then (took_identifier c.in_ok-name.ensures)
+    (and_then c.in-Ok.ensures.reads
+    (and_then (took_identifier c.in-Ok-name.ensures)
     (took terminal.Semicolon c.take-semicolon.ensures))))

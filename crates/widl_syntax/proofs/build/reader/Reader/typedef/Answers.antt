@@ -8,5 +8,5 @@ pub returns : goal.returns
 returns c = by_only rule.Typedef refl
     (and_then (took terminal.Typedef c.take-word.ensures)
     (and_then c.in_ok-ty.ensures.reads
-    (and_then (took_identifier c.in_ok-name.ensures)
+    (and_then (took_identifier c.in-Ok.ensures)
     (took terminal.Semicolon c.take-semicolon.ensures))))
