@@ -77,7 +77,7 @@ pub enum Terminal {{
 
 /// A rule of the grammar of a script's lines, left-factored, so that the word ahead tells the row. A line
 /// is [`Rule::Line`], or [`Rule::StepLine`] where the innermost open block is `steps`.
-#[derive(Clone, Copy, Debug, PartialEq, Eq)]
+#[derive(Clone, Copy)]
 pub enum Rule {{
 {"".join(f"    {n},{chr(10)}" for n in rows.rules)}}}
 

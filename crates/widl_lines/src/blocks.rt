@@ -9,7 +9,7 @@ use crate::{Rule, Terminal};
 use std::alloc::AllocError;
 
 /// A block of lines that is open.
-#[derive(Clone, Copy, Debug, PartialEq, Eq)]
+#[derive(Clone, Copy, PartialEq, Eq)]
 pub enum Block {
     /// The body of a function.
     Function,
@@ -26,7 +26,7 @@ pub enum Block {
 }
 
 /// What a line does to the open blocks.
-#[derive(Clone, Copy, Debug, PartialEq, Eq)]
+#[derive(Clone, Copy)]
 pub enum Change {
     /// Nothing.
     Stay,

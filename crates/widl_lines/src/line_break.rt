@@ -17,7 +17,7 @@ use widl_predictive::{Fault, read_sentence};
 use widl_text::limits::MOST_NESTED_BLOCKS;
 
 /// A rule that a line can break.
-#[derive(Clone, Copy, Debug, PartialEq, Eq)]
+#[derive(Clone, Copy)]
 pub enum LineRule {
     /// No line of a form begins with the words up to this one.
     NoForm,
@@ -31,7 +31,7 @@ pub enum LineRule {
 
 /// A rule that a line breaks, and the number of the word that breaks it, from 0; the number of words where the
 /// line ends too early.
-#[derive(Clone, Copy, Debug, PartialEq, Eq)]
+#[derive(Clone, Copy)]
 pub struct LineBreak {
     /// The rule.
     pub rule: LineRule,

@@ -4,7 +4,7 @@ ghost use Rattle.std.specs.Prelude.{◌≡◌, ◌+◌, ◌^◌, ◌<◌, ◌≤
 ghost use Rattle.widl_lines.specs.Lines.{lines_of, without_return, line_number, column_number, NoLineEnd, IsLineEnd};
 
 /// The first line of a text.
-#[derive(Clone, Copy, Debug)]
+#[derive(Clone, Copy)]
 pub struct FirstLine<'a> {
     /// Its bytes, without the line end.
     pub line: &'a [u8],

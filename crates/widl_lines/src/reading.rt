@@ -16,7 +16,7 @@ use crate::{ScriptFault, ScriptPlace, Terminal, Word};
 use std::alloc::Global;
 
 /// A line that has words.
-#[derive(Debug, Drop)]
+#[derive(Drop)]
 pub struct LineWords<'a> {
     /// Its number, from 1.
     pub number: u32,

@@ -8,7 +8,7 @@ use crate::WordForm;
 use crate::word_bytes::is_word_byte;
 
 /// Where in its line a word stands.
-#[derive(Clone, Copy, Debug, PartialEq, Eq)]
+#[derive(Clone, Copy)]
 pub enum Context {
     /// It is the line's first word.
     First,
@@ -25,7 +25,7 @@ pub enum Context {
 }
 
 /// The form of a word and its length.
-#[derive(Clone, Copy, Debug, PartialEq, Eq)]
+#[derive(Clone, Copy)]
 pub struct Shape {
     /// The form in which it is cut.
     pub form: WordForm,

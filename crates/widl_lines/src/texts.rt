@@ -14,7 +14,7 @@ use widl_text::Units;
 use widl_text::limits::MOST_TEXT_UNITS;
 
 /// What the next character or escape of a text is.
-#[derive(Clone, Copy, Debug)]
+#[derive(Clone, Copy)]
 enum Spelled<'a> {
     /// The text has ended.
     End,
