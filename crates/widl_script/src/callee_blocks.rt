@@ -16,7 +16,7 @@ ghost use Rattle.widl_script_rules.specs.Targets.{is_target_of};
 use indexmap::IndexMap;
 use std::alloc::{AllocError, Global};
 use widl_idl::{Callee, Defs, OpName, Owner, Part, Space};
-use widl_script_rules::{OperationTarget, operation_target};
+use widl_script_rules::operation_target::{OperationTarget, operation_target};
 use widl_script_tree::{Row, ScriptTables, Statement};
 
 /// The numbers of steps blocks, by what they are for.

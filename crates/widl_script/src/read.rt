@@ -21,7 +21,7 @@ use widl_idl::Defs;
 use widl_lines::{ScriptFault, ScriptWords};
 use widl_overload::Accepted;
 use widl_script_reader::build;
-use widl_script_rules::least_break;
+use widl_script_rules::least_break::least_break;
 use widl_script_tree::Script;
 
 /// The script of words that break no rule.

@@ -19,7 +19,9 @@ use crate::functions::FunctionHead;
 use std::alloc::{AllocError, Global};
 use std::mem;
 use widl_lines::LineWords;
-use widl_script_tree::{ Function, LocalNames, Params, Row, Statement, StepLine, StepLines, StepsBlock, Target, };
+use widl_script_tree::{
+    Function, LocalNames, Params, Row, Statement, StepLine, StepLines, StepsBlock, Target,
+};
 use widl_script_words::{BlockWord, Reader, block_word_of};
 use widl_text::Items;
 

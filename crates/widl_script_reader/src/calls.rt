@@ -18,7 +18,11 @@ use widl_script_words::Reader;
 impl Nodes {
     /// A call.
     #[cycle(expression)]
-    pub(crate) fn call(&mut self, reader: &mut Reader<'_, '_>, callee: u32) -> Result<u32, AllocError>
+    pub(crate) fn call(
+        &mut self,
+        reader: &mut Reader<'_, '_>,
+        callee: u32,
+    ) -> Result<u32, AllocError>
         requires begins { terminal_ahead reader.old ≡ terminal.OpenParen }
         requires within { callee < length self.old.expressions }
         requires room { HasRoom 0 self.old reader.old }
@@ -83,7 +87,11 @@ impl Nodes {
 
     /// Further items, with a comma before each.
     #[cycle(expression)]
-    fn more_items(&mut self, reader: &mut Reader<'_, '_>, places: &mut Vec<u32>) -> Result<(), AllocError>
+    fn more_items(
+        &mut self,
+        reader: &mut Reader<'_, '_>,
+        places: &mut Vec<u32>,
+    ) -> Result<(), AllocError>
         requires room { HasRoom (length places.old.items) self.old reader.old }
         ensures grown { OnOk result (Widens self.old self.new) }
         ensures lists { OnOk result (Lists (part rule.MoreExpressions) [] more_signs self.new places.old.items places.new.items reader.old reader.new) }

@@ -26,7 +26,10 @@ pub(crate) struct FunctionHead {
 
 impl Nodes {
     /// The name and the parameters after `function`.
-    pub(crate) fn function_head(&mut self, reader: &mut Reader<'_, '_>) -> Result<FunctionHead, AllocError>
+    pub(crate) fn function_head(
+        &mut self,
+        reader: &mut Reader<'_, '_>,
+    ) -> Result<FunctionHead, AllocError>
         requires room { HasRoom 2 self.old reader.old }
         ensures grown { OnOk result (Widens self.old self.new) }
         ensures tree { IfOk result (λ head. HoldsFunction self.new head.name head.params reader.old reader.new) }
@@ -57,7 +60,11 @@ impl Nodes {
     }
 
     /// Further parameters, with a comma before each.
-    fn more_params(&mut self, reader: &mut Reader<'_, '_>, params: &mut Params) -> Result<(), AllocError>
+    fn more_params(
+        &mut self,
+        reader: &mut Reader<'_, '_>,
+        params: &mut Params,
+    ) -> Result<(), AllocError>
         requires room { HasRoom 0 self.old reader.old }
         ensures grown { OnOk result (Widens self.old self.new) }
         ensures lists { OnOk result (NameLists (part rule.MoreParameters) [] more_names self.new params.old params.new reader.old reader.new) }

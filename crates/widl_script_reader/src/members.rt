@@ -76,7 +76,10 @@ impl Nodes {
     }
 
     /// An expression that ends in a member; none where no such words are.
-    pub(crate) fn member(&mut self, reader: &mut Reader<'_, '_>) -> Result<Option<MemberOf>, AllocError>
+    pub(crate) fn member(
+        &mut self,
+        reader: &mut Reader<'_, '_>,
+    ) -> Result<Option<MemberOf>, AllocError>
         requires room { HasRoom 2 self.old reader.old }
         ensures grown { OnOk result (Widens self.old self.new) }
         ensures some { OnOk result (0 < length self.new.expressions) }

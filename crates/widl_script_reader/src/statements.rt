@@ -197,7 +197,10 @@ impl Nodes {
     }
 
     /// A statement of one line.
-    pub(crate) fn statement_line(&mut self, reader: &mut Reader<'_, '_>) -> Result<Statement, AllocError>
+    pub(crate) fn statement_line(
+        &mut self,
+        reader: &mut Reader<'_, '_>,
+    ) -> Result<Statement, AllocError>
         requires other { is_block_word (terminal_ahead reader.old) ≡ false }
         requires room { HasRoom 2 self.old reader.old }
         ensures grown { OnOk result (Widens self.old self.new) }

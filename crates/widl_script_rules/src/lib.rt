@@ -1,6 +1,6 @@
-//! The rules on the names, the places and the steps of a script over a list of definitions, asked of its words as
-//! they stand, before a table is made. The main contract is that of [`least_break`]: it answers the first of these
-//! rules that is broken, at its place.
+//! The rules on the names, the places and the steps of a script over a list of definitions, asked of its words as they
+//! stand, before a table is made. The main contract is that of [`least_break::least_break`]: it answers the first of
+//! these rules that is broken, at its place.
 #![tactic(auto)]
 
 mod arguments;
@@ -8,11 +8,11 @@ mod blocks;
 mod callbacks_and_pairs;
 mod fits;
 mod known_names;
-mod least_break;
+pub mod least_break;
 mod list_tables;
 mod misfits;
 mod names;
-mod operation_target;
+pub mod operation_target;
 mod overloads;
 mod owner_names;
 mod places;
@@ -29,6 +29,3 @@ mod step_walk;
 mod targets;
 mod unknown_names;
 mod wanted;
-
-pub use least_break::least_break;
-pub use operation_target::{OperationTarget, operation_target};
