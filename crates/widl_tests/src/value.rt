@@ -90,7 +90,7 @@ fn copies_and_drops_4096_levels(rt: HostRuntime) {
 }
 
 fn change_values(rt: &impl Abort, alloc: Global) {
-    let mut values = ManuallyDrop::new(IdlValues::new(alloc));
+    let mut values = IdlValues::new(alloc);
     sure(rt, values.push(IdlValue::Int(1)));
     assert!(rt; values.len() == 1);
     let former = ManuallyDrop::new(values.replace(0, IdlValue::Int(2)));
@@ -99,7 +99,7 @@ fn change_values(rt: &impl Abort, alloc: Global) {
 }
 
 fn change_entries(rt: &impl Abort, alloc: Global) {
-    let mut entries = ManuallyDrop::new(IdlEntries::new(alloc));
+    let mut entries = IdlEntries::new(alloc);
     sure(rt, entries.push((Units::new(alloc), IdlValue::Int(1))));
     assert!(rt; entries.len() == 1);
     let new = (Units::new(alloc), IdlValue::Int(2));
@@ -109,7 +109,7 @@ fn change_entries(rt: &impl Abort, alloc: Global) {
 }
 
 fn change_members(rt: &impl Abort, alloc: Global) {
-    let mut members = ManuallyDrop::new(IdlMembers::new(alloc));
+    let mut members = IdlMembers::new(alloc);
     sure(rt, members.push((0, 0, IdlValue::Int(1))));
     assert!(rt; members.len() == 1);
     let former = ManuallyDrop::new(members.replace(0, (0, 1, IdlValue::Int(2))));
@@ -118,7 +118,7 @@ fn change_members(rt: &impl Abort, alloc: Global) {
 }
 
 fn change_slots(rt: &impl Abort, alloc: Global) {
-    let mut slots = ManuallyDrop::new(IdlSlots::new(alloc));
+    let mut slots = IdlSlots::new(alloc);
     sure(rt, slots.push(None));
     assert!(rt; slots.len() == 1);
     let copy = ManuallyDrop::new(sure(rt, copy_slot(slots.at(0))));
@@ -130,7 +130,7 @@ fn change_slots(rt: &impl Abort, alloc: Global) {
 }
 
 fn copy_pairs(rt: &impl Abort, alloc: Global) {
-    let mut pairs = ManuallyDrop::new(IdlPairs::new(alloc));
+    let mut pairs = IdlPairs::new(alloc);
     let (key, value) = (IdlValue::Int(1), IdlValue::Int(2));
     let pair = ManuallyDrop::new(IdlPair { key, value });
     sure(rt, pairs.push(sure(rt, pair.copy())));

@@ -135,19 +135,22 @@ fn expect_types(
     );
 }
 
+/// A tuple of the set has three arguments, which are variadic.
+fn expect_variadic(rt: &impl Abort, set: &OverloadSet, place: usize) {
+    assert!(rt; place < set.len());
+    let opts = set.at(place).opts.as_slice();
+    let variadic = [Optionality::Variadic; 3];
+    expect(rt, opts == variadic.as_slice(), "variadic arguments");
+}
+
 #[test]
 fn copies_of_a_variadic_argument(rt: HostRuntime) {
     let defs = variadic_beside_two(&rt, rt.alloc());
     let set = set_for(&rt, rt.alloc(), &defs, &THE_OPERATION, 3);
+    expect(&rt, set.len() == 5, "the count of tuples");
     expect_types(&rt, &set, 4, 3, (long(), 3));
     expect_types(&rt, &set, 3, 2, (text(), 1));
-    assert!(rt; set.len() == 5);
-    let opts = set.at(4).opts.as_slice();
-    expect(
-        &rt,
-        opts == [Optionality::Variadic; 3].as_slice(),
-        "variadic arguments",
-    );
+    expect_variadic(&rt, &set, 4);
 }
 
 /// `undefined f(DOMString s, optional long a, optional long b);` and
