@@ -109,3 +109,14 @@ module _ (ifaces : List IfaceTerm) where
   have_none types h e p =
       let yes : any_pair indistinguishable types ≡ true = any_pair_here indistinguishable types p.first p.second p.one p.other p.follows p.one_is p.other_is (ap not p.indistinguishable) in
       let f : true ≡ false = sym yes ∙ decided types h ∙ e in (cc)
+
+  -- the kinds alone tell whether there are two that aren't distinguishable
+  pub same_pair : (xs ys : List TypeTerm) → All IsFlat xs → All IsFlat ys → map category xs ≡ map category ys → HaveIndistinguishablePair ifaces xs → HaveIndistinguishablePair ifaces ys
+  same_pair xs ys f g same p = go (indistinguishable_by ys) refl
+    where
+      by_kinds : indistinguishable_by xs ≡ indistinguishable_by ys
+      by_kinds = ap (λ kinds. any_pair clash kinds || any_pair (are_related ifaces) (filter_map interface_number kinds)) same
+
+      go : (b : Bool) → indistinguishable_by ys ≡ b → HaveIndistinguishablePair ifaces ys
+      go true e = have_pair ys g e
+      go false e = absurd (have_none xs f (by_kinds ∙ e) p)

@@ -10,3 +10,4 @@ mod TouchingSpans
 pub mod FlatMembers
 pub mod LaterAnnotations
 pub mod TypedefNotes
+pub mod OutlinedRules

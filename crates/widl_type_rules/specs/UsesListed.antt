@@ -2,6 +2,7 @@
 use Rattle.std.specs.Prelude.{◌≡◌, List, ◌++◌, map}
 use Rattle.widl_idl.specs.PlainTypes.{attribute_of, type_of}
 use Rattle.widl_idl.specs.Terms.{type_term}
+use Rattle.widl_names.specs.Extents.{outline}
 use Rattle.widl_overload.specs.rules.OnTypes.{UseTerm}
 use Rattle.widl_overload.specs.rules.TypeUses as plain
 use Rattle.widl_type_rules.specs.declared.resolved_uses.ResolvedUse.{ResolvedUse}
@@ -21,3 +22,7 @@ Adds old new uses = uses_listed new ≡ uses_listed old ++ uses
 -- the same with what it means there
 abbrev pub resolved_use : ResolvedUse → UseTerm
 resolved_use r = record { written = use_of r.written; meaning = type_term r.meaning }
+
+-- a type where it is written, with the outline of what it means there
+abbrev pub outlined : UseTerm → UseTerm
+outlined u = record { written = u.written; meaning = outline u.meaning }

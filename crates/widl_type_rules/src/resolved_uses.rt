@@ -5,14 +5,14 @@ ghost use Rattle.widl_idl.specs.PlainTrees.{plain_definitions};
 ghost use Rattle.widl_idl.specs.PlainTypes.{attribute_of, form_term, type_of};
 ghost use Rattle.widl_type_rules.specs.SettledUses.{are_none, is_settled, is_settled_form, is_settled_kind, is_settled_type};
 ghost use Rattle.widl_overload.specs.rules.OnTypes.{with_meaning};
-ghost use Rattle.widl_type_rules.specs.UsesListed.{resolved_use, use_of};
+ghost use Rattle.widl_type_rules.specs.UsesListed.{outlined, resolved_use, use_of};
 
 use crate::role_rules::{is_attribute_role, is_constant_role, takes_undefined};
 use crate::type_uses::TypeUse;
 use std::alloc::{AllocError, Global};
 use widl_idl::tree::{ExtendedAttribute, TypeForm, WrittenType};
 use widl_idl::{IdlType, Kind};
-use widl_names::{Annotations, MOST_TYPES, Meanings, Resolver};
+use widl_names::{Annotations, Meanings, Resolver};
 use widl_overload::TypeRole;
 
 /// A type as it is written, with what it means there.
@@ -20,7 +20,7 @@ use widl_overload::TypeRole;
 pub struct ResolvedUse<'a> {
     /// The type as it is written.
     pub written: TypeUse<'a>,
-    /// What it means.
+    /// The outline of what it means, which is all that the rules look into.
     pub meaning: IdlType,
 }
 
@@ -87,22 +87,21 @@ fn is_settled_kind(role: TypeRole, kind: Option<Kind>) -> bool
     }
 }
 
-/// A type with what it means.
+/// A type with the outline of what it means.
 ///
 /// # Errors
 ///
-/// Those of [`Resolver::resolve`] for at most [`MOST_TYPES`].
+/// Those of [`Resolver::outline`].
 pub fn resolve_use<'a>(
     alloc: Global,
     resolver: &Resolver<'_, 'a>,
     written: &TypeUse<'a>,
 ) -> Result<ResolvedUse<'a>, AllocError>
-    ensures { IfOk result (λ resolved. resolved_use resolved ≡ with_meaning (plain_definitions resolver.now) (use_of written.now)) }
+    ensures { IfOk result (λ resolved. resolved_use resolved ≡ outlined (with_meaning (plain_definitions resolver.now) (use_of written.now))) }
 {
     let outer = Annotations::of(written.outer);
     let own = Annotations::of(written.own);
-    let mut room = MOST_TYPES;
-    let meaning = resolver.resolve(alloc, &mut room, outer.followed_by(own), written.ty)?;
+    let meaning = resolver.outline(alloc, outer.followed_by(own), written.ty)?;
     Ok(ResolvedUse {
         written: *written,
         meaning,

@@ -35,7 +35,7 @@ use widl_refusals::{earlier_refusal, first};
 ///
 /// # Errors
 ///
-/// `AllocError` where there is no memory, and the errors of [`Resolver::resolve`].
+/// `AllocError` where there is no memory, and the errors of [`Resolver::outline`].
 pub fn find_in_types(
     alloc: Global,
     defs: &Defs,

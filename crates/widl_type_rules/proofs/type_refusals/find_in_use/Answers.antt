@@ -7,6 +7,7 @@ use Rattle.widl_refusals.specs.Refusals.{IsFirst}
 use Rattle.widl_type_rules.specs.SettledUses.{is_settled}
 use Rattle.widl_overload.specs.rules.OnTypes.{BreaksType, BreaksUse, type_rules}
 use Rattle.widl_type_rules.specs.UsesListed.{use_of}
+use Rattle.widl_type_rules.proofs.OutlinedRules.{first_of_outline}
 use Rattle.widl_type_rules.proofs.SettledUses.{no_type_rule}
 use Rattle.widl_type_rules.proofs.type_refusals.find_in_use.Goals as goal
 
@@ -16,6 +17,8 @@ returns-then-is_settled c = λ r b. no_type_rule (plain_definitions c.args.scope
 pub returns-in_ok-ty : goal.returns-in_ok-ty
 returns-in_ok-ty c =
     let ifaces = (defs_term c.args.defs.now).ifaces in
+    let definitions = plain_definitions c.resolver-resolver.result.now in
     let found = c.find_in_type-found.result in
-    subst (λ ds. IfOk found (λ f. IsFirst (λ which. BreaksUse ifaces (plain_definitions ds) which (use_of c.args.written.now)) type_rules f)) c.resolver-resolver.ensures
-    (subst (λ r. IfOk found (λ f. IsFirst (λ which. BreaksType ifaces (plain_definitions c.resolver-resolver.result.now) which r) type_rules f)) c.in_ok-ty.ensures c.find_in_type-found.ensures)
+    let written = use_of c.args.written.now in
+    subst (λ ds. IfOk found (λ f. IsFirst (λ which. BreaksUse ifaces (plain_definitions ds) which written) type_rules f)) c.resolver-resolver.ensures
+    (first_of_outline ifaces definitions found written (subst (λ r. IfOk found (λ f. IsFirst (λ which. BreaksType ifaces definitions which r) type_rules f)) c.in_ok-ty.ensures c.find_in_type-found.ensures))
