@@ -8,3 +8,4 @@ pub mod OwnerRefusals
 pub mod MemberNodes
 pub mod TypedMembers
 pub mod MemberRefusals
+pub mod Outlines

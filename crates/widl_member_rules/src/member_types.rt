@@ -8,8 +8,9 @@ ghost use Rattle.widl_idl.specs.Terms.{type_term};
 ghost use Rattle.widl_idl.specs.Nodes.{MemberNode, nodes_of};
 ghost use Rattle.widl_idl.specs.WrittenTypes.{meaning_of_annotated};
 ghost use Rattle.widl_names.specs.Listings.{listed_definitions};
+ghost use Rattle.widl_overload.specs.rules.MemberRules.{is_promise};
 ghost use Rattle.widl_overload.specs.rules.OnMembers.{BreaksNode, NodesBreak, member_rules};
-ghost use Rattle.widl_overload.specs.rules.TypeRules.{IsOtherStringifier, IsWritablePromise};
+ghost use Rattle.widl_overload.specs.rules.TypeRules.{IsOtherStringifier, IsWritablePromise, is_unit_string};
 ghost use Rattle.widl_member_rules.specs.MemberTypes.{member_nodes, own_members};
 ghost use Rattle.widl_refusals.specs.Refusals.{IsFirst};
 
@@ -18,7 +19,7 @@ use crate::promise_overloads::is_promise;
 use std::alloc::{AllocError, Global};
 use widl_idl::tree::{Attribute, AttributeKind, Definition, DefinitionKind, Member, MemberKind};
 use widl_idl::{IdlType, Refusal, Violation};
-use widl_names::{MOST_TYPES, Resolver};
+use widl_names::Resolver;
 use widl_overload::ValidityRule;
 use widl_refusals::{earlier_refusal, first, is_unit_string};
 
@@ -26,7 +27,7 @@ use widl_refusals::{earlier_refusal, first, is_unit_string};
 ///
 /// # Errors
 ///
-/// Those of [`Resolver::resolve`] for at most [`MOST_TYPES`].
+/// Those of [`Resolver::outline`].
 pub fn find_in_member_types<'a>(
     alloc: Global,
     resolver: &Resolver<'_, 'a>,
@@ -147,14 +148,15 @@ fn other_stringifier<'a>(
     }
 }
 
-/// What an attribute's type means after its own annotations alone.
+/// The outline of what an attribute's type means after its own annotations alone. It tells whether that is a
+/// promise, and whether it is a string.
 fn own_type<'a>(
     alloc: Global,
     resolver: &Resolver<'_, 'a>,
     attribute: &'a Attribute,
 ) -> Result<IdlType, AllocError>
-    ensures { IfOk result (λ t. type_term t ≡ meaning_of_annotated (plain_definitions resolver.now) [] (annotated_of attribute.now.ty)) }
+    ensures promise { IfOk result (λ t. is_promise (type_term t) ≡ is_promise (meaning_of_annotated (plain_definitions resolver.now) [] (annotated_of attribute.now.ty))) }
+    ensures string { IfOk result (λ t. is_unit_string (type_term t) ≡ is_unit_string (meaning_of_annotated (plain_definitions resolver.now) [] (annotated_of attribute.now.ty))) }
 {
-    let mut room = MOST_TYPES;
-    resolver.resolve_with(alloc, &mut room, &[], &attribute.ty)
+    resolver.outline_annotated(alloc, &attribute.ty)
 }

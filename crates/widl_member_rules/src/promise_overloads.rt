@@ -13,7 +13,7 @@ use crate::owner_members::operation_text;
 use std::alloc::{AllocError, Global};
 use widl_idl::tree::{Member, MemberKind, Operation};
 use widl_idl::{IdlType, Violation, earlier_violation};
-use widl_names::{MOST_TYPES, OperationNames, Resolver, is_static};
+use widl_names::{OperationNames, Resolver, is_static};
 
 /// The names of operations, by what they return.
 #[derive(Drop)]
@@ -29,7 +29,7 @@ struct ReturnedKinds<'a> {
 ///
 /// # Errors
 ///
-/// Those of [`Resolver::resolve`].
+/// Those of [`Resolver::outline_alone`].
 pub fn first_mixing_promises<'a>(
     alloc: Global,
     resolver: &Resolver<'_, 'a>,
@@ -69,8 +69,7 @@ fn returns_promise<'a>(
 ) -> Result<bool, AllocError>
     ensures { IfOk result (λ promise. promise ≡ returns_promise (plain_definitions resolver.now) (operation_of operation.now)) }
 {
-    let mut room = MOST_TYPES;
-    let returned = resolver.resolve_alone(alloc, &mut room, &operation.result)?;
+    let returned = resolver.outline_alone(alloc, &operation.result)?;
     Ok(is_promise(&returned))
 }
 
