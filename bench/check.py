@@ -73,6 +73,11 @@ def doubled(times):
     return definitions, written
 
 
+def unions(members, times):
+    """Typedefs of unions, each of so many sequences of the typedef before it."""
+    return "typedef long T0;" + "".join("typedef (" + " or ".join([f"sequence<T{number}>"] * members) + f") T{number + 1};" for number in range(times))
+
+
 def hostile():
     """The sets, and for those with mixins or typedefs that double the bytes of work that these bring."""
     operations = "".join(f"undefined f{number}();" for number in range(1000))
@@ -106,6 +111,10 @@ def hostile():
         "20 names of 64 overloads of 64 arguments": pack(["".join(numbered("interface I{this}{{}};", 64))] + numbered("namespace N{this}{{" + overloads + "}};", 20)),
         "an ellipsis beside 30,000 arguments": pack(["namespace N {undefined f(any... a);undefined f(" + ",".join(numbered("any a{this}", 30_000)) + ");};"]),
         "30,000 ellipses beside 10,000 arguments": pack(["namespace N {" + "undefined f(any... a);" * 30_000 + "undefined f(" + ",".join(numbered("any a{this}", 10_000)) + ");};"]),
+        "4 typedefs of unions of 100 sequences of the one before": [unions(100, 4)],
+        "the same of 40": [unions(40, 4)],
+        "3 typedefs of unions of 1,000 sequences of the one before": [unions(1000, 3)],
+        "the 4 in an attribute": [unions(100, 4) + "interface A{attribute sequence<T4> a;};"],
         "`?` after `?`, through 17 typedefs": pack(["typedef long? T0;"] + numbered("typedef T{this}? T{next};", 16)),
         "a typedef's name of 100,000 bytes, through another in 5,000 arguments": pack(
             [f"typedef long {long_name};typedef {long_name} T;namespace N{{" + "".join(numbered("undefined f{this}(T a);", 5_000)) + "};"]),

@@ -123,6 +123,54 @@ const DOUBLED: Parts = &[
     ("};", 1),
 ];
 
+/// Four typedefs of unions of 100 sequences of the one before, which mean 202,020,201 types.
+const HUNDREDS: Parts = &[
+    ("typedef long T0;\n", 1),
+    ("typedef (sequence<T0>", 1),
+    (" or sequence<T0>", 99),
+    (") T1;\n", 1),
+    ("typedef (sequence<T1>", 1),
+    (" or sequence<T1>", 99),
+    (") T2;\n", 1),
+    ("typedef (sequence<T2>", 1),
+    (" or sequence<T2>", 99),
+    (") T3;\n", 1),
+    ("typedef (sequence<T3>", 1),
+    (" or sequence<T3>", 99),
+    (") T4;\n", 1),
+];
+
+/// The same of 40, which mean 5,251,281.
+const FORTIES: Parts = &[
+    ("typedef long T0;\n", 1),
+    ("typedef (sequence<T0>", 1),
+    (" or sequence<T0>", 39),
+    (") T1;\n", 1),
+    ("typedef (sequence<T1>", 1),
+    (" or sequence<T1>", 39),
+    (") T2;\n", 1),
+    ("typedef (sequence<T2>", 1),
+    (" or sequence<T2>", 39),
+    (") T3;\n", 1),
+    ("typedef (sequence<T3>", 1),
+    (" or sequence<T3>", 39),
+    (") T4;\n", 1),
+];
+
+/// Three of 1,000, which mean 2,002,002,001.
+const THOUSANDS: Parts = &[
+    ("typedef long T0;\n", 1),
+    ("typedef (sequence<T0>", 1),
+    (" or sequence<T0>", 999),
+    (") T1;\n", 1),
+    ("typedef (sequence<T1>", 1),
+    (" or sequence<T1>", 999),
+    (") T2;\n", 1),
+    ("typedef (sequence<T2>", 1),
+    (" or sequence<T2>", 999),
+    (") T3;\n", 1),
+];
+
 /// Eight million members, all of which are mixed in.
 const MIXED_IN: Parts = &[
     ("interface mixin M {\n", 1),
@@ -154,6 +202,9 @@ fn sets_of_any_size_have_their_answer(rt: HostRuntime) -> Result<(), Fail> {
         (LONG_NAME, Status::Done, "accepted\n"),
         (LONG_TEXT, Status::Done, "accepted\n"),
         (DOUBLED, Status::Done, "accepted\n"),
+        (HUNDREDS, Status::Refused, "refused 24 0 25\n"),
+        (FORTIES, Status::Refused, "refused 24 0 25\n"),
+        (THOUSANDS, Status::Refused, "refused 24 0 25\n"),
         (MIXED_IN, Status::Refused, "refused 48 0 53640\n"),
         (LONG_OPERATION, Status::Done, "accepted\n"),
         (ELLIPSIS, Status::Refused, "refused 35 0 47 other 0 24\n"),
