@@ -1,7 +1,10 @@
 -- The rules on types ask no more of what a type means than its outline tells.
 use Rattle.std.proofs.Common.{◌≡◌, ℕ, ◌+◌, ◌<◌, ◌++◌, Bool, true, ◌||◌, List, [], ◌∷◌, map, nat_eq, not, Option, None, Some, refl, sym, ap, subst, ◌∙◌}
 use Rattle.std.proofs.lemmas.List.{map-append}
+use Rattle.std.proofs.lemmas.Result.{IfOk-weaker}
+use Rattle.std.specs.Prelude.{IfOk, Result}
 use Rattle.std.specs.List.{list_any}
+use Rattle.widl_idl.specs.declared.refusal.Refusal.{Refusal}
 use Rattle.widl_idl.specs.declared.violation.Violation.{Violation}
 use Rattle.widl_idl.specs.DefinitionTerms.{IfaceTerm}
 use Rattle.widl_idl.specs.First.{Somewhere}
@@ -17,10 +20,13 @@ use Rattle.widl_names.specs.Extents.{made_members, outline}
 use Rattle.widl_overload.specs.declared.category.Category.{Category}
 use Rattle.widl_overload.specs.declared.validity_rule.ValidityRule.{ValidityRule}
 use Rattle.widl_overload.specs.declared.validity_rule.ValidityRule.TheVariants as rule
-use Rattle.widl_overload.specs.rules.OnTypes.{BreaksType}
-use Rattle.widl_overload.specs.rules.TypeUses.{TypeUse}
+use Rattle.widl_overload.specs.rules.OnTypes.{BreaksType, BreaksUse, type_rules, with_meaning}
+use Rattle.widl_overload.specs.rules.TypeUses.{TypeUse, meaning_of_use}
 use Rattle.widl_overload.specs.rules.TypeRules.{is_annotated, is_constant_type, is_copied, is_integer, is_misplaced, is_never_nullable, is_nullable_dictionary, is_unit_string, is_wrongly_nullable, members_of_union, without_nullable}
 use Rattle.widl_overload.specs.sets.Distinct.{category, is_dictionary}
+use Rattle.widl_refusals.specs.Refusals.{IsFirst}
+use Rattle.widl_refusals.proofs.FirstRefusals.{same_breaks}
+use Rattle.widl_type_rules.specs.UsesListed.{outlined}
 use Rattle.widl_type_rules.proofs.FlatMembers.{members_flat}
 use Rattle.widl_type_rules.proofs.IndistinguishablePairs.{same_pair}
 
@@ -173,8 +179,18 @@ module _ (ifaces : List IfaceTerm) (definitions : List PlainDefinition) where
   alike_breaks w t u same other s b = b
 
   -- a type breaks a rule as its outline does
-  pub outline_breaks : (w : TypeUse) (t : TypeTerm) (which : ValidityRule) (s : Violation) → BreaksType ifaces definitions which (record { written = w; meaning = outline t }) s → BreaksType ifaces definitions which (record { written = w; meaning = t }) s
+  outline_breaks : (w : TypeUse) (t : TypeTerm) (which : ValidityRule) (s : Violation) → BreaksType ifaces definitions which (record { written = w; meaning = outline t }) s → BreaksType ifaces definitions which (record { written = w; meaning = t }) s
   outline_breaks w t = alike_breaks w (outline t) t (alike_outline t)
 
-  pub breaks_outline : (w : TypeUse) (t : TypeTerm) (which : ValidityRule) (s : Violation) → BreaksType ifaces definitions which (record { written = w; meaning = t }) s → BreaksType ifaces definitions which (record { written = w; meaning = outline t }) s
+  breaks_outline : (w : TypeUse) (t : TypeTerm) (which : ValidityRule) (s : Violation) → BreaksType ifaces definitions which (record { written = w; meaning = t }) s → BreaksType ifaces definitions which (record { written = w; meaning = outline t }) s
   breaks_outline w t = alike_breaks w t (outline t) (alike_back (outline t) t (alike_outline t))
+
+  -- so the first refusal by what it breaks is that by what its outline breaks
+  pub first_of_outline : {E : Type 0} (found : Result (Option Refusal) E) (written : TypeUse) → IfOk found (λ f. IsFirst (λ which. BreaksType ifaces definitions which (outlined (with_meaning definitions written))) type_rules f) → IfOk found (λ f. IsFirst (λ which. BreaksUse ifaces definitions which written) type_rules f)
+  first_of_outline found written outline_first =
+      let meant = meaning_of_use definitions written in
+      IfOk-weaker found
+      (λ f. IsFirst (λ which. BreaksType ifaces definitions which (outlined (with_meaning definitions written))) type_rules f)
+      (λ f. IsFirst (λ which. BreaksUse ifaces definitions which written) type_rules f)
+      (λ f first. same_breaks (λ which. BreaksType ifaces definitions which (outlined (with_meaning definitions written))) (λ which. BreaksUse ifaces definitions which written) type_rules f (outline_breaks written meant) (breaks_outline written meant) first)
+      outline_first

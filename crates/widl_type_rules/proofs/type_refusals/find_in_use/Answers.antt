@@ -1,16 +1,13 @@
 use Rattle.std.proofs.Common.{sym, subst, ap, ◌∙◌}
-use Rattle.std.proofs.lemmas.Result.{IfOk-weaker}
 use Rattle.std.specs.Prelude.{IfOk}
 use Rattle.widl_idl.specs.DefinitionTerms.{defs_term}
 use Rattle.widl_idl.specs.FirstRefusal.{violation_of}
 use Rattle.widl_idl.specs.PlainTrees.{plain_definitions}
-use Rattle.widl_overload.specs.rules.TypeUses.{meaning_of_use}
 use Rattle.widl_refusals.specs.Refusals.{IsFirst}
 use Rattle.widl_type_rules.specs.SettledUses.{is_settled}
-use Rattle.widl_overload.specs.rules.OnTypes.{BreaksType, BreaksUse, type_rules, with_meaning}
-use Rattle.widl_refusals.proofs.FirstRefusals.{same_breaks}
-use Rattle.widl_type_rules.specs.UsesListed.{outlined, use_of}
-use Rattle.widl_type_rules.proofs.OutlinedRules.{breaks_outline, outline_breaks}
+use Rattle.widl_overload.specs.rules.OnTypes.{BreaksType, BreaksUse, type_rules}
+use Rattle.widl_type_rules.specs.UsesListed.{use_of}
+use Rattle.widl_type_rules.proofs.OutlinedRules.{first_of_outline}
 use Rattle.widl_type_rules.proofs.SettledUses.{no_type_rule}
 use Rattle.widl_type_rules.proofs.type_refusals.find_in_use.Goals as goal
 
@@ -23,11 +20,5 @@ returns-in_ok-ty c =
     let definitions = plain_definitions c.resolver-resolver.result.now in
     let found = c.find_in_type-found.result in
     let written = use_of c.args.written.now in
-    let meant = meaning_of_use definitions written in
-    let outline_first = subst (λ r. IfOk found (λ f. IsFirst (λ which. BreaksType ifaces definitions which r) type_rules f)) c.in_ok-ty.ensures c.find_in_type-found.ensures in
     subst (λ ds. IfOk found (λ f. IsFirst (λ which. BreaksUse ifaces (plain_definitions ds) which written) type_rules f)) c.resolver-resolver.ensures
-    (IfOk-weaker found
-    (λ f. IsFirst (λ which. BreaksType ifaces definitions which (outlined (with_meaning definitions written))) type_rules f)
-    (λ f. IsFirst (λ which. BreaksUse ifaces definitions which written) type_rules f)
-    (λ f first. same_breaks (λ which. BreaksType ifaces definitions which (outlined (with_meaning definitions written))) (λ which. BreaksUse ifaces definitions which written) type_rules f (outline_breaks ifaces definitions written meant) (breaks_outline ifaces definitions written meant) first)
-    outline_first)
+    (first_of_outline ifaces definitions found written (subst (λ r. IfOk found (λ f. IsFirst (λ which. BreaksType ifaces definitions which r) type_rules f)) c.in_ok-ty.ensures c.find_in_type-found.ensures))
