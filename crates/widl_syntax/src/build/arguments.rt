@@ -1,6 +1,6 @@
 //! Arguments.
 
-ghost use Rattle.std.specs.Prelude.{◌≡◌, ◌≢◌, ◌++◌, [], List, IfOk};
+ghost use Rattle.std.specs.Prelude.{◌≡◌, ◌≢◌, ◌++◌, List, IfOk};
 ghost use Rattle.widl_idl.specs.declared.tree.types.AnnotatedType.{AnnotatedType as TypeOfTree};
 ghost use Rattle.widl_lex.specs.Tokens.{Lexeme};
 ghost use Rattle.widl_grammar.specs.declared.rule.Rule.TheVariants as rule;
@@ -36,23 +36,19 @@ impl<'t, 's> Reader<'t, 's> {
         }
         let commas = self.separators_ahead(Terminal::Comma, Terminal::CloseParen);
         let mut arguments = Arguments::with_room(self.alloc(), commas.saturating_add(1))?;
-        match self.first_arguments(&mut arguments) {
-            Ok(()) => Ok(arguments),
-            Err(error) => {
-                drop(arguments);
-                Err(error)
-            }
-        }
-    }
-
-    /// Adds the first argument and those after it.
-    fn first_arguments(&mut self, arguments: &mut Arguments) -> Result<(), AllocError>
-        requires { arguments.old ≡ [] }
-        ensures { IfOk result (λ _. Reads (part rule.Argument ++ part rule.MoreArguments) (separated terminal.Comma argument arguments.new) self.old self.new) }
-    {
-        arguments.push(self.argument()?)?;
-        self.more_arguments(arguments)?;
-        Ok(())
+        let Ok(first) = self.argument() else {
+            drop(arguments);
+            return Err(AllocError);
+        };
+        let Ok(()) = arguments.push(first) else {
+            drop(arguments);
+            return Err(AllocError);
+        };
+        let Ok(()) = self.more_arguments(&mut arguments) else {
+            drop(arguments);
+            return Err(AllocError);
+        };
+        Ok(arguments)
     }
 
     /// Adds the arguments after the first one.

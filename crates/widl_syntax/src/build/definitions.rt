@@ -120,9 +120,16 @@ impl<'t, 's> Reader<'t, 's> {
         ensures reads { IfOk result (λ read. Reads (token terminal.Identifier ++ part rule.Parent ++ token terminal.OpenBrace ++ part rule.InterfaceMembers ++ token terminal.CloseBrace ++ token terminal.Semicolon) (interface_rest read) self.old self.new) }
     {
         let name = self.name()?;
-        let parent = self.parent()?;
+        let Ok(parent) = self.parent() else {
+            drop(name);
+            return Err(AllocError);
+        };
         let _open = self.take();
-        let members = self.members(MemberList::Interface)?;
+        let Ok(members) = self.members(MemberList::Interface) else {
+            drop(name);
+            drop(parent);
+            return Err(AllocError);
+        };
         let _close = self.take();
         let _semicolon = self.take();
         Ok(Interface {

@@ -1,11 +1,11 @@
 //! Dictionaries and enumerations.
 
-ghost use Rattle.std.specs.Prelude.{◌≡◌, ◌≢◌, ◌++◌, [], IfOk, List, true, false};
+ghost use Rattle.std.specs.Prelude.{◌≡◌, ◌≢◌, ◌++◌, IfOk, List, true, false};
 ghost use Rattle.widl_grammar.specs.declared.rule.Rule.TheVariants as rule;
 ghost use Rattle.widl_grammar.specs.declared.terminal.Terminal.TheVariants as terminal;
 ghost use Rattle.widl_idl.specs.declared.tree.enumerations.EnumerationValue.{EnumerationValue};
 ghost use Rattle.widl_syntax.specs.Reading.{Reads, part, token, terminal_ahead};
-ghost use Rattle.widl_syntax.specs.Signs.{all_signs, after, separated, ◌⧺◌};
+ghost use Rattle.widl_syntax.specs.Signs.{all_signs, after, ◌⧺◌};
 ghost use Rattle.widl_syntax.specs.UnparsedDefinitions.{dictionary, dictionary_member, dictionary_member_rest, enumeration, enumeration_value};
 ghost use Rattle.widl_syntax.specs.UnparsedNames.{word_if};
 
@@ -25,9 +25,16 @@ impl<'t, 's> Reader<'t, 's> {
     {
         let _word = self.take();
         let name = self.name()?;
-        let parent = self.parent()?;
+        let Ok(parent) = self.parent() else {
+            drop(name);
+            return Err(AllocError);
+        };
         let _open = self.take();
-        let members = self.dictionary_members()?;
+        let Ok(members) = self.dictionary_members() else {
+            drop(name);
+            drop(parent);
+            return Err(AllocError);
+        };
         let _close = self.take();
         let _semicolon = self.take();
         Ok(Dictionary {
@@ -155,7 +162,17 @@ impl<'t, 's> Reader<'t, 's> {
         let name = self.name()?;
         let _open = self.take();
         let mut values = EnumerationValues::new(self.alloc());
-        let Ok(trailing_comma) = self.first_values(&mut values) else {
+        let Ok(first) = self.enumeration_value() else {
+            drop(name);
+            drop(values);
+            return Err(AllocError);
+        };
+        let Ok(()) = values.push(first) else {
+            drop(name);
+            drop(values);
+            return Err(AllocError);
+        };
+        let Ok(trailing_comma) = self.more_values(&mut values) else {
             drop(name);
             drop(values);
             return Err(AllocError);
@@ -167,16 +184,6 @@ impl<'t, 's> Reader<'t, 's> {
             values,
             trailing_comma,
         })
-    }
-
-    /// Adds the first value and those after it, and tells whether a comma stands after the last.
-    fn first_values(&mut self, values: &mut EnumerationValues) -> Result<bool, AllocError>
-        requires { values.old ≡ [] }
-        ensures { IfOk result (λ trailing_comma. Reads (token terminal.String ++ part rule.EnumMore) (separated terminal.Comma enumeration_value values.new ⧺ word_if trailing_comma terminal.Comma) self.old self.new) }
-    {
-        values.push(self.enumeration_value()?)?;
-        let trailing_comma = self.more_values(values)?;
-        Ok(trailing_comma)
     }
 
     /// Adds the values after the first one, and tells whether a comma stands after the last.

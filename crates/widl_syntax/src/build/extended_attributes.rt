@@ -1,6 +1,6 @@
 //! Extended attributes.
 
-ghost use Rattle.std.specs.Prelude.{◌≡◌, ◌≤◌, [], IfOk, length};
+ghost use Rattle.std.specs.Prelude.{◌≤◌, IfOk, length};
 ghost use Rattle.widl_grammar.specs.declared.rule.Rule.TheVariants as rule;
 ghost use Rattle.widl_grammar.specs.declared.terminal.Terminal.TheVariants as terminal;
 ghost use Rattle.widl_syntax.specs.Reading.{Reads, Appends, part};
@@ -23,8 +23,18 @@ impl<'t, 's> Reader<'t, 's> {
         if self.take_if(Terminal::OpenBracket).is_none() {
             return Ok(attributes);
         }
-        attributes.push(self.extended_attribute()?)?;
-        self.more_extended_attributes(&mut attributes)?;
+        let Ok(first) = self.extended_attribute() else {
+            drop(attributes);
+            return Err(AllocError);
+        };
+        let Ok(()) = attributes.push(first) else {
+            drop(attributes);
+            return Err(AllocError);
+        };
+        let Ok(()) = self.more_extended_attributes(&mut attributes) else {
+            drop(attributes);
+            return Err(AllocError);
+        };
         let _close = self.take();
         Ok(attributes)
     }
@@ -78,37 +88,14 @@ impl<'t, 's> Reader<'t, 's> {
     {
         let mut tokens = SourceTokens::new(self.alloc());
         let mut stack = Vec::new(self.alloc());
-        let read = self.machine_tokens(&mut stack, &mut tokens);
-        drop(stack);
-        match read {
-            Ok(()) => Ok(tokens),
-            Err(error) => {
-                drop(tokens);
-                Err(error)
-            }
-        }
-    }
-
-    /// Adds the tokens of an attribute after its name to none, by a machine whose stack is empty.
-    fn machine_tokens(
-        &mut self,
-        stack: &mut Vec<Frame<Terminal, Rule>>,
-        tokens: &mut SourceTokens,
-    ) -> Result<(), AllocError>
-        requires stack { stack.old.items ≡ [] }
-        requires tokens { tokens.old ≡ [] }
-        ensures reads { IfOk result (λ _. Reads (part rule.ExtendedAttributeRest) (attribute_rest tokens.new) self.old self.new) }
-        ensures shorter { IfOk result (λ _. length self.new ≤ length self.old) }
-    {
         stack.push(Frame::Open(Rule::ExtendedAttributeRest, 1))?;
         for _ in 0..self.left() {
-            if !next_token(stack, self.ahead_or_end())? {
-                return Ok(());
+            if !next_token(&mut stack, self.ahead_or_end())? {
+                return Ok(tokens);
             }
-            let token = self.source_token()?;
-            tokens.push(token)?;
+            tokens.push(self.source_token()?)?;
         }
-        let _over = next_token(stack, None)?;
-        Ok(())
+        let _over = next_token(&mut stack, None)?;
+        Ok(tokens)
     }
 }

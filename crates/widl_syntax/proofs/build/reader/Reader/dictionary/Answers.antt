@@ -8,8 +8,8 @@ pub returns-clause-reads : goal.returns-clause-reads
 returns-clause-reads c = by_only rule.Dictionary refl
     (and_then (took terminal.Dictionary c.take-word.ensures)
     (and_then (took_identifier c.in_ok-name.ensures)
-    (and_then c.in_ok-parent.ensures
+    (and_then c.in-Ok.ensures
     (and_then (took terminal.OpenBrace c.take-open.ensures)
-    (and_then c.in_ok-members.ensures
+    (and_then c.in-Ok-dictionary_members.ensures
     (and_then (took terminal.CloseBrace c.take-close.ensures)
     (took terminal.Semicolon c.take-semicolon.ensures)))))))

@@ -16,10 +16,10 @@ returns-then-is_none-clause-reads c =
 pub returns-clause-reads : goal.returns-clause-reads
 returns-clause-reads c =
     let found = taken_as terminal.OpenBracket _ _ c.take_if.result c.is_none.result c.is_none.ensures c.if-is_none.false c.take_if.ensures in
-    let one : c.push.new.self ≡ c.in_ok-extended_attribute.field-0 ∷ [] = c.in_ok-push.ensures.ok ∙ ap (λ l. l ++ c.in_ok-extended_attribute.field-0 ∷ []) c.new-attributes.ensures in
-    let first = first_item one c.in_ok-more_extended_attributes.ensures.appends in
+    let one : c.push.new.self ≡ c.in-Ok.first ∷ [] = c.in-Ok-push.ensures.ok ∙ ap (λ l. l ++ c.in-Ok.first ∷ []) c.new-attributes.ensures in
+    let first = first_item one c.in-Ok-more_extended_attributes.ensures.appends in
     by_row rule.ExtendedAttributeList terminal.OpenBracket found.1.ahead refl refl
-    (in_brackets first.0 c.in_ok-extended_attribute.field-0 first.1
+    (in_brackets first.0 c.in-Ok.first first.1
     (and_then (took terminal.OpenBracket found.1.taken)
-    (and_then (separated_items terminal.Comma one c.in_ok-extended_attribute.ensures.reads c.in_ok-more_extended_attributes.ensures.appends)
+    (and_then (separated_items terminal.Comma one c.in-Ok.ensures.reads c.in-Ok-more_extended_attributes.ensures.appends)
     (took terminal.CloseBracket c.take-close.ensures))))
