@@ -2,7 +2,7 @@
 
 use widl_first::{Keyed, first_of};
 
-#[derive(Clone, Copy, Debug, PartialEq, Eq)]
+#[derive(Clone, Copy, PartialEq, Eq)]
 struct Spot {
     line: u32,
     column: u32,
@@ -18,13 +18,26 @@ impl Keyed for Spot {
     }
 }
 
-fn at(line: u32, column: u32) -> Option<Spot> {
-    Some(Spot { line, column })
+/// Whether this line and column are those of the first of two spots, of which the former may be none.
+fn is_first(former: Option<(u32, u32)>, line: u32, column: u32) -> bool {
+    let former = former.map(|(line, column)| Spot { line, column });
+    let latter = Spot { line: 1, column: 9 };
+    first_of(former, Some(latter)) == Some(Spot { line, column })
 }
+
+/// Spots, or none, and the first of each and of column 9 of line 1.
+const FIRSTS: [(Option<(u32, u32)>, u32, u32); 3] = [
+    (Some((2, 1)), 1, 9),
+    (Some((1, 3)), 1, 3),
+    (None, 1, 9),
+];
 
 #[test]
 fn the_lower_key_is_first(rt: HostRuntime) {
-    assert_eq!(rt; first_of(at(2, 1), at(1, 9)), at(1, 9));
-    assert_eq!(rt; first_of(at(1, 3), at(1, 9)), at(1, 3));
-    assert_eq!(rt; first_of(None, at(1, 9)), at(1, 9));
+    for (former, line, column) in &FIRSTS {
+        assert!(rt;
+            is_first(*former, *line, *column),
+            "line {line}, column {column}"
+        );
+    }
 }

@@ -1,96 +1,90 @@
 //! What no clause says: that memory is found where there is some, and what the disk gives.
 
-use std::alloc::{AllocError, Global};
+use crate::shared::{expect, sure};
+use std::alloc::Global;
 use std::fs;
 use std::mem::ManuallyDrop;
 use std::process::Abort;
-use std::test::Fail;
 use widl_folder::{
-    DiskFolder, FetchError, Files, Folder, MemoryFolder, NamedFile, ReadFailed, Started,
-    SureFolder, fetch,
+    DiskFolder, FetchError, Files, Folder, MemoryFolder, NamedFile, Started, SureFolder, fetch,
 };
 use widl_sink::Numbers;
 
-fn file_of(alloc: Global, name: &str, text: &str) -> Result<NamedFile, AllocError> {
-    let name = String::from_str(alloc, name)?;
-    let bytes = Vec::from_slice(alloc, text.as_bytes())?;
-    Ok(NamedFile::new(name, bytes))
+fn file_of(rt: &impl Abort, alloc: Global, name: &str, text: &str) -> NamedFile {
+    let name = sure(rt, String::from_str(alloc, name));
+    NamedFile::new(name, sure(rt, Vec::from_slice(alloc, text.as_bytes())))
 }
 
-fn two_files(alloc: Global) -> Result<Files, AllocError> {
-    let mut files = ManuallyDrop::new(Files::new(alloc));
-    files.push(file_of(alloc, "a", "first")?)?;
-    files.push(file_of(alloc, "a", "second")?)?;
-    Ok(ManuallyDrop::into_inner(files))
-}
-
-/// A fetch gives these bytes.
-fn assert_fetch<F: Folder>(
-    rt: &impl Abort,
-    alloc: Global,
-    folder: &mut F,
-    name: &str,
-    bytes: &[u8],
-) {
-    let fetched = ManuallyDrop::new(fetch(alloc, folder, name));
-    assert!(rt;
-        matches!(&*fetched, Ok(found) if found.as_slice() == bytes),
-        "{name}"
-    );
-}
-
-/// Puts a file of the name b in the place of the second one.
-fn replace_second(rt: &impl Abort, files: &mut Files, by: NamedFile) {
-    assert!(rt; files.len() == 2);
-    let former = ManuallyDrop::new(files.replace(1, by));
-    assert_eq!(rt; former.bytes(), b"second".as_slice());
-    assert_eq!(rt; files.at(1).name(), "b");
+/// Files of these names, the first and the second.
+fn files_of(rt: &impl Abort, alloc: Global) -> Files {
+    let mut files = Files::new(alloc);
+    sure(rt, files.push(file_of(rt, alloc, "a", "first")));
+    sure(rt, files.push(file_of(rt, alloc, "a", "second")));
+    files
 }
 
 /// The two files, of which the second has another name and other bytes.
-fn two_names(rt: &impl Abort, alloc: Global) -> Result<Files, AllocError> {
-    let mut files = ManuallyDrop::new(two_files(alloc)?);
-    replace_second(rt, &mut files, file_of(alloc, "b", "third")?);
-    Ok(ManuallyDrop::into_inner(files))
+fn two_names(rt: &impl Abort, alloc: Global) -> Files {
+    let mut files = files_of(rt, alloc);
+    assert!(rt; files.len() == 2);
+    let former = files.replace(1, file_of(rt, alloc, "b", "third"));
+    expect(
+        rt,
+        former.bytes() == b"second".as_slice(),
+        "the former file",
+    );
+    expect(rt, files.at(1).name() == "b", "the new name");
+    files
+}
+
+/// What a fetch gives: the bytes of a file, or why there are none.
+fn expect_fetch<F: Folder>(rt: &impl Abort, alloc: Global, folder: &mut F, name: &str, want: &str) {
+    let fetched = ManuallyDrop::new(fetch(alloc, folder, name));
+    let found = match &*fetched {
+        Ok(bytes) => bytes.as_slice(),
+        Err(FetchError::Missing) => b"(missing)".as_slice(),
+        Err(FetchError::Failed) => b"(failed)".as_slice(),
+        Err(_) => b"(other)".as_slice(),
+    };
+    expect(rt, found == want.as_bytes(), name);
+}
+
+/// What the start of a file answers.
+fn expect_start<F: Folder>(rt: &impl Abort, folder: &mut F, name: &str, want: Started) {
+    expect(rt, folder.start(name) == want, name);
+}
+
+fn fetch_surely(rt: &impl Abort, alloc: Global) {
+    let mut folder = ManuallyDrop::new(SureFolder::new(files_of(rt, alloc)));
+    expect_fetch(rt, alloc, &mut *folder, "a", "first");
+    let mut folder = ManuallyDrop::new(SureFolder::new(two_names(rt, alloc)));
+    for (name, want) in &[("a", "first"), ("b", "third"), ("c", "(missing)")] {
+        expect_fetch(rt, alloc, &mut *folder, name, want);
+    }
+}
+
+fn fetch_with_failures(rt: &impl Abort, alloc: Global) {
+    let mut fails = Numbers::new(alloc);
+    for call in &[2, 4] {
+        sure(rt, fails.push(*call));
+    }
+    let mut folder = ManuallyDrop::new(MemoryFolder::new(files_of(rt, alloc), fails));
+    expect_fetch(rt, alloc, &mut *folder, "a", "(failed)");
+    expect_start(rt, &mut *folder, "b", Started::Missing);
+    expect_start(rt, &mut *folder, "a", Started::Failed);
 }
 
 #[test]
-fn the_first_file_with_a_name_counts(rt: HostRuntime) -> Result<(), Fail> {
-    let alloc = rt.alloc();
-    let mut folder = ManuallyDrop::new(SureFolder::new(two_files(alloc)?));
-    assert_fetch(&rt, alloc, &mut *folder, "a", b"first");
-    let mut folder = ManuallyDrop::new(SureFolder::new(two_names(&rt, alloc)?));
-    assert_fetch(&rt, alloc, &mut *folder, "a", b"first");
-    assert_fetch(&rt, alloc, &mut *folder, "b", b"third");
-    assert!(rt; matches!(fetch(alloc, &mut *folder, "c"), Err(FetchError::Missing)));
-    Ok(())
-}
-
-fn second_and_fourth(alloc: Global) -> Result<Numbers, AllocError> {
-    let mut fails = ManuallyDrop::new(Numbers::new(alloc));
-    fails.push(2)?;
-    fails.push(4)?;
-    Ok(ManuallyDrop::into_inner(fails))
+fn the_first_file_with_a_name_counts_and_a_listed_call_fails(rt: HostRuntime) {
+    fetch_surely(&rt, rt.alloc());
+    fetch_with_failures(&rt, rt.alloc());
 }
 
 #[test]
-fn a_listed_call_fails(rt: HostRuntime) -> Result<(), Fail> {
-    let alloc = rt.alloc();
-    let fails = second_and_fourth(alloc)?;
-    let mut folder = ManuallyDrop::new(MemoryFolder::new(two_files(alloc)?, fails));
-    assert!(rt; matches!(fetch(alloc, &mut *folder, "a"), Err(FetchError::Failed)));
-    assert_eq!(rt; folder.start("b"), Started::Missing);
-    assert_eq!(rt; folder.start("a"), Started::Failed);
-    Ok(())
-}
-
-#[test]
-fn the_disk_gives_a_file_and_tells_what_is_missing(rt: HostRuntime) -> Result<(), Fail> {
-    let alloc = rt.alloc();
-    fs::write(&rt, "greeting.txt", "hello\n")?;
+fn the_disk_gives_a_file_and_tells_what_is_missing(rt: HostRuntime) {
+    sure(&rt, fs::write(&rt, "greeting.txt", "hello\n"));
     let mut folder = DiskFolder::new(&rt);
-    assert_fetch(&rt, alloc, &mut folder, "greeting.txt", b"hello\n");
-    assert_eq!(rt; folder.start("no such file"), Started::Missing);
-    assert!(rt; matches!(fetch(alloc, &mut folder, "."), Err(FetchError::Failed)));
-    Ok(())
+    expect_fetch(&rt, rt.alloc(), &mut folder, "greeting.txt", "hello\n");
+    expect_fetch(&rt, rt.alloc(), &mut folder, ".", "(failed)");
+    expect_start(&rt, &mut folder, "no such file", Started::Missing);
 }

@@ -7,60 +7,78 @@ mod members;
 mod terminals;
 mod types;
 
-use std::alloc::{AllocFailed, Global};
+use crate::shared::{expect, sure};
+use std::alloc::Global;
 use std::process::Abort;
-use std::test::Fail;
 use widl_grammar::{SyntaxFault, Terminal, check_syntax, quoted, read_definitions};
 use widl_lex::Tokens;
 use widl_predictive::Fault;
 
-/// The terminal that a word of a test stands for: a quoted one, or a class by its first byte.
-fn terminal_of(word: &str) -> Terminal {
-    if let Some(terminal) = quoted(word.as_bytes()) {
-        return terminal;
-    }
+/// A sentence, a near miss, and the syntax place of the latter: the number of a word.
+pub type Rule = (&'static str, &'static str, usize);
+
+/// The class of a word that the grammar doesn't quote, by its first byte.
+fn class_of(word: &str) -> Terminal {
     match word.as_bytes().first() {
-        Some(b'0'..=b'9') => {
-            if word.contains('.') {
-                Terminal::Decimal
-            } else {
-                Terminal::Integer
-            }
-        }
+        Some(b'0'..=b'9') if word.contains('.') => Terminal::Decimal,
+        Some(b'0'..=b'9') => Terminal::Integer,
         Some(b'"') => Terminal::String,
         Some(b'#') => Terminal::Other,
         _ => Terminal::Identifier,
     }
 }
 
-fn terminals_of(alloc: Global, text: &str) -> Result<Vec<Terminal>, AllocFailed<Terminal>> {
+/// The answer for the terminals that the words of a text stand for.
+fn read(rt: &impl Abort, alloc: Global, text: &str) -> Result<(), Fault> {
     let mut terminals = Vec::new(alloc);
     for word in text.split(' ') {
-        terminals.push(terminal_of(word))?;
+        let terminal = quoted(word.as_bytes()).unwrap_or(class_of(word));
+        sure(rt, terminals.push(terminal));
     }
-    Ok(terminals)
-}
-
-fn read(alloc: Global, text: &str) -> Result<(), Fault> {
-    let terminals = terminals_of(alloc, text)?;
     read_definitions(alloc, &terminals)
 }
 
-/// Asserts that the first text is a sentence, and that the second has its syntax place at that word.
-fn assert_rule(rt: &impl Abort, alloc: Global, sentence: &str, near_miss: &str, place: usize) {
-    assert_eq!(rt; read(alloc, sentence), Ok(()), "{sentence}");
-    assert_eq!(rt;
-        read(alloc, near_miss),
-        Err(Fault::Syntax(place)),
-        "{near_miss}"
-    );
+fn expect_rules(rt: &impl Abort, alloc: Global, rules: &[Rule]) {
+    for (sentence, near_miss, place) in rules {
+        expect(rt, read(rt, alloc, sentence).is_ok(), sentence);
+        let found = read(rt, alloc, near_miss);
+        expect(rt, found == Err(Fault::Syntax(*place)), near_miss);
+    }
+}
+
+const RULES: [&[Rule]; 15] = [
+    &definitions::DEFINITIONS,
+    &definitions::CALLBACKS,
+    &definitions::INTERFACES,
+    &definitions::PARTIALS,
+    &definitions::DICTIONARIES_AND_ENUMERATIONS,
+    &definitions::EXTENDED_ATTRIBUTES,
+    &members::MEMBERS,
+    &members::CONSTANTS,
+    &members::ATTRIBUTES_AND_OPERATIONS,
+    &members::ITERABLES,
+    &members::ARGUMENTS,
+    &types::TYPES,
+    &types::UNIONS,
+    &types::PRIMITIVE_TYPES,
+    &types::ENDS_TOO_EARLY,
+];
+
+#[test]
+fn rules(rt: HostRuntime) {
+    for table in &RULES {
+        expect_rules(&rt, rt.alloc(), table);
+    }
 }
 
 /// The answer for the file number 3, of this text.
-fn check(alloc: Global, text: &str) -> Result<Result<(), SyntaxFault>, Fail> {
-    if text.len() > 1_048_576 {
-        return Err("the text is too long".into());
-    }
-    let tokens = Tokens::read(alloc, 3, text.as_bytes())?;
-    Ok(check_syntax(alloc, &tokens))
+fn check(rt: &impl Abort, alloc: Global, text: &str) -> Result<(), SyntaxFault> {
+    assert!(rt; text.len() <= 1_048_576);
+    let tokens = sure(rt, Tokens::read(alloc, 3, text.as_bytes()));
+    check_syntax(alloc, &tokens)
+}
+
+/// A file of this text has this answer.
+fn expect_answer(rt: &impl Abort, alloc: Global, text: &str, answer: Result<(), SyntaxFault>) {
+    expect(rt, check(rt, alloc, text) == answer, text);
 }

@@ -1,117 +1,120 @@
 //! What no clause says: that memory is found where there is some, and the time of long chains.
 
-use std::alloc::{AllocError, Global};
-use std::mem::ManuallyDrop;
+use crate::shared::{expect, sure};
+use std::alloc::Global;
 use std::process::Abort;
-use std::test::Fail;
 use widl_graph::{Graph, Walk};
 
-fn add(graph: &mut Graph, successors: &[usize]) -> Result<(), AllocError> {
-    graph.add_node()?;
-    for successor in successors {
-        graph.add_successor(*successor)?;
-    }
-    Ok(())
+/// A graph: its nodes with their successors, which are cyclic, and of its order the start and the end.
+struct Walked {
+    what: &'static str,
+    nodes: &'static [&'static [usize]],
+    cyclic: &'static [bool],
+    start: &'static [usize],
+    end: &'static [usize],
 }
 
-/// The walk over a complete graph, which is left to the end of the tests.
-fn walk(rt: &impl Abort, alloc: Global, graph: &Graph) -> Result<ManuallyDrop<Walk>, AllocError> {
+const WALKS: [Walked; 7] = [
+    Walked {
+        what: "no nodes",
+        nodes: &[],
+        cyclic: &[],
+        start: &[],
+        end: &[],
+    },
+    Walked {
+        what: "one node",
+        nodes: &[&[]],
+        cyclic: &[false],
+        start: &[0],
+        end: &[0],
+    },
+    Walked {
+        what: "an edge to itself",
+        nodes: &[&[0]],
+        cyclic: &[true],
+        start: &[],
+        end: &[],
+    },
+    Walked {
+        what: "a chain",
+        nodes: &[&[1], &[2], &[]],
+        cyclic: &[false; 3],
+        start: &[2, 1, 0],
+        end: &[2, 1, 0],
+    },
+    Walked {
+        what: "two cycles share a node",
+        nodes: &[&[1], &[0, 2, 4], &[3], &[1], &[], &[4, 2]],
+        cyclic: &[true, true, true, true, false, false],
+        start: &[4],
+        end: &[5],
+    },
+    Walked {
+        what: "a node leads into a cycle",
+        nodes: &[&[1], &[2], &[1]],
+        cyclic: &[false, true, true],
+        start: &[],
+        end: &[0],
+    },
+    Walked {
+        what: "a diamond",
+        nodes: &[&[1, 2], &[3], &[3], &[]],
+        cyclic: &[false; 4],
+        start: &[3, 1, 2, 0],
+        end: &[3, 1, 2, 0],
+    },
+];
+
+/// The walk over a complete graph.
+fn walk(rt: &impl Abort, alloc: Global, graph: &Graph) -> Walk {
     assert!(rt; graph.is_complete());
-    Ok(ManuallyDrop::new(Walk::over(alloc, graph)?))
+    sure(rt, Walk::over(alloc, graph))
 }
 
-/// A graph of nodes with these successors.
-fn graph_of(alloc: Global, nodes: &[&[usize]]) -> Result<ManuallyDrop<Graph>, AllocError> {
-    let mut graph = ManuallyDrop::new(Graph::new(alloc));
-    for successors in nodes {
-        add(&mut graph, successors)?;
+fn expect_walk(rt: &impl Abort, alloc: Global, row: &Walked) {
+    let mut graph = Graph::new(alloc);
+    for successors in row.nodes {
+        sure(rt, graph.add_linked(successors));
     }
-    Ok(graph)
-}
-
-/// The walk over nodes with these successors finds these to be cyclic, and has this order from its start and
-/// to its end.
-fn assert_walk(
-    rt: &impl Abort,
-    alloc: Global,
-    nodes: &[&[usize]],
-    cyclic: &[bool],
-    start: &[usize],
-    end: &[usize],
-) -> Result<(), AllocError> {
-    let graph = graph_of(alloc, nodes)?;
-    let found = walk(rt, alloc, &graph)?;
-    assert_eq!(rt; found.cyclic.as_slice(), cyclic);
-    assert!(rt; found.order.starts_with(start) && found.order.ends_with(end));
-    Ok(())
+    let found = walk(rt, alloc, &graph);
+    let order = found.order.as_slice();
+    expect(rt, found.cyclic.as_slice() == row.cyclic, row.what);
+    expect(rt, order.len() == row.nodes.len(), row.what);
+    expect(
+        rt,
+        order.starts_with(row.start) && order.ends_with(row.end),
+        row.what,
+    );
 }
 
 #[test]
-fn no_nodes(rt: HostRuntime) -> Result<(), Fail> {
-    let graph = graph_of(rt.alloc(), &[])?;
-    let found = walk(&rt, rt.alloc(), &graph)?;
-    assert_eq!(rt; found.order.len(), 0);
-    assert_eq!(rt; found.cyclic.len(), 0);
-    Ok(())
-}
-
-#[test]
-fn one_node(rt: HostRuntime) -> Result<(), Fail> {
-    assert_walk(&rt, rt.alloc(), &[&[]], &[false], &[0], &[0])?;
-    Ok(())
-}
-
-#[test]
-fn an_edge_to_itself(rt: HostRuntime) -> Result<(), Fail> {
-    assert_walk(&rt, rt.alloc(), &[&[0]], &[true], &[], &[])?;
-    Ok(())
-}
-
-#[test]
-fn a_chain(rt: HostRuntime) -> Result<(), Fail> {
-    let (nodes, order): ([&[usize]; 3], _) = ([&[1], &[2], &[]], [2, 1, 0]);
-    assert_walk(&rt, rt.alloc(), &nodes, &[false; 3], &order, &order)?;
-    Ok(())
-}
-
-#[test]
-fn two_cycles_share_a_node(rt: HostRuntime) -> Result<(), Fail> {
-    let nodes: [&[usize]; 6] = [&[1], &[0, 2, 4], &[3], &[1], &[], &[4, 2]];
-    let cyclic = [true, true, true, true, false, false];
-    assert_walk(&rt, rt.alloc(), &nodes, &cyclic, &[4], &[5])?;
-    Ok(())
-}
-
-#[test]
-fn a_node_leads_into_a_cycle(rt: HostRuntime) -> Result<(), Fail> {
-    let nodes: [&[usize]; 3] = [&[1], &[2], &[1]];
-    assert_walk(&rt, rt.alloc(), &nodes, &[false, true, true], &[], &[0])?;
-    Ok(())
-}
-
-#[test]
-fn a_diamond(rt: HostRuntime) -> Result<(), Fail> {
-    let nodes: [&[usize]; 4] = [&[1, 2], &[3], &[3], &[]];
-    let order = [3, 1, 2, 0];
-    assert_walk(&rt, rt.alloc(), &nodes, &[false; 4], &order, &order)?;
-    Ok(())
+fn small_graphs(rt: HostRuntime) {
+    for row in &WALKS {
+        expect_walk(&rt, rt.alloc(), row);
+    }
 }
 
 /// A chain of so many nodes and one more.
-fn long_chain(alloc: Global, count: usize) -> Result<ManuallyDrop<Graph>, AllocError> {
-    let mut graph = ManuallyDrop::new(Graph::new(alloc));
+fn long_chain(rt: &impl Abort, alloc: Global, count: usize) -> Graph {
+    let mut graph = Graph::new(alloc);
     for node in 0..count {
-        add(&mut graph, &[node + 1])?;
+        sure(rt, graph.add_node());
+        sure(rt, graph.add_successor(node + 1));
     }
-    add(&mut graph, &[])?;
-    Ok(graph)
+    sure(rt, graph.add_node());
+    graph
 }
 
 #[test]
-fn a_long_chain(rt: HostRuntime) -> Result<(), Fail> {
-    let graph = long_chain(rt.alloc(), 200_000)?;
-    let found = walk(&rt, rt.alloc(), &graph)?;
-    assert_eq!(rt; found.order.len(), 200_001);
-    assert!(rt; found.order.starts_with(&[200_000]) && found.order.ends_with(&[0]));
-    Ok(())
+fn a_long_chain(rt: HostRuntime) {
+    let graph = long_chain(&rt, rt.alloc(), 200_000);
+    let found = walk(&rt, rt.alloc(), &graph);
+    expect(&rt, found.order.len() == 200_001, "the order's length");
+    expect(
+        &rt,
+        found.order.starts_with(&[200_000]),
+        "the order's start",
+    );
+    expect(&rt, found.order.ends_with(&[0]), "the order's end");
 }

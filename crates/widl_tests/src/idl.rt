@@ -1,284 +1,228 @@
 //! Each call once, with ample memory.
 
-ghost use Rattle.std.specs.Prelude.{IfOk};
 ghost use Rattle.widl_idl.specs.Flattened.{IsUnion};
 ghost use Rattle.widl_idl.specs.Terms.{type_term};
 
-use crate::shared::{long, nullable, text, union};
-use std::alloc::{AllocError, Global};
+use crate::shared::{boxed, expect, long, nullable, sure, text, union};
+use std::alloc::Global;
 use std::mem::ManuallyDrop;
 use std::process::Abort;
-use std::test::Fail;
 use widl_idl::{
     Defs, Fragments, IdlType, IdlTypes, IntKind, Merged, Mode, Optionality, Refusal, TextKind,
     Violation, earlier_violation, flattened, includes_nullable, joined, nullable_count, same_type,
 };
 use widl_text::{Items, Place};
 
-fn sequence(alloc: Global, t: IdlType) -> Result<IdlType, AllocError> {
-    Ok(IdlType::Seq(Box::new(alloc, t)?))
+fn clamped() -> IdlType {
+    IdlType::Int(IntKind::Long, Mode::Clamp)
 }
 
-fn three(alloc: Global, a: IdlType, b: IdlType, c: IdlType) -> Result<IdlType, AllocError> {
-    let mut members = IdlTypes::new(alloc);
-    members.push(a)?;
-    members.push(b)?;
-    members.push(c)?;
-    Ok(IdlType::Union(members))
+/// Two types are the same or not.
+fn expect_same(rt: &impl Abort, a: &IdlType, b: IdlType, same: bool, what: &str) {
+    let b = ManuallyDrop::new(b);
+    expect(rt, same_type(a, &b) == same, what);
 }
 
-/// Whether a union has these flattened members, this count, and includes a nullable type or not.
-fn has(
-    alloc: Global,
+/// A union has so many nullable types, includes one or not, and has these flattened members.
+fn expect_union(
     rt: &impl Abort,
+    alloc: Global,
     t: IdlType,
-    members: &IdlType,
-    count: u32,
-    includes: bool,
-) -> Result<(), AllocError>
+    nullable: (u32, bool),
+    members: IdlType,
+    what: &str,
+)
     requires { IsUnion (type_term t) }
 {
-    assert_eq!(rt; nullable_count(&t), count);
-    assert_eq!(rt; includes_nullable(&t), includes);
-    let found = flattened(alloc, &t);
-    drop(t);
-    let found = ManuallyDrop::new(IdlType::Union(found?));
-    assert!(rt; same_type(&found, members));
-    Ok(())
+    let t = ManuallyDrop::new(t);
+    expect(rt, nullable_count(&t) == nullable.0, what);
+    expect(rt, includes_nullable(&t) == nullable.1, what);
+    let found = ManuallyDrop::new(IdlType::Union(sure(rt, flattened(alloc, &t))));
+    expect_same(rt, &found, members, true, what);
 }
 
-/// The members `long` and `DOMString`, which are left to the end of the tests, as all members here.
-fn long_or_text(alloc: Global) -> Result<ManuallyDrop<IdlType>, AllocError> {
-    Ok(ManuallyDrop::new(union(alloc, long(), text())?))
+/// The members `long` and `DOMString`.
+fn long_or_text(rt: &impl Abort, alloc: Global) -> IdlType {
+    union(rt, alloc, long(), text())
 }
 
 /// The members `long`, `boolean` and `DOMString`.
-fn long_or_boolean_or_text(alloc: Global) -> Result<ManuallyDrop<IdlType>, AllocError> {
-    let members = three(alloc, long(), IdlType::Boolean, text())?;
-    Ok(ManuallyDrop::new(members))
+fn long_or_boolean_or_text(rt: &impl Abort, alloc: Global) -> IdlType {
+    let mut members = IdlTypes::new(alloc);
+    sure(rt, members.push(long()));
+    sure(rt, members.push(IdlType::Boolean));
+    sure(rt, members.push(text()));
+    IdlType::Union(members)
+}
+
+/// A union of this type and `DOMString`, whose members are `long` and `DOMString`.
+fn expect_two(rt: &impl Abort, alloc: Global, first: IdlType, nullable: (u32, bool), what: &str) {
+    let t = union(rt, alloc, first, text());
+    expect_union(rt, alloc, t, nullable, long_or_text(rt, alloc), what);
+}
+
+/// A union of two types, whose members are `long`, `boolean` and `DOMString`.
+fn expect_three(
+    rt: &impl Abort,
+    alloc: Global,
+    types: (IdlType, IdlType),
+    nullable: (u32, bool),
+    what: &str,
+) {
+    let t = union(rt, alloc, types.0, types.1);
+    expect_union(
+        rt,
+        alloc,
+        t,
+        nullable,
+        long_or_boolean_or_text(rt, alloc),
+        what,
+    );
 }
 
 /// `(sequence<long?> or DOMString)`.
-fn sequence_or_text(alloc: Global) -> Result<IdlType, AllocError>
-    ensures { IfOk result (λ t. IsUnion (type_term t)) }
+fn sequence_or_text(rt: &impl Abort, alloc: Global) -> IdlType
+    ensures { IsUnion (type_term result) }
 {
-    let element = nullable(alloc, long())?;
-    let list = sequence(alloc, element)?;
-    union(alloc, list, text())
+    let element = nullable(rt, alloc, long());
+    union(rt, alloc, IdlType::Seq(boxed(rt, alloc, element)), text())
 }
 
-/// `(long or boolean?)` or `(long? or boolean)`.
-fn long_or_boolean(alloc: Global, first: bool) -> Result<IdlType, AllocError> {
-    if first {
-        let long = nullable(alloc, long())?;
-        return union(alloc, long, IdlType::Boolean);
-    }
-    let boolean = nullable(alloc, IdlType::Boolean)?;
-    union(alloc, long(), boolean)
+fn expect_plain_members(rt: &impl Abort, alloc: Global) {
+    expect_two(rt, alloc, long(), (0, false), "(long or DOMString)");
+    let members = sequence_or_text(rt, alloc);
+    let what = "(sequence<long?> or DOMString)";
+    expect_union(
+        rt,
+        alloc,
+        sequence_or_text(rt, alloc),
+        (0, false),
+        members,
+        what,
+    );
 }
 
-#[test]
-fn plain_members(rt: HostRuntime) -> Result<(), Fail> {
-    let alloc = rt.alloc();
-    let members = long_or_text(alloc)?;
-    let t = union(alloc, long(), text())?;
-    has(alloc, &rt, t, &members, 0, false)?;
-    let members = ManuallyDrop::new(sequence_or_text(alloc)?);
-    has(alloc, &rt, sequence_or_text(alloc)?, &members, 0, false)?;
-    Ok(())
-}
-
-#[test]
-fn a_nullable_member(rt: HostRuntime) -> Result<(), Fail> {
-    let alloc = rt.alloc();
-    let members = long_or_text(alloc)?;
-    let maybe = nullable(alloc, long())?;
-    has(alloc, &rt, union(alloc, maybe, text())?, &members, 1, true)?;
-    Ok(())
-}
-
-#[test]
-fn a_member_that_is_nullable_twice(rt: HostRuntime) -> Result<(), Fail> {
-    let alloc = rt.alloc();
-    let members = long_or_text(alloc)?;
-    let once = nullable(alloc, long())?;
-    let twice = nullable(alloc, once)?;
-    has(alloc, &rt, union(alloc, twice, text())?, &members, 1, true)?;
-    Ok(())
-}
-
-#[test]
-fn nullable_members_of_an_inner_union(rt: HostRuntime) -> Result<(), Fail> {
-    let alloc = rt.alloc();
-    let members = long_or_boolean_or_text(alloc)?;
-    let inner = long_or_boolean(alloc, false)?;
-    let text = nullable(alloc, text())?;
-    has(alloc, &rt, union(alloc, inner, text)?, &members, 2, false)?;
-    Ok(())
-}
-
-#[test]
-fn an_inner_union_that_is_nullable(rt: HostRuntime) -> Result<(), Fail> {
-    let alloc = rt.alloc();
-    let members = long_or_boolean_or_text(alloc)?;
-    let inner = union(alloc, long(), IdlType::Boolean)?;
-    let inner = nullable(alloc, inner)?;
-    has(alloc, &rt, union(alloc, inner, text())?, &members, 1, true)?;
-    Ok(())
-}
-
-#[test]
-fn a_nullable_member_of_an_inner_union_that_is_nullable(rt: HostRuntime) -> Result<(), Fail> {
-    let alloc = rt.alloc();
-    let members = long_or_boolean_or_text(alloc)?;
-    let inner = long_or_boolean(alloc, true)?;
-    let inner = nullable(alloc, inner)?;
-    has(alloc, &rt, union(alloc, inner, text())?, &members, 2, false)?;
-    Ok(())
-}
-
-#[test]
-fn annotations_of_members(rt: HostRuntime) -> Result<(), Fail> {
-    let alloc = rt.alloc();
-    let clamped = IdlType::Int(IntKind::Long, Mode::Clamp);
+fn expect_nullable_members(rt: &impl Abort, alloc: Global) {
+    let once = nullable(rt, alloc, long());
+    expect_two(rt, alloc, once, (1, true), "(long? or DOMString)");
+    let twice = nullable(rt, alloc, nullable(rt, alloc, long()));
+    expect_two(rt, alloc, twice, (1, true), "(long?? or DOMString)");
     let empty = IdlType::Text {
         kind: TextKind::Dom,
         null_empty: true,
     };
-    let members = long_or_text(alloc)?;
-    let maybe = nullable(alloc, clamped)?;
-    has(alloc, &rt, union(alloc, maybe, empty)?, &members, 1, true)?;
-    Ok(())
+    let t = union(rt, alloc, nullable(rt, alloc, clamped()), empty);
+    expect_union(
+        rt,
+        alloc,
+        t,
+        (1, true),
+        long_or_text(rt, alloc),
+        "annotated members",
+    );
+}
+
+fn expect_inner_unions(rt: &impl Abort, alloc: Global) {
+    let inner = union(rt, alloc, long(), nullable(rt, alloc, IdlType::Boolean));
+    let types = (inner, nullable(rt, alloc, text()));
+    expect_three(
+        rt,
+        alloc,
+        types,
+        (2, false),
+        "((long or boolean?) or DOMString?)",
+    );
+    let inner = union(rt, alloc, long(), IdlType::Boolean);
+    let types = (nullable(rt, alloc, inner), text());
+    expect_three(
+        rt,
+        alloc,
+        types,
+        (1, true),
+        "((long or boolean)? or DOMString)",
+    );
+    let inner = union(rt, alloc, nullable(rt, alloc, long()), IdlType::Boolean);
+    let types = (nullable(rt, alloc, inner), text());
+    expect_three(
+        rt,
+        alloc,
+        types,
+        (2, false),
+        "((long? or boolean)? or DOMString)",
+    );
 }
 
 #[test]
-fn annotations_make_types_differ(rt: HostRuntime) -> Result<(), Fail> {
-    let long = ManuallyDrop::new(long());
-    let clamped = ManuallyDrop::new(IdlType::Int(IntKind::Long, Mode::Clamp));
-    assert!(rt; !same_type(&long, &clamped));
-    let copy = ManuallyDrop::new(clamped.copy(rt.alloc())?);
-    assert!(rt; same_type(&clamped, &copy));
-    let dictionary = ManuallyDrop::new(IdlType::Dict(1));
-    let interface = ManuallyDrop::new(IdlType::Interface(1));
-    assert!(rt; !same_type(&dictionary, &interface));
-    Ok(())
+fn members_of_unions(rt: HostRuntime) {
+    expect_plain_members(&rt, rt.alloc());
+    expect_nullable_members(&rt, rt.alloc());
+    expect_inner_unions(&rt, rt.alloc());
 }
 
-/// Whether a union of nullable types has so many members, and a copy of it is the same.
-fn has_members(alloc: Global, rt: &impl Abort, t: &IdlType, count: usize) -> Result<(), AllocError>
+/// A union of nullable types has so many members, and a copy of it is the same.
+fn expect_many(rt: &impl Abort, alloc: Global, t: &IdlType, count: usize)
     requires { IsUnion (type_term t.now) }
 {
-    assert_eq!(rt; nullable_count(t) as usize, count);
-    let copy = t.copy(alloc)?;
-    assert!(rt; same_type(t, &copy));
+    expect(rt, nullable_count(t) as usize == count, "nullable types");
+    let copy = sure(rt, t.copy(alloc));
+    expect(rt, same_type(t, &copy), "a copy");
     drop(copy);
-    assert_eq!(rt; flattened(alloc, t)?.len(), count);
-    Ok(())
+    expect(rt, sure(rt, flattened(alloc, t)).len() == count, "members");
 }
 
 #[test]
-fn three_hundred_thousand_members(rt: HostRuntime) -> Result<(), Fail> {
+fn three_hundred_thousand_members(rt: HostRuntime) {
     let alloc = rt.alloc();
     let mut members = IdlTypes::new(alloc);
     for number in 0..300_000 {
-        members.push(nullable(alloc, IdlType::Dict(number))?)?;
+        let member = nullable(&rt, alloc, IdlType::Dict(number));
+        sure(&rt, members.push(member));
     }
-    let t = IdlType::Union(members);
-    let found = has_members(alloc, &rt, &t, 300_000);
-    drop(t);
-    Ok(found?)
+    expect_many(&rt, alloc, &IdlType::Union(members), 300_000);
 }
 
-#[test]
-fn types_in_a_list(rt: HostRuntime) -> Result<(), Fail> {
-    let alloc = rt.alloc();
+fn expect_differences(rt: &impl Abort, alloc: Global) {
+    let clamped_long = ManuallyDrop::new(clamped());
+    expect_same(rt, &clamped_long, long(), false, "an annotation");
+    let copy = sure(rt, clamped_long.copy(alloc));
+    expect_same(rt, &clamped_long, copy, true, "a copy");
+    let dictionary = ManuallyDrop::new(IdlType::Dict(1));
+    expect_same(
+        rt,
+        &dictionary,
+        IdlType::Interface(1),
+        false,
+        "a dictionary and an interface",
+    );
+}
+
+fn expect_types_in_a_list(rt: &impl Abort, alloc: Global) {
     let mut types = IdlTypes::new(alloc);
-    types.push(long())?;
-    assert_eq!(rt; types.len(), 1);
+    sure(rt, types.push(long()));
+    assert!(rt; types.len() == 1);
     let former = ManuallyDrop::new(types.replace(0, text()));
-    let before = ManuallyDrop::new(long());
-    assert!(rt; same_type(&former, &before));
-    let after = ManuallyDrop::new(text());
-    assert!(rt; same_type(types.at(0), &after));
-    assert_eq!(rt; types.copy(alloc)?.as_slice().len(), 1);
-    Ok(())
+    expect_same(rt, &former, long(), true, "the former type");
+    expect_same(rt, types.at(0), text(), true, "the new type");
+    expect(
+        rt,
+        sure(rt, types.copy(alloc)).len() == 1,
+        "a copy's length",
+    );
 }
 
-#[test]
-fn items_in_a_list(rt: HostRuntime) -> Result<(), Fail> {
-    let mut items = Items::new(rt.alloc());
-    items.push(Optionality::Required)?;
-    items.push(Optionality::Variadic)?;
-    assert_eq!(rt; items.len(), 2);
+fn expect_items_in_a_list(rt: &impl Abort, alloc: Global) {
+    let mut items = Items::new(alloc);
+    sure(rt, items.push(Optionality::Required));
+    sure(rt, items.push(Optionality::Variadic));
+    assert!(rt; items.len() == 2);
     let former = items.replace(0, Optionality::Optional);
-    assert_eq!(rt; former, Optionality::Required);
-    assert_eq!(rt; *items.at(0), Optionality::Optional);
-    assert_eq!(rt; items.as_slice().len(), 2);
-    Ok(())
+    expect(rt, former == Optionality::Required, "the former item");
+    expect(rt, *items.at(0) == Optionality::Optional, "the new item");
+    expect(rt, items.as_slice().len() == 2, "the items");
 }
 
-fn violation(file: u16, at: u32) -> Violation {
-    Violation::at(Place { file, at })
-}
-
-#[test]
-fn the_earlier_of_two_violations(rt: HostRuntime) -> Result<(), Fail> {
-    let late_in_first = violation(0, 90);
-    let early_in_second = violation(1, 5);
-    let late_in_second = violation(1, 6);
-    let chosen = earlier_violation(Some(early_in_second), Some(late_in_first));
-    assert_eq!(rt; chosen, Some(late_in_first));
-    let chosen = earlier_violation(Some(late_in_second), Some(early_in_second));
-    assert_eq!(rt; chosen, Some(early_in_second));
-    assert_eq!(rt;
-        earlier_violation(None, Some(late_in_second)),
-        Some(late_in_second)
-    );
-    assert_eq!(rt;
-        earlier_violation(Some(late_in_second), None),
-        Some(late_in_second)
-    );
-    Ok(())
-}
-
-#[test]
-fn the_earlier_other_place_comes_first_at_one_place(rt: HostRuntime) -> Result<(), Fail> {
-    let early = Violation {
-        at: Place { file: 2, at: 7 },
-        other: Some(Place { file: 2, at: 3 }),
-    };
-    let late = Violation {
-        at: Place { file: 2, at: 7 },
-        other: Some(Place { file: 2, at: 4 }),
-    };
-    let alone = violation(2, 7);
-    assert_eq!(rt; earlier_violation(Some(late), Some(early)), Some(early));
-    assert_eq!(rt; earlier_violation(Some(early), Some(late)), Some(early));
-    assert_eq!(rt; earlier_violation(Some(early), Some(alone)), Some(alone));
-    Ok(())
-}
-
-#[test]
-fn the_lower_rule_number_comes_first_at_one_place(rt: HostRuntime) -> Result<(), Fail> {
-    let there = violation(0, 4);
-    let best = joined(12, Some(there), None);
-    let best = joined(9, Some(there), best);
-    let best = joined(30, Some(there), best);
-    let best = joined(1, Some(violation(0, 5)), best);
-    let best = joined(2, None, best);
-    let expected = Refusal {
-        rule: 9,
-        at: there.at,
-        other: None,
-    };
-    assert_eq!(rt; best, Some(expected));
-    Ok(())
-}
-
-#[test]
 #[tactic(auto, using(widl_idl::proofs::Empty::empty_is_merged))]
-fn the_empty_set_is_merged(rt: HostRuntime) -> Result<(), Fail> {
-    let alloc = rt.alloc();
+fn expect_the_empty_set(rt: &impl Abort, alloc: Global) {
     let defs = Defs {
         ifaces: Items::new(alloc),
         spaces: Items::new(alloc),
@@ -287,8 +231,73 @@ fn the_empty_set_is_merged(rt: HostRuntime) -> Result<(), Fail> {
         callback_fns: Items::new(alloc),
         callback_ifaces: Items::new(alloc),
     };
-    let merged = Merged::new(defs, Fragments::new(alloc));
-    assert_eq!(rt; merged.defs().ifaces.len(), 0);
-    assert_eq!(rt; merged.fragments().len(), 0);
-    Ok(())
+    let merged = ManuallyDrop::new(Merged::new(defs, Fragments::new(alloc)));
+    expect(rt, merged.defs().ifaces.len() == 0, "no interfaces");
+    expect(rt, merged.fragments().len() == 0, "no fragments");
+}
+
+#[test]
+fn types_and_lists(rt: HostRuntime) {
+    expect_differences(&rt, rt.alloc());
+    expect_types_in_a_list(&rt, rt.alloc());
+    expect_items_in_a_list(&rt, rt.alloc());
+    expect_the_empty_set(&rt, rt.alloc());
+}
+
+/// A file, a place in it, and another place in it that the violation speaks of.
+type Broken = (u16, u32, Option<u32>);
+
+fn violation((file, at, other): Broken) -> Violation {
+    Violation {
+        at: Place { file, at },
+        other: other.map(|at| Place { file, at }),
+    }
+}
+
+/// Violations, and the earlier one of each two: at one place that whose other place is earlier.
+const EARLIER: [(Option<Broken>, Option<Broken>, Broken); 7] = [
+    (Some((1, 5, None)), Some((0, 90, None)), (0, 90, None)),
+    (Some((1, 6, None)), Some((1, 5, None)), (1, 5, None)),
+    (None, Some((1, 6, None)), (1, 6, None)),
+    (Some((1, 6, None)), None, (1, 6, None)),
+    (
+        Some((2, 7, Some(4))),
+        Some((2, 7, Some(3))),
+        (2, 7, Some(3)),
+    ),
+    (
+        Some((2, 7, Some(3))),
+        Some((2, 7, Some(4))),
+        (2, 7, Some(3)),
+    ),
+    (Some((2, 7, Some(3))), Some((2, 7, None)), (2, 7, None)),
+];
+
+/// Rules and their violations, or none, one after another.
+const JOINED: [(u8, Option<Broken>); 5] = [
+    (12, Some((0, 4, None))),
+    (9, Some((0, 4, None))),
+    (30, Some((0, 4, None))),
+    (1, Some((0, 5, None))),
+    (2, None),
+];
+
+/// What is left of them: at one place that of the lower rule.
+const LEFT: Refusal = Refusal {
+    rule: 9,
+    at: Place { file: 0, at: 4 },
+    other: None,
+};
+
+#[test]
+fn the_earlier_violation_is_chosen(rt: HostRuntime) {
+    for (a, b, want) in &EARLIER {
+        let found = earlier_violation(a.map(violation), b.map(violation));
+        assert!(rt; found == Some(violation(*want)), "{a:?} and {b:?}");
+    }
+    let mut best = None;
+    for (rule, broken) in &JOINED {
+        best = joined(*rule, broken.map(violation), best);
+    }
+    assert!(rt; best == Some(LEFT));
 }

@@ -1,8 +1,9 @@
 //! The edges of the patterns, the ties, the places, and the law's function.
 
-use std::alloc::{AllocError, Global};
+use crate::shared::{expect, sure};
+use std::alloc::Global;
 use std::fmt::Write;
-use std::test::Fail;
+use std::process::Abort;
 use widl_lex::{LexFault, TokenKind, Tokens, each_text_has_one_cut};
 
 /// A letter for each kind.
@@ -18,23 +19,16 @@ fn letter(kind: TokenKind) -> &'static str {
 }
 
 /// The tokens of a text, each as a letter, its offset and its length.
-fn spelled(alloc: Global, text: &[u8]) -> Result<String, AllocError> {
+fn spelled(rt: &impl Abort, alloc: Global, text: &[u8]) -> String {
     let mut out = String::new(alloc);
-    if text.len() > 1000 {
-        return Ok(out);
-    }
-    let Ok(tokens) = Tokens::read(alloc, 7, text) else {
-        out.push_str("fault")?;
-        return Ok(out);
-    };
+    assert!(rt; text.len() <= 1000);
+    let tokens = sure(rt, Tokens::read(alloc, 7, text));
     for place in 0..tokens.len() {
         let token = tokens.at(place);
-        out.push_str(letter(token.kind))?;
-        let offset = token.at.at;
-        let length = token.text.len();
-        write!(out, "{offset}+{length} ")?;
+        let (kind, offset, length) = (letter(token.kind), token.at.at, token.text.len());
+        sure(rt, write!(out, "{kind}{offset}+{length} "));
     }
-    Ok(out)
+    out
 }
 
 /// Texts and their tokens.
@@ -91,19 +85,16 @@ const PATTERNS: [(&str, &str); 46] = [
 ];
 
 #[test]
-fn patterns_at_their_edges(rt: HostRuntime) -> Result<(), Fail> {
+fn patterns_at_their_edges(rt: HostRuntime) {
     for (text, wanted) in &PATTERNS {
-        let found = spelled(rt.alloc(), text.as_bytes())?;
-        assert_eq!(rt; found.as_str(), *wanted, "{text:?}");
+        let found = spelled(&rt, rt.alloc(), text.as_bytes());
+        expect(&rt, found.as_str() == *wanted, text);
     }
-    Ok(())
 }
 
 /// The place of the UTF-8 fault, or 99 where there is none.
-fn fault_at(alloc: Global, text: &[u8]) -> u32 {
-    if text.len() > 1000 {
-        return 99;
-    }
+fn fault_at(rt: &impl Abort, alloc: Global, text: &[u8]) -> u32 {
+    assert!(rt; text.len() <= 1000);
     match Tokens::read(alloc, 7, text) {
         Err(LexFault::NotUtf8(place)) if place.file == 7 => place.at,
         _ => 99,
@@ -131,20 +122,24 @@ const FAULTS: [(&[u8], u32); 14] = [
 #[test]
 fn faults_of_utf8_at_their_places(rt: HostRuntime) {
     for (text, wanted) in &FAULTS {
-        assert_eq!(rt; fault_at(rt.alloc(), text), *wanted, "{text:?}");
+        assert!(rt; fault_at(&rt, rt.alloc(), text) == *wanted, "{text:?}");
     }
 }
 
+fn expect_places(rt: &impl Abort, tokens: &Tokens<'_>) {
+    expect(rt, tokens.file() == 7, "the file");
+    expect(rt, tokens.end() == 12, "the end");
+    assert!(rt; tokens.len() == 1);
+    let token = tokens.at(0);
+    expect(rt, token.at.file == 7, "the token's file");
+    expect(rt, token.text == b"a".as_slice(), "the token's text");
+}
+
 #[test]
-fn tokens_know_their_file(rt: HostRuntime) -> Result<(), Fail> {
+fn tokens_know_their_file(rt: HostRuntime) {
     each_text_has_one_cut();
-    let Ok(tokens) = Tokens::read(rt.alloc(), 7, b"a // the end") else {
-        return Err(Fail::from("a fault"));
-    };
-    assert_eq!(rt; tokens.file(), 7);
-    assert_eq!(rt; tokens.end(), 12);
-    assert_eq!(rt; tokens.len(), 1);
-    assert_eq!(rt; tokens.at(0).at.file, 7);
-    assert_eq!(rt; tokens.at(0).text, b"a".as_slice());
-    Ok(())
+    expect_places(
+        &rt,
+        &sure(&rt, Tokens::read(rt.alloc(), 7, b"a // the end")),
+    );
 }

@@ -1,9 +1,8 @@
 //! What words are, the first breaks of small scripts, and hostile scripts of 1 MiB.
 
-use std::alloc::{AllocError, Global};
-use std::mem::ManuallyDrop;
+use crate::shared::{expect, sure};
+use std::alloc::Global;
 use std::process::Abort;
-use std::test::Fail;
 use widl_lines::{
     ScriptFault, ScriptWords, Terminal, WordForm, integer_of, is_large, terminal_of, units_of,
 };
@@ -53,10 +52,15 @@ const WORDS: [(&[u8], Terminal); 41] = [
     (b"\xC3", Terminal::Unknown),
 ];
 
+/// A word of a form has this terminal.
+fn expect_terminal(rt: &impl Abort, form: WordForm, word: &[u8], terminal: Terminal) {
+    assert!(rt; terminal_of(form, word) == terminal, "{word:?}");
+}
+
 #[test]
 fn words_have_their_terminals(rt: HostRuntime) {
     for (word, terminal) in &WORDS {
-        assert_eq!(rt; terminal_of(WordForm::Bare, word), *terminal, "{word:?}");
+        expect_terminal(&rt, WordForm::Bare, word, *terminal);
     }
 }
 
@@ -82,56 +86,39 @@ const MALFORMED: [&[u8]; 6] = [
 ];
 
 /// The units of a text are these, or it has none where it is malformed.
-fn assert_units(
+fn expect_units(
     rt: &impl Abort,
     alloc: Global,
     form: WordForm,
     word: &[u8],
     wanted: Option<&[u16]>,
 ) {
-    let Ok(read) = units_of(alloc, form, word) else {
-        panic!(rt; "no memory");
+    let is_so = match (sure(rt, units_of(alloc, form, word)), wanted) {
+        (Some(units), Some(wanted)) => units.as_slice() == wanted,
+        (None, None) => true,
+        _ => false,
     };
-    let read = ManuallyDrop::new(read);
-    assert_eq!(rt;
-        read.as_ref().map(|units| units.as_slice()),
-        wanted,
-        "{word:?}"
-    );
+    assert!(rt; is_so, "{word:?}");
 }
 
 #[test]
 fn texts_have_their_units(rt: HostRuntime) {
     for (word, units) in &TEXTS {
-        assert_eq!(rt;
-            terminal_of(WordForm::Text, word),
-            Terminal::Text,
-            "{word:?}"
-        );
-        assert_units(&rt, rt.alloc(), WordForm::Text, word, Some(units));
+        expect_terminal(&rt, WordForm::Text, word, Terminal::Text);
+        expect_units(&rt, rt.alloc(), WordForm::Text, word, Some(units));
     }
     for word in &MALFORMED {
-        assert_eq!(rt;
-            terminal_of(WordForm::Text, word),
-            Terminal::Unknown,
-            "{word:?}"
-        );
-        assert_eq!(rt;
-            terminal_of(WordForm::RawText, word),
-            Terminal::Text,
-            "{word:?}"
-        );
-        assert_units(&rt, rt.alloc(), WordForm::Text, word, None);
+        expect_terminal(&rt, WordForm::Text, word, Terminal::Unknown);
+        expect_terminal(&rt, WordForm::RawText, word, Terminal::Text);
+        expect_units(&rt, rt.alloc(), WordForm::Text, word, None);
     }
     let raw = b"\"\\n\"";
-    assert_units(&rt, rt.alloc(), WordForm::RawText, raw, Some(&[92, 110]));
+    expect_units(&rt, rt.alloc(), WordForm::RawText, raw, Some(&[92, 110]));
 }
 
-/// Whether a word of each of these forms is too large.
-fn assert_large(rt: &impl Abort, forms: &[WordForm], word: &[u8], large: bool) {
-    for form in forms {
-        assert_eq!(rt; is_large(*form, word), large, "{form:?}");
-    }
+/// A word of this form is too large or not.
+fn expect_large(rt: &impl Abort, form: WordForm, word: &[u8], large: bool) {
+    assert!(rt; is_large(form, word) == large, "{form:?}");
 }
 
 /// Integers, their values, and whether they are too large.
@@ -144,46 +131,45 @@ const INTEGERS: [(&[u8], i128, bool); 6] = [
     (b"017", 15, false),
 ];
 
+/// A text of 1,000 units is none too large, and one of a unit more is.
+fn expect_large_texts(rt: &impl Abort, alloc: Global) {
+    let longest = script_of(rt, alloc, b"\"", b"a", 1000, b"\"");
+    expect_large(rt, WordForm::Text, &longest, false);
+    let longer = script_of(rt, alloc, b"\"", b"a", 1000, b"\\u0061\"");
+    expect_large(rt, WordForm::Text, &longer, true);
+    expect_large(rt, WordForm::RawText, &longer, true);
+    expect_large(rt, WordForm::Unclosed, &longer, false);
+}
+
 #[test]
-fn literals_have_their_limits(rt: HostRuntime) -> Result<(), AllocError> {
+fn literals_have_their_limits(rt: HostRuntime) {
     for (word, value, large) in &INTEGERS {
-        assert_eq!(rt; integer_of(word), *value, "{word:?}");
-        assert_eq!(rt; is_large(WordForm::Bare, word), *large, "{word:?}");
+        assert!(rt; integer_of(word) == *value, "{word:?}");
+        expect_large(&rt, WordForm::Bare, word, *large);
     }
-    let longest = script_of(rt.alloc(), b"\"", b"a", 1000, b"\"")?;
-    assert_large(&rt, &[WordForm::Text], &longest, false);
-    let longer = script_of(rt.alloc(), b"\"", b"a", 1000, b"\\u0061\"")?;
-    assert_large(&rt, &[WordForm::Text, WordForm::RawText], &longer, true);
-    assert_large(&rt, &[WordForm::Unclosed], &longer, false);
-    Ok(())
+    expect_large_texts(&rt, rt.alloc());
 }
 
 /// The first break of a script as `S2 1 8`, the number of its lines with words where it has none.
-fn answer(alloc: Global, script: &[u8]) -> Result<String, AllocError> {
-    if script.len() > 1_048_576 {
-        return String::from_str(alloc, "too long");
-    }
-    match ScriptWords::read(alloc, script) {
+fn answer(rt: &impl Abort, alloc: Global, script: &[u8]) -> String {
+    assert!(rt; script.len() <= 1_048_576);
+    let answer = match ScriptWords::read(alloc, script) {
         Ok(words) => {
             let count = words.lines().len();
             format!(in alloc; "fits {count}")
         }
         Err(ScriptFault::Refused(place)) => {
-            let rule = place.rule;
-            let line = place.line;
-            let column = place.column;
+            let (rule, line, column) = (place.rule, place.line, place.column);
             format!(in alloc; "S{rule} {line} {column}")
         }
         Err(ScriptFault::Memory) => String::from_str(alloc, "memory"),
-    }
+    };
+    sure(rt, answer)
 }
 
-fn check(rt: &impl Abort, alloc: Global, rows: &[(&[u8], &str)]) -> Result<(), AllocError> {
-    for (script, wanted) in rows {
-        let found = answer(alloc, script)?;
-        assert_eq!(rt; found.as_str(), *wanted, "{script:?}");
-    }
-    Ok(())
+/// What is read of a script is this.
+fn expect_answer(rt: &impl Abort, alloc: Global, script: &[u8], wanted: &str) {
+    expect(rt, answer(rt, alloc, script).as_str() == wanted, wanted);
 }
 
 /// Scripts and what is read of them.
@@ -248,27 +234,31 @@ const FIRST_BREAKS_IN_BLOCKS: [(&[u8], &str); 3] = [
 ];
 
 #[test]
-fn first_words_that_fit_no_form(rt: HostRuntime) -> Result<(), Fail> {
-    check(&rt, rt.alloc(), &FIRST_BREAKS)?;
-    check(&rt, rt.alloc(), &FIRST_BREAKS_IN_BLOCKS)?;
-    Ok(())
+fn first_words_that_fit_no_form(rt: HostRuntime) {
+    for (script, wanted) in &FIRST_BREAKS {
+        expect_answer(&rt, rt.alloc(), script, wanted);
+    }
+    for (script, wanted) in &FIRST_BREAKS_IN_BLOCKS {
+        expect_answer(&rt, rt.alloc(), script, wanted);
+    }
 }
 
 /// The head, the body that many times, and the tail.
 fn script_of(
+    rt: &impl Abort,
     alloc: Global,
     head: &[u8],
     body: &[u8],
     count: usize,
     tail: &[u8],
-) -> Result<Vec<u8>, AllocError> {
+) -> Vec<u8> {
     let mut script = Vec::new(alloc);
-    script.extend_from_slice(head)?;
+    sure(rt, script.extend_from_slice(head));
     for _ in 0..count {
-        script.extend_from_slice(body)?;
+        sure(rt, script.extend_from_slice(body));
     }
-    script.extend_from_slice(tail)?;
-    Ok(script)
+    sure(rt, script.extend_from_slice(tail));
+    script
 }
 
 /// A head, a body and how often it stands there, a tail, and what is read of the script.
@@ -279,15 +269,6 @@ type Repeated = (
     &'static [u8],
     &'static str,
 );
-
-fn check_repeated(rt: &impl Abort, alloc: Global, rows: &[Repeated]) -> Result<(), AllocError> {
-    for (head, body, count, tail, wanted) in rows {
-        let script = script_of(alloc, head, body, *count, tail)?;
-        let found = answer(alloc, &script)?;
-        assert_eq!(rt; found.as_str(), *wanted);
-    }
-    Ok(())
-}
 
 const LIMITS: [Repeated; 8] = [
     (b"", b"try\n", 33, b"show 1", "S3 33 1"),
@@ -300,12 +281,6 @@ const LIMITS: [Repeated; 8] = [
     (b"show \"", b"a", 2000, b"", "S2 1 2007"),
 ];
 
-#[test]
-fn limits(rt: HostRuntime) -> Result<(), Fail> {
-    check_repeated(&rt, rt.alloc(), &LIMITS)?;
-    Ok(())
-}
-
 const HOSTILE_LINES: [Repeated; 5] = [
     (b"", b"do 1\n", 209_715, b"", "fits 209715"),
     (b"", b"\n", 1_048_576, b"", "fits 0"),
@@ -313,12 +288,6 @@ const HOSTILE_LINES: [Repeated; 5] = [
     (b"", b" ", 1_048_576, b"", "fits 0"),
     (b"", b"#", 1_048_576, b"", "fits 0"),
 ];
-
-#[test]
-fn hostile_lines(rt: HostRuntime) -> Result<(), Fail> {
-    check_repeated(&rt, rt.alloc(), &HOSTILE_LINES)?;
-    Ok(())
-}
 
 const HOSTILE_WORDS: [Repeated; 6] = [
     (b"", b"a", 1_048_576, b"", "S2 1 1"),
@@ -329,12 +298,6 @@ const HOSTILE_WORDS: [Repeated; 6] = [
     (b"", b"(", 1_048_576, b"", "S2 1 1"),
 ];
 
-#[test]
-fn hostile_words(rt: HostRuntime) -> Result<(), Fail> {
-    check_repeated(&rt, rt.alloc(), &HOSTILE_WORDS)?;
-    Ok(())
-}
-
 const HOSTILE_EXPRESSIONS: [Repeated; 5] = [
     (b"do f(1", b",1", 524_284, b")", "fits 1"),
     (b"do o", b".a", 524_286, b"", "fits 1"),
@@ -343,19 +306,28 @@ const HOSTILE_EXPRESSIONS: [Repeated; 5] = [
     (b"do \"", b"\\u0000", 174_761, b"\"", "S4 1 4"),
 ];
 
+const REPEATED: [&[Repeated]; 4] = [
+    &LIMITS,
+    &HOSTILE_LINES,
+    &HOSTILE_WORDS,
+    &HOSTILE_EXPRESSIONS,
+];
+
 #[test]
-fn hostile_expressions(rt: HostRuntime) -> Result<(), Fail> {
-    check_repeated(&rt, rt.alloc(), &HOSTILE_EXPRESSIONS)?;
-    Ok(())
+fn limits_and_hostile_scripts(rt: HostRuntime) {
+    for table in &REPEATED {
+        for (head, body, count, tail, wanted) in *table {
+            let script = script_of(&rt, rt.alloc(), head, body, *count, tail);
+            expect_answer(&rt, rt.alloc(), &script, wanted);
+        }
+    }
 }
 
 /// 32 open blocks, and 200,000 lines in them.
 #[test]
-fn hostile_blocks(rt: HostRuntime) -> Result<(), Fail> {
-    let opened = script_of(rt.alloc(), b"", b"if 1 is 1\n", 32, b"")?;
-    let closed = script_of(rt.alloc(), b"", b"end\n", 32, b"")?;
-    let script = script_of(rt.alloc(), &opened, b"do 1\n", 200_000, &closed)?;
-    let found = answer(rt.alloc(), &script)?;
-    assert_eq!(rt; found.as_str(), "fits 200064");
-    Ok(())
+fn hostile_blocks(rt: HostRuntime) {
+    let opened = script_of(&rt, rt.alloc(), b"", b"if 1 is 1\n", 32, b"");
+    let closed = script_of(&rt, rt.alloc(), b"", b"end\n", 32, b"");
+    let script = script_of(&rt, rt.alloc(), &opened, b"do 1\n", 200_000, &closed);
+    expect_answer(&rt, rt.alloc(), &script, "fits 200064");
 }

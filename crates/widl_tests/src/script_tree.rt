@@ -1,9 +1,10 @@
 //! Scripts put together by hand.
 
-ghost use Rattle.std.specs.Prelude.{◌≡◌, [], ◌∷◌, IfOk};
+ghost use Rattle.std.specs.Prelude.{◌≡◌, [], ◌∷◌};
 
+use crate::shared::{expect, sure, units};
 use indexmap::IndexMap;
-use std::alloc::{AllocError, Global};
+use std::alloc::Global;
 use std::mem::ManuallyDrop;
 use std::process::Abort;
 use widl_idl::{Callee, Owner, Part};
@@ -15,134 +16,114 @@ use widl_text::{Items, Units};
 use widl_value::Number;
 
 /// A name's number.
-fn name(rt: &impl Abort, tables: &mut ScriptTables, text: Units) -> Result<u32, AllocError> {
+fn name(rt: &impl Abort, tables: &mut ScriptTables, text: Units) -> u32 {
     assert!(rt; tables.name_count() < u32::MAX);
-    tables.put_name(text)
+    sure(rt, tables.put_name(text))
 }
 
 /// `NAME`.
-fn named(rt: &impl Abort, tables: &mut ScriptTables, name: u32) -> Result<u32, AllocError> {
+fn named(rt: &impl Abort, tables: &mut ScriptTables, name: u32) -> u32 {
     assert!(rt; name < tables.name_count());
     assert!(rt; tables.expression_count() < u32::MAX);
-    tables.put_expression(Expression::Name(name))
+    sure(rt, tables.put_expression(Expression::Name(name)))
 }
 
 /// `E.NAME`.
-fn member(
-    rt: &impl Abort,
-    tables: &mut ScriptTables,
-    of: u32,
-    name: u32,
-) -> Result<u32, AllocError> {
+fn member(rt: &impl Abort, tables: &mut ScriptTables, of: u32, name: u32) -> u32 {
     assert!(rt; of < tables.expression_count());
     assert!(rt; name < tables.name_count());
     assert!(rt; tables.expression_count() < u32::MAX);
-    tables.put_expression(Expression::Member(MemberOf {
-        of,
-        key: MemberKey::Named(name),
-    }))
+    let key = MemberKey::Named(name);
+    sure(
+        rt,
+        tables.put_expression(Expression::Member(MemberOf { of, key })),
+    )
 }
 
 /// A statement `do E`, and the row of it alone.
-fn do_alone(rt: &impl Abort, tables: &mut ScriptTables, value: u32) -> Result<Row, AllocError> {
+fn do_alone(rt: &impl Abort, tables: &mut ScriptTables, value: u32) -> Row {
     assert!(rt; value < tables.expression_count());
     assert!(rt; tables.statement_count() < u32::MAX - 1);
-    let place = tables.put_statement(Statement::Do(value))?;
-    tables.put_statement_row(&[place])
+    let place = sure(rt, tables.put_statement(Statement::Do(value)));
+    sure(rt, tables.put_statement_row(&[place]))
 }
 
 /// The numbers of steps blocks, by what they are for.
 type Targets = IndexMap<(Callee, Option<u32>), u32>;
-
-/// No steps blocks.
-fn no_targets(alloc: Global) -> ManuallyDrop<Targets> {
-    ManuallyDrop::new(IndexMap::new(alloc))
-}
 
 /// The script with these statements outside functions and these steps blocks, whose first name is a
 /// namespace's.
 fn finished(
     rt: &impl Abort,
     alloc: Global,
-    tables: ManuallyDrop<ScriptTables>,
+    tables: ScriptTables,
     top: Row,
-    targets: ManuallyDrop<Targets>,
-) -> Result<ManuallyDrop<Script>, AllocError> {
-    let mut owners = ManuallyDrop::new(IndexMap::new(alloc));
-    owners.insert(0, Owner::Space(7))?;
-    let tables = ManuallyDrop::into_inner(tables);
+    targets: Targets,
+) -> ManuallyDrop<Script> {
+    let mut owners = IndexMap::new(alloc);
+    sure(rt, owners.insert(0, Owner::Space(7)));
     assert!(rt; u64::from(top.first) + u64::from(top.count) <= u64::from(tables.statement_count()));
-    let owners = ManuallyDrop::into_inner(owners);
-    let script = tables.finish(top, owners, ManuallyDrop::into_inner(targets));
-    Ok(ManuallyDrop::new(script))
+    ManuallyDrop::new(tables.finish(top, owners, targets))
 }
 
-/// Tables to put into, which are left to the end of the tests.
-fn no_tables(alloc: Global) -> ManuallyDrop<ScriptTables> {
-    ManuallyDrop::new(ScriptTables::new(alloc))
-}
-
-/// The names `N`, `f`, `o` and `a`.
-fn put_names(rt: &impl Abort, alloc: Global, tables: &mut ScriptTables) -> Result<(), AllocError> {
+/// Puts the names `N`, `f`, `o` and `a`.
+fn put_names(rt: &impl Abort, alloc: Global, tables: &mut ScriptTables) {
     for (text, number) in &[("N", 0), ("f", 1), ("o", 2), ("a", 3), ("f", 1)] {
-        assert_eq!(rt; name(rt, tables, Units::of_str(alloc, text)?)?, *number);
+        let found = name(rt, tables, units(rt, alloc, text));
+        expect(rt, found == *number, text);
     }
-    Ok(())
 }
 
 /// A function with the parameter `p`.
-fn function(alloc: Global, name: u32, param: u32) -> Result<Function, AllocError>
-    ensures name { IfOk result (λ f. f.name ≡ name) }
-    ensures params { IfOk result (λ f. f.params ≡ param ∷ []) }
-    ensures names { IfOk result (λ f. f.names ≡ param ∷ []) }
-    ensures body { IfOk result (λ f. (f.body.first ≡ 0) × (f.body.count ≡ 0)) }
+fn function(rt: &impl Abort, alloc: Global, name: u32, param: u32) -> Function
+    ensures name { result.name ≡ name }
+    ensures params { result.params ≡ param ∷ [] }
+    ensures names { result.names ≡ param ∷ [] }
+    ensures body { (result.body.first ≡ 0) × (result.body.count ≡ 0) }
 {
     let mut params = Items::new(alloc);
-    params.push(param)?;
+    sure(rt, params.push(param));
     let mut names = LocalNames::new(alloc);
-    names.put(param)?;
-    Ok(Function {
+    sure(rt, names.put(param));
+    Function {
         name,
         params,
         names,
         body: Row { first: 0, count: 0 },
-    })
+    }
 }
 
 /// Puts a function `f` with the parameter `o`.
-fn put_function(
-    rt: &impl Abort,
-    alloc: Global,
-    tables: &mut ScriptTables,
-) -> Result<u32, AllocError> {
-    put_names(rt, alloc, tables)?;
+fn put_function(rt: &impl Abort, alloc: Global, tables: &mut ScriptTables) -> u32 {
+    put_names(rt, alloc, tables);
     assert!(rt; tables.name_count() == 4);
     assert!(rt; tables.function_count() == 0);
-    tables.put_function(function(alloc, 1, 2)?)
+    sure(rt, tables.put_function(function(rt, alloc, 1, 2)))
 }
 
 #[test]
-fn knows_what_is_local(rt: HostRuntime) -> Result<(), AllocError> {
-    let mut tables = no_tables(rt.alloc());
-    let number = put_function(&rt, rt.alloc(), &mut tables)?;
-    assert!(rt; number == 0);
-    assert!(rt; tables.is_local(0, 2) && !tables.is_local(0, 1) && !tables.is_local(1, 2));
-    Ok(())
+fn knows_what_is_local(rt: HostRuntime) {
+    let mut tables = ManuallyDrop::new(ScriptTables::new(rt.alloc()));
+    let number = put_function(&rt, rt.alloc(), &mut tables);
+    expect(&rt, number == 0, "the function's number");
+    expect(&rt, tables.is_local(0, 2), "the parameter");
+    expect(&rt, !tables.is_local(0, 1), "the function's name");
+    expect(&rt, !tables.is_local(1, 2), "no function");
 }
 
 /// `steps N.f#K`, of one line.
-fn block(alloc: Global, overload: u32) -> Result<StepsBlock, AllocError> {
+fn block(rt: &impl Abort, alloc: Global, overload: u32) -> StepsBlock {
     let mut lines = Items::new(alloc);
-    lines.push(StepLine::Return(Source::Arg(overload)))?;
-    Ok(StepsBlock {
+    sure(rt, lines.push(StepLine::Return(Source::Arg(overload))));
+    StepsBlock {
         target: Target::Operation {
-            owner: Units::of_str(alloc, "N")?,
-            name: Units::of_str(alloc, "f")?,
+            owner: units(rt, alloc, "N"),
+            name: units(rt, alloc, "f"),
             fixed: false,
             overload,
         },
         lines,
-    })
+    }
 }
 
 /// Puts a block for each overload of an operation.
@@ -151,14 +132,14 @@ fn put_blocks(
     alloc: Global,
     tables: &mut ScriptTables,
     callee: Callee,
-) -> Result<ManuallyDrop<Targets>, AllocError> {
-    let mut targets = ManuallyDrop::new(IndexMap::new(alloc));
+) -> Targets {
+    let mut targets = IndexMap::new(alloc);
     for overload in 0..100_000 {
         assert!(rt; tables.steps_count() < u32::MAX);
-        let number = tables.put_steps(block(alloc, overload)?)?;
-        targets.insert((callee, Some(overload)), number)?;
+        let number = sure(rt, tables.put_steps(block(rt, alloc, overload)));
+        sure(rt, targets.insert((callee, Some(overload)), number));
     }
-    Ok(targets)
+    targets
 }
 
 /// Whether the block of this overload returns the argument of its number.
@@ -172,117 +153,107 @@ fn returns_its_number(script: &Script, callee: &Callee, overload: u32) -> bool {
     }
 }
 
+const FOURTH_OPERATION: Callee = Callee {
+    owner: Owner::Space(0),
+    part: Part::Op(3),
+};
+
 #[test]
-fn finds_the_block_of_an_overload(rt: HostRuntime) -> Result<(), AllocError> {
-    let mut tables = no_tables(rt.alloc());
-    let callee = Callee {
-        owner: Owner::Space(0),
-        part: Part::Op(3),
-    };
-    let targets = put_blocks(&rt, rt.alloc(), &mut tables, callee)?;
+fn finds_the_block_of_an_overload(rt: HostRuntime) {
+    let mut tables = ScriptTables::new(rt.alloc());
+    let targets = put_blocks(&rt, rt.alloc(), &mut tables, FOURTH_OPERATION);
     let top = Row { first: 0, count: 0 };
-    let script = finished(&rt, rt.alloc(), tables, top, targets)?;
-    assert!(rt; returns_its_number(&script, &callee, 99_999));
-    assert!(rt; script.steps_of(&callee, None).is_none());
-    assert!(rt; script.steps_of(&callee, Some(100_000)).is_none());
-    Ok(())
+    let script = finished(&rt, rt.alloc(), tables, top, targets);
+    let callee = FOURTH_OPERATION;
+    expect(
+        &rt,
+        returns_its_number(&script, &callee, 99_999),
+        "the last block",
+    );
+    expect(
+        &rt,
+        script.steps_of(&callee, None).is_none(),
+        "a block of no overload",
+    );
+    let after = script.steps_of(&callee, Some(100_000));
+    expect(&rt, after.is_none(), "a block after the last one");
 }
 
 /// `do o.o.o..`, with 500,000 members.
-fn put_chain(rt: &impl Abort, alloc: Global, tables: &mut ScriptTables) -> Result<Row, AllocError> {
-    let object = name(rt, tables, Units::of_str(alloc, "o")?)?;
-    let mut place = named(rt, tables, object)?;
+fn put_chain(rt: &impl Abort, alloc: Global, tables: &mut ScriptTables) -> Row {
+    let object = name(rt, tables, units(rt, alloc, "o"));
+    let mut place = named(rt, tables, object);
     for _ in 0..500_000 {
-        place = member(rt, tables, place, object)?;
+        place = member(rt, tables, place, object);
     }
     do_alone(rt, tables, place)
 }
 
 #[test]
-fn puts_a_long_chain(rt: HostRuntime) -> Result<(), AllocError> {
-    let mut tables = no_tables(rt.alloc());
-    let top = put_chain(&rt, rt.alloc(), &mut tables)?;
-    let script = finished(&rt, rt.alloc(), tables, top, no_targets(rt.alloc()))?;
-    assert!(rt; *script.statement(top.first) == Statement::Do(500_000));
-    Ok(())
+fn puts_a_long_chain(rt: HostRuntime) {
+    let mut tables = ScriptTables::new(rt.alloc());
+    let top = put_chain(&rt, rt.alloc(), &mut tables);
+    let script = finished(&rt, rt.alloc(), tables, top, IndexMap::new(rt.alloc()));
+    let found = *script.statement(top.first);
+    expect(&rt, found == Statement::Do(500_000), "the last member");
 }
 
 /// `E[E]`.
-fn indexed(
-    rt: &impl Abort,
-    tables: &mut ScriptTables,
-    of: u32,
-    key: u32,
-) -> Result<u32, AllocError> {
+fn indexed(rt: &impl Abort, tables: &mut ScriptTables, of: u32, key: u32) -> u32 {
     assert!(rt; of < tables.expression_count());
     assert!(rt; key < tables.expression_count());
     assert!(rt; tables.expression_count() < u32::MAX);
-    tables.put_expression(Expression::Member(MemberOf {
-        of,
-        key: MemberKey::Computed(key),
-    }))
+    let key = MemberKey::Computed(key);
+    sure(
+        rt,
+        tables.put_expression(Expression::Member(MemberOf { of, key })),
+    )
 }
 
 /// `1`.
-fn one(rt: &impl Abort, tables: &mut ScriptTables) -> Result<u32, AllocError> {
+fn one(rt: &impl Abort, tables: &mut ScriptTables) -> u32 {
     assert!(rt; tables.expression_count() < u32::MAX);
-    tables.put_expression(Expression::Number(Number::Whole(1)))
+    sure(
+        rt,
+        tables.put_expression(Expression::Number(Number::Whole(1))),
+    )
 }
 
 /// A text.
-fn quoted(rt: &impl Abort, tables: &mut ScriptTables, text: Units) -> Result<u32, AllocError> {
+fn quoted(rt: &impl Abort, tables: &mut ScriptTables, text: Units) -> u32 {
     assert!(rt; tables.expression_count() < u32::MAX);
-    tables.put_expression(Expression::Text(text))
+    sure(rt, tables.put_expression(Expression::Text(text)))
 }
 
 /// A row of two.
-fn two(rt: &impl Abort, tables: &mut ScriptTables, a: u32, b: u32) -> Result<Row, AllocError> {
+fn two(rt: &impl Abort, tables: &mut ScriptTables, a: u32, b: u32) -> Row {
     assert!(rt; a < tables.expression_count());
     assert!(rt; b < tables.expression_count());
     assert!(rt; tables.expression_count() < u32::MAX - 2);
-    tables.put_row(&[a, b])
+    sure(rt, tables.put_row(&[a, b]))
 }
 
 /// `E(E, E)`.
-fn call(
-    rt: &impl Abort,
-    tables: &mut ScriptTables,
-    callee: u32,
-    args: Row,
-) -> Result<u32, AllocError> {
+fn call(rt: &impl Abort, tables: &mut ScriptTables, callee: u32, args: Row) -> u32 {
     let count = tables.expression_count();
     assert!(rt; callee < count);
     assert!(rt; u64::from(args.first) + u64::from(args.count) <= u64::from(count));
     assert!(rt; count < u32::MAX);
-    tables.put_expression(Expression::Call { callee, args })
-}
-
-/// `o.a[1]`.
-fn put_first(rt: &impl Abort, tables: &mut ScriptTables) -> Result<u32, AllocError> {
-    let object = named(rt, tables, 2)?;
-    let of = member(rt, tables, object, 3)?;
-    let key = one(rt, tables)?;
-    indexed(rt, tables, of, key)
-}
-
-/// `N.f(o.a[1], "x")`.
-fn put_call(rt: &impl Abort, alloc: Global, tables: &mut ScriptTables) -> Result<u32, AllocError> {
-    let space = named(rt, tables, 0)?;
-    let callee = member(rt, tables, space, 1)?;
-    let first = put_first(rt, tables)?;
-    let second = quoted(rt, tables, Units::of_str(alloc, "x")?)?;
-    let args = two(rt, tables, first, second)?;
-    call(rt, tables, callee, args)
+    sure(rt, tables.put_expression(Expression::Call { callee, args }))
 }
 
 /// `do N.f(o.a[1], "x")`.
-fn put_sample(
-    rt: &impl Abort,
-    alloc: Global,
-    tables: &mut ScriptTables,
-) -> Result<Row, AllocError> {
-    put_names(rt, alloc, tables)?;
-    let value = put_call(rt, alloc, tables)?;
+fn put_sample(rt: &impl Abort, alloc: Global, tables: &mut ScriptTables) -> Row {
+    put_names(rt, alloc, tables);
+    let space = named(rt, tables, 0);
+    let callee = member(rt, tables, space, 1);
+    let object = named(rt, tables, 2);
+    let of = member(rt, tables, object, 3);
+    let key = one(rt, tables);
+    let first = indexed(rt, tables, of, key);
+    let second = quoted(rt, tables, units(rt, alloc, "x"));
+    let args = two(rt, tables, first, second);
+    let value = call(rt, tables, callee, args);
     do_alone(rt, tables, value)
 }
 
@@ -366,20 +337,21 @@ fn has_no_blocks(script: &Script, callee: &Callee) -> bool {
     script.steps(0).is_none() && script.steps_of(callee, None).is_none() && !script.is_local(0, 0)
 }
 
+const FIRST_OPERATION: Callee = Callee {
+    owner: Owner::Space(7),
+    part: Part::Op(0),
+};
+
 #[test]
-fn reads_a_script(rt: HostRuntime) -> Result<(), AllocError> {
-    let mut tables = no_tables(rt.alloc());
-    let top = put_sample(&rt, rt.alloc(), &mut tables)?;
-    let script = finished(&rt, rt.alloc(), tables, top, no_targets(rt.alloc()))?;
-    assert!(rt; has_expressions(&script));
-    assert!(rt; has_items(&script));
-    assert!(rt; has_statements(&script));
-    assert!(rt; has_names(&script));
-    let callee = Callee {
-        owner: Owner::Space(7),
-        part: Part::Op(0),
-    };
-    assert!(rt; has_no_blocks(&script, &callee));
-    assert!(rt; Row { first: 7, count: 2 }.rest() == Row { first: 8, count: 1 });
-    Ok(())
+fn reads_a_script(rt: HostRuntime) {
+    let mut tables = ScriptTables::new(rt.alloc());
+    let top = put_sample(&rt, rt.alloc(), &mut tables);
+    let script = finished(&rt, rt.alloc(), tables, top, IndexMap::new(rt.alloc()));
+    expect(&rt, has_expressions(&script), "expressions");
+    expect(&rt, has_items(&script), "items of rows");
+    expect(&rt, has_statements(&script), "statements");
+    expect(&rt, has_names(&script), "names");
+    expect(&rt, has_no_blocks(&script, &FIRST_OPERATION), "no blocks");
+    let rest = Row { first: 7, count: 2 }.rest();
+    expect(&rt, rest == Row { first: 8, count: 1 }, "the rest of a row");
 }

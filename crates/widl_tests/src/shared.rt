@@ -3,12 +3,12 @@
 pub mod accepted_sets;
 pub mod numbered;
 
-ghost use Rattle.std.specs.Prelude.{IfOk};
+ghost use Rattle.std.specs.Prelude.{◌≡◌, IsTrue, Ok};
 ghost use Rattle.widl_idl.specs.Flattened.{IsUnion};
 ghost use Rattle.widl_idl.specs.Terms.{type_term};
 
-use std::alloc::{AllocError, Global};
-use std::mem::ManuallyDrop;
+use std::alloc::Global;
+use std::process::Abort;
 use widl_idl::{
     Arg, Args, Attrs, Callbacks, Callee, Choices, Constants, Defs, Dicts, IdlType, IdlTypes, Iface,
     Ifaces, IntKind, Mode, OpName, OpNames, Optionality, Owner, Part, Sig, Sigs, Slots, Space,
@@ -25,9 +25,30 @@ pub const THE_OPERATION: Callee = Callee {
     part: Part::Op(0),
 };
 
-/// The units of a text, which are left to the end of the tests.
-pub fn units(alloc: Global, text: &str) -> Result<ManuallyDrop<Units>, AllocError> {
-    Ok(ManuallyDrop::new(Units::of_str(alloc, text)?))
+/// What a call made. The test ends where there is no memory.
+pub fn sure<T, E>(rt: &impl Abort, made: Result<T, E>) -> T
+    ensures { made ≡ Ok result }
+{
+    match made {
+        Ok(value) => value,
+        Err(_) => panic!(rt; "no memory"),
+    }
+}
+
+/// Ends the test where something doesn't hold of what has this name.
+pub fn expect(rt: &impl Abort, holds: bool, what: &str)
+    ensures { IsTrue holds }
+{
+    assert!(rt; holds, "{what}");
+}
+
+/// The units of a text.
+pub fn units(rt: &impl Abort, alloc: Global, text: &str) -> Units {
+    sure(rt, Units::of_str(alloc, text))
+}
+
+pub fn boxed(rt: &impl Abort, alloc: Global, t: IdlType) -> Box<IdlType> {
+    sure(rt, Box::new(alloc, t))
 }
 
 pub fn long() -> IdlType {
@@ -47,12 +68,12 @@ fn clamped() -> IdlType {
 }
 
 /// A type of a kind, which is annotated where it can be.
-pub fn of_kind(alloc: Global, kind: &str) -> Result<IdlType, AllocError> {
+pub fn of_kind(rt: &impl Abort, alloc: Global, kind: &str) -> IdlType {
     match kind {
-        "sequence" => Ok(IdlType::Seq(Box::new(alloc, clamped())?)),
-        "record" => Ok(IdlType::Rec(TextKind::Dom, Box::new(alloc, clamped())?)),
-        "promise" => Ok(IdlType::Promise(Box::new(alloc, clamped())?)),
-        _ => Ok(without_parts(kind)),
+        "sequence" => IdlType::Seq(boxed(rt, alloc, clamped())),
+        "record" => IdlType::Rec(TextKind::Dom, boxed(rt, alloc, clamped())),
+        "promise" => IdlType::Promise(boxed(rt, alloc, clamped())),
+        _ => without_parts(kind),
     }
 }
 
@@ -77,29 +98,29 @@ fn without_parts(kind: &str) -> IdlType {
     }
 }
 
-pub fn nullable(alloc: Global, t: IdlType) -> Result<IdlType, AllocError> {
-    Ok(IdlType::Nullable(Box::new(alloc, t)?))
+pub fn nullable(rt: &impl Abort, alloc: Global, t: IdlType) -> IdlType {
+    IdlType::Nullable(boxed(rt, alloc, t))
 }
 
-pub fn union(alloc: Global, a: IdlType, b: IdlType) -> Result<IdlType, AllocError>
-    ensures { IfOk result (λ t. IsUnion (type_term t)) }
+pub fn union(rt: &impl Abort, alloc: Global, a: IdlType, b: IdlType) -> IdlType
+    ensures { IsUnion (type_term result) }
 {
     let mut members = IdlTypes::new(alloc);
-    members.push(a)?;
-    members.push(b)?;
-    Ok(IdlType::Union(members))
+    sure(rt, members.push(a));
+    sure(rt, members.push(b));
+    IdlType::Union(members)
 }
 
 pub fn interface(
     alloc: Global,
-    name: &str,
+    name: Units,
     parent: Option<u32>,
     ctors: Sigs,
     ops: OpNames,
-) -> Result<Iface, AllocError> {
-    Ok(Iface {
+) -> Iface {
+    Iface {
         at: NOWHERE,
-        name: Units::of_str(alloc, name)?,
+        name,
         parent,
         ctors,
         ops,
@@ -108,47 +129,44 @@ pub fn interface(
         text: Stringify::No,
         pairs: None,
         order: Slots::new(alloc),
-    })
+    }
 }
 
 /// Adds an interface without members.
-fn add_interface(
-    alloc: Global,
-    ifaces: &mut Ifaces,
-    parent: Option<u32>,
-) -> Result<(), AllocError> {
+fn add_interface(rt: &impl Abort, alloc: Global, ifaces: &mut Ifaces, parent: Option<u32>) {
     let (ctors, ops) = (Sigs::new(alloc), OpNames::new(alloc));
-    ifaces.push(interface(alloc, "", parent, ctors, ops)?)
+    let iface = interface(alloc, Units::new(alloc), parent, ctors, ops);
+    sure(rt, ifaces.push(iface));
 }
 
 /// Interface 1 inherits from 0, and 2 from none.
-pub fn three_interfaces(alloc: Global) -> Result<Ifaces, AllocError> {
-    let mut ifaces = ManuallyDrop::new(Ifaces::new(alloc));
+pub fn three_interfaces(rt: &impl Abort, alloc: Global) -> Ifaces {
+    let mut ifaces = Ifaces::new(alloc);
     for parent in &[None, Some(0), None] {
-        add_interface(alloc, &mut ifaces, *parent)?;
+        add_interface(rt, alloc, &mut ifaces, *parent);
     }
-    Ok(ManuallyDrop::into_inner(ifaces))
+    ifaces
 }
 
 /// So many interfaces, each of which inherits from the one before or from none.
-pub fn many_interfaces(alloc: Global, count: u32, chained: bool) -> Result<Ifaces, AllocError> {
-    let mut ifaces = ManuallyDrop::new(Ifaces::new(alloc));
+pub fn many_interfaces(rt: &impl Abort, alloc: Global, count: u32, chained: bool) -> Ifaces {
+    let mut ifaces = Ifaces::new(alloc);
     for number in 0..count {
         let parent = if chained { number.checked_sub(1) } else { None };
-        add_interface(alloc, &mut ifaces, parent)?;
+        add_interface(rt, alloc, &mut ifaces, parent);
     }
-    Ok(ManuallyDrop::into_inner(ifaces))
+    ifaces
 }
 
-pub fn namespace(alloc: Global, name: &str, ops: OpNames) -> Result<Space, AllocError> {
-    Ok(Space {
+pub fn namespace(alloc: Global, name: Units, ops: OpNames) -> Space {
+    Space {
         at: NOWHERE,
-        name: Units::of_str(alloc, name)?,
+        name,
         ops,
         attrs: Attrs::new(alloc),
         consts: Constants::new(alloc),
         order: Slots::new(alloc),
-    })
+    }
 }
 
 /// A list with these interfaces and namespaces alone.
@@ -164,42 +182,46 @@ pub fn list_of(alloc: Global, ifaces: Ifaces, spaces: Spaces) -> Defs {
 }
 
 /// The operations of one name, which have these overloads.
-pub fn one_operation(
-    alloc: Global,
-    name: &str,
-    fixed: bool,
-    sigs: Sigs,
-) -> Result<OpNames, AllocError> {
-    let mut ops = ManuallyDrop::new(OpNames::new(alloc));
-    ops.push(OpName {
-        name: Units::of_str(alloc, name)?,
-        fixed,
-        sigs,
-    })?;
-    Ok(ManuallyDrop::into_inner(ops))
+pub fn one_operation(rt: &impl Abort, alloc: Global, name: &str, sigs: Sigs) -> OpNames {
+    let mut ops = OpNames::new(alloc);
+    add_operation(rt, &mut ops, units(rt, alloc, name), false, sigs);
+    ops
+}
+
+/// Adds the operations of one name.
+pub fn add_operation(rt: &impl Abort, ops: &mut OpNames, name: Units, fixed: bool, sigs: Sigs) {
+    sure(rt, ops.push(OpName { name, fixed, sigs }));
 }
 
 /// A list with these interfaces and one namespace, whose one operation has these overloads.
-pub fn list_with(alloc: Global, ifaces: Ifaces, sigs: Sigs) -> Result<Defs, AllocError> {
-    let ifaces = ManuallyDrop::new(ifaces);
-    let mut spaces = ManuallyDrop::new(Spaces::new(alloc));
-    spaces.push(namespace(alloc, "N", one_operation(alloc, "f", false, sigs)?)?)?;
-    let ifaces = ManuallyDrop::into_inner(ifaces);
-    Ok(list_of(alloc, ifaces, ManuallyDrop::into_inner(spaces)))
+pub fn list_with(rt: &impl Abort, alloc: Global, ifaces: Ifaces, sigs: Sigs) -> Defs {
+    let ops = one_operation(rt, alloc, "f", sigs);
+    let mut spaces = Spaces::new(alloc);
+    sure(
+        rt,
+        spaces.push(namespace(alloc, units(rt, alloc, "N"), ops)),
+    );
+    list_of(alloc, ifaces, spaces)
 }
 
 pub fn add_argument(
+    rt: &impl Abort,
     alloc: Global,
     args: &mut Args,
     ty: IdlType,
     opt: Optionality,
-) -> Result<(), AllocError> {
-    args.push(Arg {
-        name: Units::of_str(alloc, "a")?,
-        ty,
-        opt,
-        value: None,
-    })
+) {
+    let name = units(rt, alloc, "a");
+    let value = None;
+    sure(
+        rt,
+        args.push(Arg {
+            name,
+            ty,
+            opt,
+            value,
+        }),
+    );
 }
 
 pub fn overload(args: Args) -> Sig {
@@ -210,11 +232,16 @@ pub fn overload(args: Args) -> Sig {
     }
 }
 
-/// An overload of one argument.
-pub fn of_one(alloc: Global, ty: IdlType, opt: Optionality) -> Result<Sig, AllocError> {
-    let mut args = ManuallyDrop::new(Args::new(alloc));
-    add_argument(alloc, &mut args, ty, opt)?;
-    Ok(overload(ManuallyDrop::into_inner(args)))
+/// Adds an overload with these arguments.
+pub fn add_overload(rt: &impl Abort, sigs: &mut Sigs, args: Args) {
+    sure(rt, sigs.push(overload(args)));
+}
+
+/// Adds an overload of one argument.
+pub fn add_of_one(rt: &impl Abort, alloc: Global, sigs: &mut Sigs, ty: IdlType, opt: Optionality) {
+    let mut args = Args::new(alloc);
+    add_argument(rt, alloc, &mut args, ty, opt);
+    add_overload(rt, sigs, args);
 }
 
 /// An ordinary object.

@@ -1,74 +1,62 @@
 //! What no clause says: that memory is found where there is some, and what real writers hold.
 
-use std::alloc::{AllocError, Global};
+use crate::shared::{expect, sure};
+use std::alloc::Global;
 use std::mem::ManuallyDrop;
 use std::process::Abort;
-use std::test::Fail;
-use widl_sink::{Line, MemorySink, Numbers, Sink, StdoutSink, SureSink, WriteFailed, Writer, cost};
-
-fn line_of(alloc: Global, text: &str) -> Result<Line, AllocError> {
-    Ok(Line::new(Vec::from_slice(alloc, text.as_bytes())?))
-}
-
-fn write_once<K: Sink>(out: &mut K) -> Result<u32, WriteFailed> {
-    out.write(b"some bytes")
-}
-
-/// Puts 2 in the place of 9.
-fn replace_nine(rt: &impl Abort, numbers: &mut Numbers) {
-    assert!(rt; numbers.len() == 1);
-    assert!(rt; *numbers.at(0) == 9);
-    assert!(rt; numbers.replace(0, 2) == 9);
-}
+use widl_sink::{Line, MemorySink, Numbers, Sink, StdoutSink, SureSink, Writer, cost};
 
 /// The number 2, which stands in the place of 9.
-fn changed_numbers(rt: &impl Abort, alloc: Global) -> Result<Numbers, AllocError> {
-    let mut numbers = ManuallyDrop::new(Numbers::new(alloc));
-    numbers.push(9)?;
-    replace_nine(rt, &mut numbers);
-    Ok(ManuallyDrop::into_inner(numbers))
+fn changed_numbers(rt: &impl Abort, alloc: Global) -> Numbers {
+    let mut numbers = Numbers::new(alloc);
+    sure(rt, numbers.push(9));
+    assert!(rt; numbers.len() == 1);
+    expect(rt, *numbers.at(0) == 9, "a number");
+    expect(rt, numbers.replace(0, 2) == 9, "the former number");
+    numbers
 }
 
 /// The answer of one write.
-fn assert_write<K: Sink>(rt: &impl Abort, out: &mut K, answer: Result<u32, WriteFailed>) {
-    assert_eq!(rt; write_once(out), answer);
+fn expect_write<K: Sink>(rt: &impl Abort, out: &mut K, answer: Option<u32>) {
+    expect(rt, out.write(b"some bytes").ok() == answer, "a write");
 }
 
-#[test]
-fn a_memory_sink_takes_what_fits(rt: HostRuntime) -> Result<(), Fail> {
-    let alloc = rt.alloc();
-    let fails = changed_numbers(&rt, alloc)?;
-    let mut out = ManuallyDrop::new(MemorySink::new(alloc, 7, 4, fails)?);
-    assert_write(&rt, &mut *out, Ok(4));
-    assert_write(&rt, &mut *out, Err(WriteFailed));
-    assert_write(&rt, &mut *out, Ok(3));
-    assert_write(&rt, &mut *out, Err(WriteFailed));
-    assert_eq!(rt; out.held(), b"somesom".as_slice());
-    Ok(())
+fn write_into_memory(rt: &impl Abort, alloc: Global) {
+    let fails = changed_numbers(rt, alloc);
+    let mut out = ManuallyDrop::new(sure(rt, MemorySink::new(alloc, 7, 4, fails)));
+    for answer in &[Some(4), None, Some(3), None] {
+        expect_write(rt, &mut *out, *answer);
+    }
+    expect(rt, out.held() == b"somesom".as_slice(), "what fits");
 }
 
-#[test]
-fn a_line_is_written_whole(rt: HostRuntime) -> Result<(), Fail> {
-    let alloc = rt.alloc();
-    let line = ManuallyDrop::new(line_of(alloc, "ret undefined")?);
-    assert_eq!(rt; cost(&line), 1);
-    let out = MemorySink::new(alloc, 100, 5, Numbers::new(alloc))?;
+fn write_a_line(rt: &impl Abort, alloc: Global) {
+    let line = Line::new(sure(rt, Vec::from_slice(alloc, b"ret undefined")));
+    expect(rt, cost(&line) == 1, "the line's cost");
+    let out = sure(rt, MemorySink::new(alloc, 100, 5, Numbers::new(alloc)));
     let mut out = ManuallyDrop::new(out);
-    let mut writer = ManuallyDrop::new(Writer::new(alloc)?);
-    assert_eq!(rt; writer.emit(&line, &mut *out), Ok(()));
-    assert_eq!(rt; writer.flush(&mut *out), Ok(()));
-    assert_eq!(rt; out.held(), b"ret undefined\n".as_slice());
-    Ok(())
+    let mut writer = ManuallyDrop::new(sure(rt, Writer::new(alloc)));
+    expect(rt, writer.emit(&line, &mut *out).is_ok(), "a line");
+    expect(rt, writer.flush(&mut *out).is_ok(), "its end");
+    expect(
+        rt,
+        out.held() == b"ret undefined\n".as_slice(),
+        "a whole line",
+    );
 }
 
 #[test]
-fn a_writer_of_std_holds_the_bytes(rt: HostRuntime) -> Result<(), Fail> {
-    let mut sure = SureSink::new();
-    assert_write(&rt, &mut sure, Ok(10));
+fn memory_takes_what_fits_and_whole_lines(rt: HostRuntime) {
+    write_into_memory(&rt, rt.alloc());
+    write_a_line(&rt, rt.alloc());
+}
+
+#[test]
+fn a_writer_of_std_holds_the_bytes(rt: HostRuntime) {
+    expect_write(&rt, &mut SureSink::new(), Some(10));
     let mut room = [0u8; 12];
     let mut out = StdoutSink::new(&mut room[..]);
-    assert_write(&rt, &mut out, Ok(10));
-    assert_write(&rt, &mut out, Ok(2));
-    assert_write(&rt, &mut out, Err(WriteFailed));
-    Ok(())
+    for answer in &[Some(10), Some(2), None] {
+        expect_write(&rt, &mut out, *answer);
+    }
 }

@@ -6,15 +6,14 @@ mod many;
 mod objects;
 mod written;
 
-use crate::shared::number;
+use crate::shared::{expect, number};
 use calls::{
-    ARRAY, FIRST, accessor, define, defines, deletes, finds, heir, name, own_keys, owns, plain,
-    put, puts, set, shows,
+    ARRAY, FIRST, accessor, define, expect_define, expect_delete, expect_done, expect_found,
+    expect_keys, expect_number, expect_own, expect_put, heir, name, plain, set,
 };
 use objects::{Objects, realm_over};
-use std::alloc::{AllocError, Global};
+use std::alloc::Global;
 use std::process::Abort;
-use std::test::Fail;
 use widl_store::Prop;
 use widl_text::Key;
 use widl_value::{Flags, ObjRef};
@@ -32,78 +31,56 @@ const LENGTHS: [(&str, &str, i128); 8] = [
     ("length", "length", 4_294_967_295),
 ];
 
-fn put_lengths(rt: &impl Abort, alloc: Global, store: &mut Objects) -> Result<(), AllocError> {
-    for (text, answer, length) in &LENGTHS {
-        assert!(rt; puts(rt, alloc, store, ARRAY, text)? == *answer);
-        assert!(rt; finds(rt, alloc, store, ARRAY, "length")? == Some(*length));
-    }
-    Ok(())
-}
-
 #[test]
-fn raises_the_length_of_arrays(rt: HostRuntime) -> Result<(), Fail> {
-    let mut store = realm_over(rt.alloc(), &[])?;
-    let done = put_lengths(&rt, rt.alloc(), &mut store);
-    drop(store);
-    Ok(done?)
+fn raises_the_length_of_arrays(rt: HostRuntime) {
+    let alloc = rt.alloc();
+    let mut store = realm_over(&rt, alloc, &[]);
+    for (text, answer, length) in &LENGTHS {
+        expect_put(&rt, alloc, &mut store, ARRAY, text, answer);
+        expect_number(&rt, alloc, &store, ARRAY, "length", *length);
+    }
 }
 
 /// Properties of the first object: read only, with a setter alone, with a getter alone.
-fn set_all(rt: &impl Abort, alloc: Global, store: &mut Objects) -> Result<(), AllocError> {
-    set(rt, alloc, store, "fixed", plain(false, false))?;
-    set(rt, alloc, store, "set", accessor(None, Some(FIRST)))?;
-    set(rt, alloc, store, "get", accessor(Some(FIRST), None))
+fn set_all(rt: &impl Abort, alloc: Global, store: &mut Objects) {
+    set(rt, alloc, store, "fixed", plain(false, false));
+    set(rt, alloc, store, "set", accessor(None, Some(FIRST)));
+    set(rt, alloc, store, "get", accessor(Some(FIRST), None));
 }
 
-fn refuse_on(
-    rt: &impl Abort,
-    alloc: Global,
-    store: &mut Objects,
-    obj: ObjRef,
-    text: &str,
-) -> Result<(), AllocError> {
-    assert!(rt; defines(rt, alloc, store, obj, text)? == "not configurable");
-    assert!(rt; deletes(rt, alloc, store, obj, text)? == "not configurable");
-    Ok(())
+/// Neither a definition nor a deletion changes what isn't configurable.
+fn refuse_on(rt: &impl Abort, alloc: Global, store: &mut Objects, text: &str) {
+    expect_define(rt, alloc, store, FIRST, text, "not configurable");
+    expect_delete(rt, alloc, store, FIRST, text, "not configurable");
 }
 
-fn refuse_all(
-    rt: &impl Abort,
-    alloc: Global,
-    store: &mut Objects,
-    obj: ObjRef,
-) -> Result<(), AllocError> {
-    assert!(rt; puts(rt, alloc, store, obj, "fixed")? == "read only");
-    assert!(rt; puts(rt, alloc, store, obj, "set")? == "setter");
-    assert!(rt; puts(rt, alloc, store, obj, "get")? == "no setter");
-    refuse_on(rt, alloc, store, FIRST, "fixed")?;
-    refuse_on(rt, alloc, store, FIRST, "set")
-}
+/// Names and what a put of each refuses, at an heir of the first object.
+const REFUSED: [(&str, &str); 3] = [
+    ("fixed", "read only"),
+    ("set", "setter"),
+    ("get", "no setter"),
+];
 
-fn refuse_length(rt: &impl Abort, alloc: Global, store: &mut Objects) -> Result<(), AllocError> {
-    assert!(rt; puts(rt, alloc, store, ARRAY, "length")? == "length");
-    assert!(rt; defines(rt, alloc, store, ARRAY, "length")? == "length");
-    assert!(rt; deletes(rt, alloc, store, ARRAY, "length")? == "not configurable");
-    Ok(())
-}
-
-fn refuse(rt: &impl Abort, alloc: Global, store: &mut Objects) -> Result<(), AllocError> {
-    set_all(rt, alloc, store)?;
-    let obj = heir(rt, store, FIRST)?;
-    let before = written(rt, alloc, store, 0)?;
-    refuse_all(rt, alloc, store, obj)?;
-    refuse_length(rt, alloc, store)?;
-    let after = written(rt, alloc, store, 0)?;
-    assert!(rt; before.as_str() == after.as_str());
-    Ok(())
+fn refuse_all(rt: &impl Abort, alloc: Global, store: &mut Objects, obj: ObjRef) {
+    for (text, answer) in &REFUSED {
+        expect_put(rt, alloc, store, obj, text, answer);
+    }
+    refuse_on(rt, alloc, store, "fixed");
+    refuse_on(rt, alloc, store, "set");
+    expect_put(rt, alloc, store, ARRAY, "length", "length");
+    expect_define(rt, alloc, store, ARRAY, "length", "length");
+    expect_delete(rt, alloc, store, ARRAY, "length", "not configurable");
 }
 
 #[test]
-fn changes_nothing_where_it_refuses(rt: HostRuntime) -> Result<(), Fail> {
-    let mut store = realm_over(rt.alloc(), &[])?;
-    let done = refuse(&rt, rt.alloc(), &mut store);
-    drop(store);
-    Ok(done?)
+fn changes_nothing_where_it_refuses(rt: HostRuntime) {
+    let mut store = realm_over(&rt, rt.alloc(), &[]);
+    set_all(&rt, rt.alloc(), &mut store);
+    let obj = heir(&rt, &mut store, FIRST);
+    let before = written(&rt, rt.alloc(), &mut store, 0);
+    refuse_all(&rt, rt.alloc(), &mut store, obj);
+    let after = written(&rt, rt.alloc(), &mut store, 0);
+    expect(&rt, before.as_str() == after.as_str(), "the objects");
 }
 
 /// What is found at names of the first object.
@@ -114,41 +91,25 @@ const SHOWN: [(&str, &str); 4] = [
     ("none", "nothing"),
 ];
 
-fn look_along(rt: &impl Abort, alloc: Global, store: &mut Objects) -> Result<(), AllocError> {
-    set(rt, alloc, store, "fixed", plain(false, false))?;
-    set(rt, alloc, store, "set", accessor(None, Some(FIRST)))?;
-    set(rt, alloc, store, "get", accessor(Some(FIRST), None))?;
-    let obj = heir(rt, store, ARRAY)?;
+#[test]
+fn looks_along_prototypes(rt: HostRuntime) {
+    let mut store = realm_over(&rt, rt.alloc(), &[]);
+    set_all(&rt, rt.alloc(), &mut store);
+    let obj = heir(&rt, &mut store, ARRAY);
     for (text, found) in &SHOWN {
-        assert!(rt; shows(rt, alloc, store, obj, text)? == *found);
-        assert!(rt; owns(rt, alloc, store, obj, text)?.is_none());
+        expect_found(&rt, rt.alloc(), &store, obj, text, found);
+        expect_own(&rt, rt.alloc(), &store, obj, text, None);
     }
-    Ok(())
 }
 
 #[test]
-fn looks_along_prototypes(rt: HostRuntime) -> Result<(), Fail> {
-    let mut store = realm_over(rt.alloc(), &[])?;
-    let done = look_along(&rt, rt.alloc(), &mut store);
-    drop(store);
-    Ok(done?)
-}
-
-fn shadow(rt: &impl Abort, alloc: Global, store: &mut Objects) -> Result<(), AllocError> {
-    let obj = heir(rt, store, ARRAY)?;
-    assert!(rt; puts(rt, alloc, store, obj, "length")? == "done");
-    assert!(rt; puts(rt, alloc, store, obj, "5")? == "done");
-    assert!(rt; finds(rt, alloc, store, obj, "length")? == Some(1));
-    assert!(rt; finds(rt, alloc, store, ARRAY, "length")? == Some(0));
-    Ok(())
-}
-
-#[test]
-fn shadows_the_length_of_an_array(rt: HostRuntime) -> Result<(), Fail> {
-    let mut store = realm_over(rt.alloc(), &[])?;
-    let done = shadow(&rt, rt.alloc(), &mut store);
-    drop(store);
-    Ok(done?)
+fn shadows_the_length_of_an_array(rt: HostRuntime) {
+    let mut store = realm_over(&rt, rt.alloc(), &[]);
+    let obj = heir(&rt, &mut store, ARRAY);
+    expect_put(&rt, rt.alloc(), &mut store, obj, "length", "done");
+    expect_put(&rt, rt.alloc(), &mut store, obj, "5", "done");
+    expect_number(&rt, rt.alloc(), &store, obj, "length", 1);
+    expect_number(&rt, rt.alloc(), &store, ARRAY, "length", 0);
 }
 
 fn hidden() -> Prop {
@@ -162,40 +123,29 @@ fn hidden() -> Prop {
     }
 }
 
+fn put_all(rt: &impl Abort, alloc: Global, store: &mut Objects, obj: ObjRef, names: &[&str]) {
+    for text in names {
+        expect_put(rt, alloc, store, obj, text, "done");
+    }
+}
+
 /// `b`, `10`, `2`, a symbol and `h`, which is hidden; then so many more names.
-fn put_mixed(
-    rt: &impl Abort,
-    alloc: Global,
-    store: &mut Objects,
-    obj: ObjRef,
-    more: &[&str],
-) -> Result<(), AllocError> {
-    for text in &["b", "10", "2"] {
-        assert!(rt; puts(rt, alloc, store, obj, text)? == "done");
-    }
-    assert!(rt; put(rt, store, obj, Key::Sym(7), 1) == "done");
-    let key = name(alloc, "h")?;
-    assert!(rt; define(rt, store, obj, key, hidden()) == "done");
-    for text in more {
-        assert!(rt; puts(rt, alloc, store, obj, text)? == "done");
-    }
-    Ok(())
+fn put_mixed(rt: &impl Abort, alloc: Global, store: &mut Objects, obj: ObjRef, more: &[&str]) {
+    put_all(rt, alloc, store, obj, &["b", "10", "2"]);
+    expect_done(rt, store, obj, Key::Sym(7), 1);
+    let key = name(rt, alloc, "h");
+    expect(rt, define(rt, store, obj, key, hidden()) == "done", "h");
+    put_all(rt, alloc, store, obj, more);
 }
 
 /// Deletes `b`, and puts it and `h` again.
-fn put_again(
-    rt: &impl Abort,
-    alloc: Global,
-    store: &mut Objects,
-    obj: ObjRef,
-) -> Result<(), AllocError> {
-    assert!(rt; deletes(rt, alloc, store, obj, "b")? == "done");
-    assert!(rt; owns(rt, alloc, store, obj, "b")?.is_none());
+fn put_again(rt: &impl Abort, alloc: Global, store: &mut Objects, obj: ObjRef) {
+    expect_delete(rt, alloc, store, obj, "b", "done");
+    expect_own(rt, alloc, store, obj, "b", None);
     for (text, enumerable) in &[("b", true), ("h", false)] {
-        assert!(rt; puts(rt, alloc, store, obj, text)? == "done");
-        assert!(rt; owns(rt, alloc, store, obj, text)? == Some(*enumerable));
+        expect_put(rt, alloc, store, obj, text, "done");
+        expect_own(rt, alloc, store, obj, text, Some(*enumerable));
     }
-    Ok(())
 }
 
 /// What else is put, and the keys in their order: of an object without an index, and of one with it.
@@ -207,21 +157,13 @@ const ORDERS: [(&[&str], &str); 2] = [
     ),
 ];
 
-fn order_keys(rt: &impl Abort, alloc: Global, store: &mut Objects) -> Result<(), AllocError> {
-    for (more, order) in &ORDERS {
-        let obj = heir(rt, store, FIRST)?;
-        put_mixed(rt, alloc, store, obj, more)?;
-        put_again(rt, alloc, store, obj)?;
-        let keys = own_keys(rt, alloc, store, obj)?;
-        assert!(rt; keys.as_str() == *order);
-    }
-    Ok(())
-}
-
 #[test]
-fn orders_own_keys(rt: HostRuntime) -> Result<(), Fail> {
-    let mut store = realm_over(rt.alloc(), &[])?;
-    let done = order_keys(&rt, rt.alloc(), &mut store);
-    drop(store);
-    Ok(done?)
+fn orders_own_keys(rt: HostRuntime) {
+    let mut store = realm_over(&rt, rt.alloc(), &[]);
+    for (more, order) in &ORDERS {
+        let obj = heir(&rt, &mut store, FIRST);
+        put_mixed(&rt, rt.alloc(), &mut store, obj, more);
+        put_again(&rt, rt.alloc(), &mut store, obj);
+        expect_keys(&rt, rt.alloc(), &store, obj, order);
+    }
 }

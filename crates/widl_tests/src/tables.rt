@@ -1,19 +1,18 @@
 //! Worked choices: each class against each kind of type, overloads, unions, and hostile lists.
 
 mod hostile;
+mod kinds;
 
 use crate::shared::{
-    THE_OPERATION, add_argument, list_with, nullable, of_kind, of_one, overload, three_interfaces,
-    union,
+    THE_OPERATION, add_argument, add_of_one, add_overload, expect, list_with, of_kind, sure,
+    three_interfaces,
 };
-use std::alloc::{AllocError, Global};
+use std::alloc::Global;
 use std::mem::ManuallyDrop;
 use std::process::Abort;
-use std::test::Fail;
-use widl_idl::{Args, Callee, Defs, IdlType, IdlTypes, Ifaces, Optionality, Owner, Part, Sigs};
+use widl_idl::{Args, Callee, Defs, IdlTypes, Optionality, Owner, Part, Sigs};
 use widl_overload::{overload_list, type_at};
 use widl_tables::{Kept, Pick, kept, pick_member, pick_overload};
-use widl_text::Items;
 use widl_value::Class;
 
 const CLASSES: [Class; 9] = [
@@ -28,200 +27,56 @@ const CLASSES: [Class; 9] = [
     Class::Plain,
 ];
 
-/// For each kind of type the first test that a value of each class meets, by its place in hexadecimal.
-const FIRST_TESTS: [(&str, &str); 16] = [
-    ("any", "bbbbbbbbb"),
-    ("undefined", "---------"),
-    ("boolean", "aa6aaaaaa"),
-    ("long", "999799999"),
-    ("DOMString", "888888888"),
-    ("enumeration", "888888888"),
-    ("interface", "------2--"),
-    ("derived", "------2--"),
-    ("unrelated", "---------"),
-    ("function", "-------3-"),
-    ("callback", "------555"),
-    ("dictionary", "11----555"),
-    ("object", "------235"),
-    ("sequence", "------444"),
-    ("record", "------555"),
-    ("promise", "---------"),
-];
-
-/// What a value picks of entry 0 and another one, by the first tests of these that it meets: the entry of the
-/// earlier test.
-fn earlier(first: u8, second: u8, other: u32) -> Pick {
-    let (test, entry) = if second == b'-' || (first != b'-' && first <= second) {
-        (first, 0)
-    } else {
-        (second, other)
-    };
-    match test {
-        b'-' => Pick::Refuse,
-        b'4' => Pick::Probe(entry),
-        _ => Pick::Entry(entry),
-    }
+/// A list with three interfaces and an operation with these overloads.
+fn beside_three_interfaces(rt: &impl Abort, alloc: Global, sigs: Sigs) -> ManuallyDrop<Defs> {
+    let ifaces = three_interfaces(rt, alloc);
+    ManuallyDrop::new(list_with(rt, alloc, ifaces, sigs))
 }
 
-/// Entry 0 and another one, of one argument each.
-fn between(alloc: Global, other: u32) -> Result<Kept, AllocError> {
-    let mut overloads = ManuallyDrop::new(Items::new(alloc));
-    overloads.push(0)?;
-    overloads.push(other)?;
-    Ok(Kept {
-        callee: THE_OPERATION,
-        overloads: ManuallyDrop::into_inner(overloads),
-        argcount: 1,
-        place: Some(0),
-    })
-}
-
-/// The first test by which a class is told, but for the ends of the row.
-fn test_of(class: Class, test: u8, ends: (u8, u8)) -> u8 {
-    match class {
-        Class::Undefined => ends.0,
-        Class::Null => ends.1,
-        _ => test,
-    }
-}
-
-/// A list with three interfaces and an operation with these overloads, which is left to the end of the tests.
-fn beside_three_interfaces(alloc: Global, sigs: Sigs) -> Result<ManuallyDrop<Defs>, AllocError> {
-    let sigs = ManuallyDrop::new(sigs);
-    let ifaces = three_interfaces(alloc)?;
-    let defs = list_with(alloc, ifaces, ManuallyDrop::into_inner(sigs))?;
-    Ok(ManuallyDrop::new(defs))
-}
-
-/// An entry of a type, and one of each kind after it.
-fn beside_each_kind(alloc: Global, ty: IdlType, opt: Optionality) -> Result<Sigs, AllocError> {
-    let mut sigs = ManuallyDrop::new(Sigs::new(alloc));
-    sigs.push(of_one(alloc, ty, opt)?)?;
-    for (kind, _) in &FIRST_TESTS {
-        sigs.push(of_one(alloc, of_kind(alloc, kind)?, Optionality::Required)?)?;
-    }
-    Ok(ManuallyDrop::into_inner(sigs))
-}
-
-/// Whether the first tests of a type are those of a row, but for undefined and null: beside an entry of each
-/// kind each class picks what meets the earlier test.
-fn tests_of(
-    alloc: Global,
-    rt: &impl Abort,
-    (ty, opt): (IdlType, Optionality),
-    row: &str,
-    ends: (u8, u8),
-) -> Result<(), AllocError> {
-    let sigs = beside_each_kind(alloc, ty, opt)?;
-    let defs = beside_three_interfaces(alloc, sigs)?;
-    let mut number = 0u32;
-    for (_, others) in &FIRST_TESTS {
-        number = number.saturating_add(1);
-        let kept = ManuallyDrop::new(between(alloc, number)?);
-        let tests = row.as_bytes().iter().zip(others.as_bytes().iter());
-        for (class, (test, other)) in CLASSES.iter().zip(tests) {
-            let wanted = earlier(test_of(*class, *test, ends), *other, number);
-            let pick = pick_overload(&defs, &kept, *class, false);
-            assert_eq!(rt; pick, wanted, "{class:?} beside {others}");
-        }
-    }
-    Ok(())
-}
-
-/// The type in a union in a union, 16 levels deep.
-fn nested_unions(alloc: Global, t: IdlType) -> Result<IdlType, AllocError> {
-    let mut nested = t;
-    for _level in 0..16 {
-        nested = union(alloc, IdlType::Undefined, nested)?;
-    }
-    Ok(nested)
-}
-
-/// The first tests of a type of a kind that may be left out or not, and the tests of undefined and null.
-fn tests_of_plain(
-    alloc: Global,
-    rt: &impl Abort,
-    (kind, row): (&str, &str),
-    opt: Optionality,
-    ends: (u8, u8),
-) -> Result<(), AllocError> {
-    tests_of(alloc, rt, (of_kind(alloc, kind)?, opt), row, ends)
-}
-
-/// The types of a kind, as they stand, nullable and in unions.
-fn tests_of_kind(alloc: Global, rt: &impl Abort, kind: &str, row: &str) -> Result<(), AllocError> {
-    assert!(rt; row.len() == CLASSES.len());
-    let ends = match row.as_bytes() {
-        [first, second, ..] => (*first, *second),
-        _ => (b'-', b'-'),
-    };
-    let of = (kind, row);
-    tests_of_plain(alloc, rt, of, Optionality::Variadic, ends)?;
-    tests_of_plain(alloc, rt, of, Optionality::Optional, (b'0', ends.1))?;
-    tests_of_plain(alloc, rt, of, Optionality::Required, ends)?;
-    let with_null = (maybe_of_kind(alloc, kind)?, Optionality::Required);
-    tests_of(alloc, rt, with_null, row, (b'1', b'1'))?;
-    let deep = (deep_in_unions(alloc, kind)?, Optionality::Required);
-    tests_of(alloc, rt, deep, row, ends)
-}
-
-fn maybe_of_kind(alloc: Global, kind: &str) -> Result<IdlType, AllocError> {
-    nullable(alloc, of_kind(alloc, kind)?)
-}
-
-fn deep_in_unions(alloc: Global, kind: &str) -> Result<IdlType, AllocError> {
-    nested_unions(alloc, of_kind(alloc, kind)?)
-}
-
-#[test]
-fn first_tests_of_kinds(rt: HostRuntime) -> Result<(), Fail> {
-    for (kind, row) in &FIRST_TESTS {
-        tests_of_kind(rt.alloc(), &rt, kind, row)?;
-    }
-    Ok(())
-}
-
-/// Overloads of one required argument, each of a kind.
-fn one_of(alloc: Global, kinds: &[&str]) -> Result<Sigs, AllocError> {
-    let mut sigs = ManuallyDrop::new(Sigs::new(alloc));
+/// A list of an operation with overloads of one required argument, each of a kind.
+fn one_of(rt: &impl Abort, alloc: Global, kinds: &[&str]) -> ManuallyDrop<Defs> {
+    let mut sigs = Sigs::new(alloc);
     for kind in kinds {
-        sigs.push(of_one(alloc, of_kind(alloc, kind)?, Optionality::Required)?)?;
+        let ty = of_kind(rt, alloc, kind);
+        add_of_one(rt, alloc, &mut sigs, ty, Optionality::Required);
     }
-    Ok(ManuallyDrop::into_inner(sigs))
+    beside_three_interfaces(rt, alloc, sigs)
 }
 
 /// What `args` arguments keep of the overloads of the one operation.
-fn kept_for(
-    alloc: Global,
-    rt: &impl Abort,
-    defs: &Defs,
-    args: u32,
-) -> Result<ManuallyDrop<Kept>, AllocError> {
+fn kept_for(rt: &impl Abort, alloc: Global, defs: &Defs, args: u32) -> ManuallyDrop<Kept> {
     assert!(rt; overload_list(defs, &THE_OPERATION).len() < 4_294_967_296);
-    Ok(ManuallyDrop::new(kept(alloc, defs, &THE_OPERATION, args)?))
+    ManuallyDrop::new(sure(rt, kept(alloc, defs, &THE_OPERATION, args)))
 }
 
-fn keeps(
-    alloc: Global,
-    rt: &impl Abort,
-    defs: &Defs,
+/// What so many arguments keep: these overloads, so many of the arguments, told apart at this place.
+#[derive(Clone, Copy)]
+struct Wanted {
     args: u32,
-    overloads: &[u32],
-    rest: (u32, Option<u32>),
-) -> Result<ManuallyDrop<Kept>, AllocError> {
-    let kept = kept_for(alloc, rt, defs, args)?;
-    assert_eq!(rt; kept.overloads.as_slice(), overloads);
-    assert_eq!(rt; (kept.argcount, kept.place), rest);
-    Ok(kept)
+    overloads: &'static [u32],
+    argcount: u32,
+    place: Option<u32>,
+    /// The picks of the classes, where no value was probed.
+    picks: &'static str,
 }
 
-/// Whether the classes pick these of the two overloads that are kept, a letter each: `-` for none, `p` for
-/// a probe of the second.
-fn picks(rt: &impl Abort, defs: &Defs, kept: &Kept, probed: bool, wanted: &str) {
-    assert_eq!(rt; wanted.len(), CLASSES.len());
+/// The classes pick these of the overloads that are kept, a letter each: `-` for none, `p` for a probe of
+/// the second.
+fn expect_picks(rt: &impl Abort, defs: &Defs, kept: &Kept, probed: bool, wanted: &str) {
+    expect(rt, wanted.len() == CLASSES.len(), wanted);
     for (class, want) in CLASSES.iter().zip(wanted.as_bytes().iter()) {
         let pick = pick_overload(defs, kept, *class, probed);
-        assert_eq!(rt; letter_of(pick), *want, "{class:?}");
+        assert!(rt; letter_of(pick) == *want, "{class:?} picks of {wanted}");
+    }
+}
+
+fn expect_kept(rt: &impl Abort, alloc: Global, defs: &Defs, wanted: &Wanted) {
+    let kept = kept_for(rt, alloc, defs, wanted.args);
+    let has_overloads = kept.overloads.as_slice() == wanted.overloads;
+    let has_rest = kept.argcount == wanted.argcount && kept.place == wanted.place;
+    assert!(rt; has_overloads && has_rest, "{} arguments", wanted.args);
+    if !wanted.picks.is_empty() {
+        expect_picks(rt, defs, &kept, false, wanted.picks);
     }
 }
 
@@ -237,51 +92,83 @@ fn letter_of(pick: Pick) -> u8 {
     }
 }
 
-/// `DOMString s, long b`
-fn text_and_long(alloc: Global) -> Result<Args, AllocError> {
-    let mut args = ManuallyDrop::new(Args::new(alloc));
-    for kind in &["DOMString", "long"] {
-        let ty = of_kind(alloc, kind)?;
-        add_argument(alloc, &mut args, ty, Optionality::Required)?;
-    }
-    Ok(ManuallyDrop::into_inner(args))
-}
-
 /// `f(long... a); f(DOMString s, long b);`
-fn variadic_beside_two(alloc: Global) -> Result<Sigs, AllocError> {
-    let mut sigs = ManuallyDrop::new(Sigs::new(alloc));
-    sigs.push(of_one(alloc, of_kind(alloc, "long")?, Optionality::Variadic)?)?;
-    sigs.push(overload(text_and_long(alloc)?))?;
-    Ok(ManuallyDrop::into_inner(sigs))
+fn variadic_beside_two(rt: &impl Abort, alloc: Global) -> ManuallyDrop<Defs> {
+    let mut sigs = Sigs::new(alloc);
+    let long = of_kind(rt, alloc, "long");
+    add_of_one(rt, alloc, &mut sigs, long, Optionality::Variadic);
+    let mut args = Args::new(alloc);
+    for kind in &["DOMString", "long"] {
+        let ty = of_kind(rt, alloc, kind);
+        add_argument(rt, alloc, &mut args, ty, Optionality::Required);
+    }
+    add_overload(rt, &mut sigs, args);
+    beside_three_interfaces(rt, alloc, sigs)
 }
 
+/// What two arguments keep of these overloads.
+const VARIADIC_OR_TEXT: Wanted = Wanted {
+    args: 2,
+    overloads: &[0, 1],
+    argcount: 2,
+    place: Some(0),
+    picks: "111011111",
+};
+
+/// Counts of arguments that keep the first overload alone.
+const VARIADIC: [u32; 6] = [0, 1, 3, 6, 300_000, 4_294_967_295];
+
 #[test]
-fn variadic_or_text(rt: HostRuntime) -> Result<(), Fail> {
-    let alloc = rt.alloc();
-    let defs = beside_three_interfaces(alloc, variadic_beside_two(alloc)?)?;
-    let two = keeps(alloc, &rt, &defs, 2, &[0, 1], (2, Some(0)))?;
-    picks(&rt, &defs, &two, false, "111011111");
-    for count in &[0, 1, 3, 6, 300_000, 4_294_967_295] {
-        let one = keeps(alloc, &rt, &defs, *count, &[0], (*count, None))?;
-        picks(&rt, &defs, &one, false, "000000000");
+fn variadic_or_text(rt: HostRuntime) {
+    let defs = variadic_beside_two(&rt, rt.alloc());
+    expect_kept(&rt, rt.alloc(), &defs, &VARIADIC_OR_TEXT);
+    for args in &VARIADIC {
+        let wanted = Wanted {
+            args: *args,
+            overloads: &[0],
+            argcount: *args,
+            place: None,
+            picks: "000000000",
+        };
+        expect_kept(&rt, rt.alloc(), &defs, &wanted);
     }
-    Ok(())
 }
 
-/// `f(DOMString s); f(sequence<long> q);`
+/// One argument or two of `f(DOMString s); f(sequence<long> q);`, or none.
+const TEXT_OR_SEQUENCE: [Wanted; 3] = [
+    Wanted {
+        args: 1,
+        overloads: &[0, 1],
+        argcount: 1,
+        place: Some(0),
+        picks: "000000ppp",
+    },
+    Wanted {
+        args: 2,
+        overloads: &[0, 1],
+        argcount: 1,
+        place: Some(0),
+        picks: "000000ppp",
+    },
+    Wanted {
+        args: 0,
+        overloads: &[],
+        argcount: 0,
+        place: None,
+        picks: "---------",
+    },
+];
+
 #[test]
-fn text_or_sequence(rt: HostRuntime) -> Result<(), Fail> {
-    let alloc = rt.alloc();
-    let sigs = one_of(alloc, &["DOMString", "sequence"])?;
-    let defs = beside_three_interfaces(alloc, sigs)?;
-    for count in [1, 2] {
-        let both = keeps(alloc, &rt, &defs, count, &[0, 1], (1, Some(0)))?;
-        picks(&rt, &defs, &both, false, "000000ppp");
-        picks(&rt, &defs, &both, true, "000000000");
+fn text_or_sequence(rt: HostRuntime) {
+    let defs = one_of(&rt, rt.alloc(), &["DOMString", "sequence"]);
+    for wanted in &TEXT_OR_SEQUENCE {
+        expect_kept(&rt, rt.alloc(), &defs, wanted);
     }
-    let none = keeps(alloc, &rt, &defs, 0, &[], (0, None))?;
-    picks(&rt, &defs, &none, false, "---------");
-    Ok(())
+    for args in [1, 2] {
+        let both = kept_for(&rt, rt.alloc(), &defs, args);
+        expect_picks(&rt, &defs, &both, true, "000000000");
+    }
 }
 
 /// Overloads of one argument of two kinds, and what the classes pick. Without a string entry a text is taken
@@ -293,65 +180,79 @@ const PAIRS: [(&[&str], &str); 3] = [
 ];
 
 #[test]
-fn two_overloads(rt: HostRuntime) -> Result<(), Fail> {
-    let alloc = rt.alloc();
-    for (kinds, wanted) in &PAIRS {
-        let sigs = one_of(alloc, kinds)?;
-        let defs = beside_three_interfaces(alloc, sigs)?;
-        let both = keeps(alloc, &rt, &defs, 1, &[0, 1], (1, Some(0)))?;
-        picks(&rt, &defs, &both, false, wanted);
+fn two_overloads(rt: HostRuntime) {
+    for (kinds, picks) in &PAIRS {
+        let defs = one_of(&rt, rt.alloc(), kinds);
+        let wanted = Wanted {
+            args: 1,
+            overloads: &[0, 1],
+            argcount: 1,
+            place: Some(0),
+            picks,
+        };
+        expect_kept(&rt, rt.alloc(), &defs, &wanted);
     }
-    Ok(())
 }
 
-/// `f(long a)`
-#[test]
-fn one_overload_or_none(rt: HostRuntime) -> Result<(), Fail> {
-    let alloc = rt.alloc();
-    let defs = beside_three_interfaces(alloc, one_of(alloc, &["long"])?)?;
-    keeps(alloc, &rt, &defs, 0, &[], (0, None))?;
-    keeps(alloc, &rt, &defs, 1, &[0], (1, None))?;
-    keeps(alloc, &rt, &defs, 3, &[0], (1, None))?;
-    Ok(())
-}
+/// Arguments of `f(long a)`.
+const ONE_OR_NONE: [(u32, &[u32], u32); 3] = [(0, &[], 0), (1, &[0], 1), (3, &[0], 1)];
 
 #[test]
-fn callees_that_a_list_has_not(rt: HostRuntime) -> Result<(), Fail> {
-    let alloc = rt.alloc();
-    let defs = beside_three_interfaces(alloc, one_of(alloc, &["long"])?)?;
-    let parts = [Part::Op(1), Part::Constructor, Part::Get(0), Part::Text];
-    for part in parts {
+fn one_overload_or_none(rt: HostRuntime) {
+    let defs = one_of(&rt, rt.alloc(), &["long"]);
+    for (args, overloads, argcount) in &ONE_OR_NONE {
+        let wanted = Wanted {
+            args: *args,
+            overloads,
+            argcount: *argcount,
+            place: None,
+            picks: "",
+        };
+        expect_kept(&rt, rt.alloc(), &defs, &wanted);
+    }
+}
+
+const PARTS: [Part; 4] = [Part::Op(1), Part::Constructor, Part::Get(0), Part::Text];
+
+#[test]
+fn callees_that_a_list_has_not(rt: HostRuntime) {
+    let defs = one_of(&rt, rt.alloc(), &["long"]);
+    for part in &PARTS {
         let callee = Callee {
             owner: Owner::Space(0),
-            part,
+            part: *part,
         };
-        assert!(&rt; overload_list(&defs, &callee).len() == 0);
-        assert!(&rt; type_at(&defs, &callee, 0, 0).is_none());
+        expect(
+            &rt,
+            overload_list(&defs, &callee).len() == 0,
+            "no overloads",
+        );
+        expect(&rt, type_at(&defs, &callee, 0, 0).is_none(), "no type");
     }
-    assert!(&rt; type_at(&defs, &THE_OPERATION, 0, 7).is_some());
-    assert!(&rt; type_at(&defs, &THE_OPERATION, 1, 0).is_none());
-    Ok(())
+    expect(
+        &rt,
+        type_at(&defs, &THE_OPERATION, 0, 7).is_some(),
+        "a type",
+    );
+    expect(
+        &rt,
+        type_at(&defs, &THE_OPERATION, 1, 0).is_none(),
+        "no second overload",
+    );
 }
 
-/// Whether the classes pick these members of a union of kinds, a letter each.
-fn members_pick(
-    alloc: Global,
-    rt: &impl Abort,
-    kinds: &[&str],
-    probed: bool,
-    wanted: &str,
-) -> Result<(), AllocError> {
-    let defs = beside_three_interfaces(alloc, Sigs::new(alloc))?;
+/// The classes pick these members of a union of kinds, a letter each.
+fn expect_member(rt: &impl Abort, alloc: Global, kinds: &[&str], probed: bool, wanted: &str) {
+    let defs = beside_three_interfaces(rt, alloc, Sigs::new(alloc));
     let mut members = ManuallyDrop::new(IdlTypes::new(alloc));
     for kind in kinds {
-        members.push(of_kind(alloc, kind)?)?;
+        sure(rt, members.push(of_kind(rt, alloc, kind)));
     }
-    assert_eq!(rt; wanted.len(), CLASSES.len());
+    expect(rt, wanted.len() == CLASSES.len(), wanted);
     for (class, want) in CLASSES.iter().zip(wanted.as_bytes().iter()) {
         let pick = pick_member(&defs, &members, *class, probed);
-        assert_eq!(rt; letter_of(pick), *want, "{class:?}");
+        assert!(rt; letter_of(pick) == *want, "{class:?} picks of {kinds:?}");
     }
-    Ok(())
 }
 
 /// Kinds of members, whether the value was probed, and what the classes pick.
@@ -372,9 +273,8 @@ const UNIONS: [(&[&str], bool, &str); 13] = [
 ];
 
 #[test]
-fn members_of_unions(rt: HostRuntime) -> Result<(), Fail> {
+fn members_of_unions(rt: HostRuntime) {
     for (kinds, probed, wanted) in &UNIONS {
-        members_pick(rt.alloc(), &rt, kinds, *probed, wanted)?;
+        expect_member(&rt, rt.alloc(), kinds, *probed, wanted);
     }
-    Ok(())
 }

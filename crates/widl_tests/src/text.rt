@@ -1,7 +1,7 @@
 //! Texts of units, and keys.
 
-use crate::shared::units;
-use std::alloc::{AllocError, Global};
+use crate::shared::{expect, sure, units};
+use std::alloc::Global;
 use std::collections::HashMap;
 use std::mem::ManuallyDrop;
 use std::process::Abort;
@@ -26,76 +26,84 @@ const INDICES: [(&str, Option<u32>); 15] = [
     ("length", None),
 ];
 
-#[test]
-fn finds_array_indices(rt: HostRuntime) -> Result<(), AllocError> {
-    for (text, want) in &INDICES {
-        let key = Key::Name(Units::of_str(rt.alloc(), text)?);
-        assert_eq!(rt; key.index(), *want, "the key {text}");
-    }
-    assert_eq!(rt; Key::Sym(1).index(), None);
-    Ok(())
+/// A key is this array index.
+fn expect_index(rt: &impl Abort, key: Key, want: Option<u32>, what: &str) {
+    let key = ManuallyDrop::new(key);
+    expect(rt, key.index() == want, what);
 }
 
 /// The letter a and the first half of a pair of surrogates.
-fn half_a_pair(alloc: Global) -> Result<ManuallyDrop<Units>, AllocError> {
-    let mut half = units(alloc, "a")?;
-    half.push(0xD83D)?;
-    Ok(half)
+fn half_a_pair(rt: &impl Abort, alloc: Global) -> Units {
+    let mut half = units(rt, alloc, "a");
+    sure(rt, half.push(0xD83D));
+    half
 }
 
-/// Whether a unit is the last one of a text, at this place.
-fn is_last(text: &Units, place: usize, unit: u16) -> bool {
-    place < text.len() && text.len() - place == 1 && text.at(place) == unit
+/// A letter and a pair of surrogates.
+fn smile(rt: &impl Abort, alloc: Global) -> Units {
+    units(rt, alloc, "a\u{1F600}")
 }
 
-#[test]
-fn has_the_units_of_pairs(rt: HostRuntime) -> Result<(), AllocError> {
-    let smile = units(rt.alloc(), "a\u{1F600}")?;
-    assert_eq!(rt; smile.as_slice(), [0x61, 0xD83D, 0xDE00].as_slice());
-    let half = half_a_pair(rt.alloc())?;
-    assert!(rt; is_last(&half, 1, 0xD83D));
-    Ok(())
+/// The units of a text are these.
+fn expect_units(rt: &impl Abort, text: &Units, want: &[u16], what: &str) {
+    expect(rt, text.as_slice() == want, what);
 }
 
 /// Puts three keys, of which none is another.
-fn put_keys(alloc: Global, map: &mut HashMap<Key, u32>) -> Result<(), AllocError> {
-    let smile = units(alloc, "a\u{1F600}")?;
-    map.insert(Key::Name(smile.copy()?), 1)?;
-    let half = half_a_pair(alloc)?;
-    map.insert(Key::Name(ManuallyDrop::into_inner(half)), 2)?;
-    map.insert(Key::Sym(0), 3)?;
-    Ok(())
+fn put_keys(rt: &impl Abort, alloc: Global, map: &mut HashMap<Key, u32>) {
+    sure(rt, map.insert(Key::Name(smile(rt, alloc)), 1));
+    sure(rt, map.insert(Key::Name(half_a_pair(rt, alloc)), 2));
+    sure(rt, map.insert(Key::Sym(0), 3));
 }
 
 /// A map has this value at a key, and at a copy of the key.
-fn assert_value(
-    rt: &impl Abort,
-    map: &HashMap<Key, u32>,
-    key: Key,
-    value: u32,
-) -> Result<(), AllocError> {
+fn expect_value(rt: &impl Abort, map: &HashMap<Key, u32>, key: Key, value: u32) {
+    let copy = ManuallyDrop::new(sure(rt, key.copy()));
     let key = ManuallyDrop::new(key);
-    let copy = ManuallyDrop::new(key.copy()?);
-    assert_eq!(rt; map.get(&*key), Some(&value));
-    assert_eq!(rt; map.get(&*copy), Some(&value));
-    Ok(())
+    expect(rt, map.get(&*key) == Some(&value), "a key");
+    expect(rt, map.get(&*copy) == Some(&value), "its copy");
+}
+
+fn expect_keys_apart(rt: &impl Abort, alloc: Global) {
+    let mut map = ManuallyDrop::new(HashMap::new(alloc));
+    put_keys(rt, alloc, &mut map);
+    expect(rt, map.len() == 3, "three keys");
+    expect_value(rt, &map, Key::Name(smile(rt, alloc)), 1);
+    expect_value(rt, &map, Key::Sym(0), 3);
+}
+
+/// A copy of a long text grows alone.
+fn expect_own_copies(rt: &impl Abort, alloc: Global) {
+    let text = sure(rt, Units::of_bytes(alloc, &[0x61; 100]));
+    let mut copy = sure(rt, text.copy());
+    sure(rt, copy.push(0x62));
+    expect(rt, text.len() == 100, "the text");
+    expect(
+        rt,
+        copy.len() == 101 && copy.as_slice().ends_with(&[0x61, 0x62]),
+        "its copy",
+    );
 }
 
 #[test]
-fn keeps_keys_of_a_map_apart(rt: HostRuntime) -> Result<(), AllocError> {
-    let mut map = ManuallyDrop::new(HashMap::new(rt.alloc()));
-    put_keys(rt.alloc(), &mut map)?;
-    assert_eq!(rt; map.len(), 3);
-    let smile = Units::of_str(rt.alloc(), "a\u{1F600}")?;
-    assert_value(&rt, &map, Key::Name(smile), 1)?;
-    assert_value(&rt, &map, Key::Sym(0), 3)
+fn finds_array_indices(rt: HostRuntime) {
+    for (text, want) in &INDICES {
+        let key = Key::Name(units(&rt, rt.alloc(), text));
+        expect_index(&rt, key, *want, text);
+    }
+    expect_index(&rt, Key::Sym(1), None, "a symbol");
 }
 
 #[test]
-fn leaves_a_long_text_where_its_copy_grows(rt: HostRuntime) -> Result<(), AllocError> {
-    let text = ManuallyDrop::new(Units::of_bytes(rt.alloc(), &[0x61; 100])?);
-    let mut copy = ManuallyDrop::new(text.copy()?);
-    copy.push(0x62)?;
-    assert!(rt; text.len() == 100 && is_last(&copy, 100, 0x62));
-    Ok(())
+fn has_units_and_tells_keys_apart(rt: HostRuntime) {
+    let alloc = rt.alloc();
+    expect_units(&rt, &smile(&rt, alloc), &[0x61, 0xD83D, 0xDE00], "a pair");
+    expect_units(
+        &rt,
+        &half_a_pair(&rt, alloc),
+        &[0x61, 0xD83D],
+        "half a pair",
+    );
+    expect_own_copies(&rt, alloc);
+    expect_keys_apart(&rt, alloc);
 }

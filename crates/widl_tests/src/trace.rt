@@ -5,11 +5,10 @@ mod long;
 mod short;
 
 use crate::shared::accepted_sets::accepted;
-use crate::shared::{number, object, units};
-use std::alloc::{AllocError, Global};
+use crate::shared::{expect, number, object, sure, units};
+use std::alloc::Global;
 use std::mem::ManuallyDrop;
 use std::process::Abort;
-use std::test::Fail;
 use widl_idl::{Callee, Owner, Part};
 use widl_overload::Accepted;
 use widl_text::{Key, Units};
@@ -20,64 +19,48 @@ const DEFINITIONS: &str = "namespace N { undefined f(); readonly attribute any h
     interface I { static undefined _object(); undefined g(); attribute any e; stringifier; }; \
     dictionary C { any a; any b; }; dictionary D : C { any c; }; enum E { \"one\", \"two words\" };";
 
-fn definitions(alloc: Global) -> Result<ManuallyDrop<Accepted>, Fail> {
-    accepted(alloc, &[DEFINITIONS])
+fn definitions(rt: &impl Abort, alloc: Global) -> ManuallyDrop<Accepted> {
+    ManuallyDrop::new(accepted(rt, alloc, &[DEFINITIONS]))
 }
 
-fn text(alloc: Global, text: &str) -> Result<Value, AllocError> {
-    Ok(Value::Str(Units::of_str(alloc, text)?))
+fn text(rt: &impl Abort, alloc: Global, text: &str) -> Value {
+    Value::Str(units(rt, alloc, text))
 }
 
-fn key(alloc: Global, text: &str) -> Result<Key, AllocError> {
-    Ok(Key::Name(Units::of_str(alloc, text)?))
+fn key(rt: &impl Abort, alloc: Global, text: &str) -> Key {
+    Key::Name(units(rt, alloc, text))
 }
 
 /// Whole numbers.
-fn numbers(alloc: Global, all: &[i128]) -> Result<Values, AllocError> {
+fn numbers(rt: &impl Abort, alloc: Global, all: &[i128]) -> Values {
     let mut values = Values::new(alloc);
     for n in all {
-        values.push(number(*n))?;
+        sure(rt, values.push(number(*n)));
     }
-    Ok(values)
+    values
 }
 
 /// The line of an event is this one.
-fn expect(
-    rt: &impl Abort,
-    alloc: Global,
-    list: &Accepted,
-    event: Event,
-    line: &str,
-) -> Result<(), Fail> {
+fn expect_line(rt: &impl Abort, alloc: Global, list: &Accepted, event: Event, line: &str) {
     let event = ManuallyDrop::new(event);
-    let written = ManuallyDrop::new(widl_trace::line(alloc, list, &event)?);
-    assert_eq!(rt; written.bytes(), line.as_bytes(), "{line}");
-    Ok(())
+    let written = sure(rt, widl_trace::line(alloc, list, &event));
+    expect(rt, written.bytes() == line.as_bytes(), line);
 }
 
-#[test]
-fn reads_of_objects(rt: HostRuntime) -> Result<(), Fail> {
-    let alloc = rt.alloc();
-    let list = definitions(alloc)?;
-    let get = |key| Event::Get {
-        obj: object(21),
-        key,
-    };
-    expect(&rt, alloc, &list, get(key(alloc, "b")?), "get #21 \"b\"")?;
-    expect(&rt, alloc, &list, get(Key::Sym(1)), "get #21 @toPrimitive")?;
-    expect(&rt, alloc, &list, get(Key::Sym(3)), "get #21 @3")?;
-    expect(
-        &rt,
-        alloc,
-        &list,
-        Event::Keys { obj: object(20) },
-        "keys #20",
-    )?;
-    let own = Event::Own {
-        obj: object(20),
-        key: key(alloc, "10")?,
-    };
-    expect(&rt, alloc, &list, own, "own #20 \"10\"")
+/// The line of a read of this key.
+fn expect_get(rt: &impl Abort, alloc: Global, list: &Accepted, key: Key, line: &str) {
+    let obj = object(21);
+    expect_line(rt, alloc, list, Event::Get { obj, key }, line);
+}
+
+fn expect_reads(rt: &impl Abort, alloc: Global, list: &Accepted) {
+    expect_get(rt, alloc, list, key(rt, alloc, "b"), "get #21 \"b\"");
+    expect_get(rt, alloc, list, Key::Sym(1), "get #21 @toPrimitive");
+    expect_get(rt, alloc, list, Key::Sym(3), "get #21 @3");
+    let obj = object(20);
+    expect_line(rt, alloc, list, Event::Keys { obj }, "keys #20");
+    let key = key(rt, alloc, "10");
+    expect_line(rt, alloc, list, Event::Own { obj, key }, "own #20 \"10\"");
 }
 
 /// The line of a call.
@@ -86,41 +69,39 @@ fn expect_call(
     alloc: Global,
     list: &Accepted,
     this: Value,
-    args: Values,
+    args: &[i128],
     line: &str,
-) -> Result<(), Fail> {
-    let f = object(19);
-    expect(rt, alloc, list, Event::Call { f, this, args }, line)
+) {
+    let (f, args) = (object(19), numbers(rt, alloc, args));
+    expect_line(rt, alloc, list, Event::Call { f, this, args }, line);
 }
 
-#[test]
-fn calls(rt: HostRuntime) -> Result<(), Fail> {
-    let alloc = rt.alloc();
-    let list = definitions(alloc)?;
-    let args = numbers(alloc, &[300, 200])?;
-    let line = "call #19 this #18 (300, 200)";
-    expect_call(&rt, alloc, &list, Value::Obj(object(18)), args, line)?;
-    let line = "call #19 this null ()";
-    expect_call(&rt, alloc, &list, Value::Null, Values::new(alloc), line)?;
-    let new = Event::New {
-        f: object(19),
-        args: numbers(alloc, &[1])?,
-    };
-    expect(&rt, alloc, &list, new, "new #19 (1)")
-}
-
-#[test]
-fn ends_of_calls(rt: HostRuntime) -> Result<(), Fail> {
-    let alloc = rt.alloc();
-    let list = definitions(alloc)?;
+fn expect_calls(rt: &impl Abort, alloc: Global, list: &Accepted) {
+    let this = Value::Obj(object(18));
+    expect_call(
+        rt,
+        alloc,
+        list,
+        this,
+        &[300, 200],
+        "call #19 this #18 (300, 200)",
+    );
+    expect_call(rt, alloc, list, Value::Null, &[], "call #19 this null ()");
+    let (f, args) = (object(19), numbers(rt, alloc, &[1]));
+    expect_line(rt, alloc, list, Event::New { f, args }, "new #19 (1)");
     let ret = Event::Ret(number(18_446_744_073_709_551_616));
-    expect(&rt, alloc, &list, ret, "ret 18446744073709551616")?;
-    let thr = Event::Thr(text(alloc, "x")?);
-    expect(&rt, alloc, &list, thr, "thr \"x\"")
+    expect_line(rt, alloc, list, ret, "ret 18446744073709551616");
+    let thr = Event::Thr(text(rt, alloc, "x"));
+    expect_line(rt, alloc, list, thr, "thr \"x\"");
+}
+
+/// A value is shown so.
+fn expect_show(rt: &impl Abort, alloc: Global, list: &Accepted, value: Value, line: &str) {
+    expect_line(rt, alloc, list, Event::Show(value), line);
 }
 
 /// Values without parts are shown so.
-fn expect_shown(rt: &impl Abort, alloc: Global, list: &Accepted) -> Result<(), Fail> {
+fn expect_shown(rt: &impl Abort, alloc: Global, list: &Accepted) {
     let rows = [
         (Value::Undefined, "show undefined"),
         (Value::Null, "show null"),
@@ -135,141 +116,102 @@ fn expect_shown(rt: &impl Abort, alloc: Global, list: &Accepted) -> Result<(), F
         (Value::Sym(2), "show @toStringTag"),
     ];
     for (value, line) in rows {
-        expect(rt, alloc, list, Event::Show(value), line)?;
+        expect_show(rt, alloc, list, value, line);
     }
-    Ok(())
 }
 
-/// A text is shown so, between quotation marks.
-fn expect_text(
-    rt: &impl Abort,
-    alloc: Global,
-    list: &Accepted,
-    shown: &str,
-    wanted: &str,
-) -> Result<(), Fail> {
-    let line = ManuallyDrop::new(format!(in alloc; "show \"{wanted}\"")?);
-    let event = Event::Show(text(alloc, shown)?);
-    expect(rt, alloc, list, event, &line)
-}
-
-#[test]
-fn values_that_are_shown(rt: HostRuntime) -> Result<(), Fail> {
-    let alloc = rt.alloc();
-    let list = definitions(alloc)?;
-    expect_shown(&rt, alloc, &list)?;
-    expect_text(
-        &rt,
-        alloc,
-        &list,
-        "a\u{e9}\"\\\n",
-        "a\\u00e9\\u0022\\u005c\\u000a",
-    )?;
-    expect_text(
-        &rt,
-        alloc,
-        &list,
+/// Texts, and how they are shown.
+const TEXTS: [(&str, &str); 2] = [
+    ("a\u{e9}\"\\\n", "show \"a\\u00e9\\u0022\\u005c\\u000a\""),
+    (
         " ~\u{7f}\u{1f}\u{1F600}",
-        " ~\\u007f\\u001f\\ud83d\\ude00",
-    )?;
-    let mut lone = units(alloc, "")?;
-    lone.push(0xDEAD)?;
-    let lone = Event::Show(Value::Str(ManuallyDrop::into_inner(lone)));
-    expect(&rt, alloc, &list, lone, "show \"\\udead\"")
+        "show \" ~\\u007f\\u001f\\ud83d\\ude00\"",
+    ),
+];
+
+fn expect_texts(rt: &impl Abort, alloc: Global, list: &Accepted) {
+    for (shown, line) in &TEXTS {
+        expect_show(rt, alloc, list, text(rt, alloc, shown), line);
+    }
+    let mut lone = Units::new(alloc);
+    sure(rt, lone.push(0xDEAD));
+    expect_show(rt, alloc, list, Value::Str(lone), "show \"\\udead\"");
 }
 
-/// A line of a callee without values.
-fn expect_callee(
-    rt: &impl Abort,
-    alloc: Global,
-    list: &Accepted,
-    callee: Callee,
-    overload: Option<u32>,
-    line: &str,
-) -> Result<(), Fail> {
-    let event = Event::Op {
-        callee,
-        overload,
-        values: IdlValues::new(alloc),
+#[test]
+fn reads_calls_and_shown_values(rt: HostRuntime) {
+    let list = definitions(&rt, rt.alloc());
+    expect_reads(&rt, rt.alloc(), &list);
+    expect_calls(&rt, rt.alloc(), &list);
+    expect_shown(&rt, rt.alloc(), &list);
+    expect_texts(&rt, rt.alloc(), &list);
+}
+
+/// Members, and the line where the steps of each begin, without values.
+const CALLEES: [(Owner, Part, Option<u32>, &str); 10] = [
+    (Owner::Space(0), Part::Op(0), Some(1), "op N.f#1 ()"),
+    (
+        Owner::Iface(0),
+        Part::Op(0),
+        Some(0),
+        "op I.static object#0 ()",
+    ),
+    (Owner::Iface(0), Part::Op(1), Some(7), "op I.g#7 ()"),
+    (
+        Owner::Iface(0),
+        Part::Constructor,
+        Some(2),
+        "op I.constructor#2 ()",
+    ),
+    (Owner::Iface(0), Part::Get(0), None, "op I.get e ()"),
+    (Owner::Iface(0), Part::Set(0), None, "op I.set e ()"),
+    (Owner::Iface(0), Part::Text, None, "op I.toString ()"),
+    (Owner::Space(0), Part::Get(0), None, "op N.get h ()"),
+    (Owner::Iface(0), Part::Get(1), None, "op  ()"),
+    (Owner::Space(9), Part::Op(0), Some(3), "op #3 ()"),
+];
+
+#[test]
+fn callees(rt: HostRuntime) {
+    let list = definitions(&rt, rt.alloc());
+    for (owner, part, overload, line) in &CALLEES {
+        let event = Event::Op {
+            callee: Callee {
+                owner: *owner,
+                part: *part,
+            },
+            overload: *overload,
+            values: IdlValues::new(rt.alloc()),
+        };
+        expect_line(&rt, rt.alloc(), &list, event, line);
+    }
+}
+
+fn expect_promises(rt: &impl Abort, alloc: Global, list: &Accepted) {
+    let (method, on, promise) = (object(19), object(20), object(21));
+    let value = number(1);
+    let fulfilled = Event::Fulfilled { promise: on, value };
+    expect_line(rt, alloc, list, fulfilled, "promise #20 fulfilled 1");
+    let rejected = Event::Rejected {
+        promise: object(22),
+        value: Value::Obj(promise),
     };
-    expect(rt, alloc, list, event, line)
+    expect_line(rt, alloc, list, rejected, "promise #22 rejected #21");
+    let waits = Event::Waits {
+        promise,
+        on,
+        method,
+    };
+    expect_line(rt, alloc, list, waits, "promise #21 waits #20 #19");
+    let job = Event::Job {
+        promise,
+        on,
+        method,
+    };
+    expect_line(rt, alloc, list, job, "job #21 #20 #19");
 }
 
-#[test]
-fn callees(rt: HostRuntime) -> Result<(), Fail> {
-    let alloc = rt.alloc();
-    let list = definitions(alloc)?;
-    let of = |owner, part| Callee { owner, part };
-    let iface = Owner::Iface(0);
-    let space = Owner::Space(0);
-    let rows = [
-        (of(space, Part::Op(0)), Some(1), "op N.f#1 ()"),
-        (of(iface, Part::Op(0)), Some(0), "op I.static object#0 ()"),
-        (of(iface, Part::Op(1)), Some(7), "op I.g#7 ()"),
-        (
-            of(iface, Part::Constructor),
-            Some(2),
-            "op I.constructor#2 ()",
-        ),
-        (of(iface, Part::Get(0)), None, "op I.get e ()"),
-        (of(iface, Part::Set(0)), None, "op I.set e ()"),
-        (of(iface, Part::Text), None, "op I.toString ()"),
-        (of(space, Part::Get(0)), None, "op N.get h ()"),
-        (of(iface, Part::Get(1)), None, "op  ()"),
-        (of(Owner::Space(9), Part::Op(0)), Some(3), "op #3 ()"),
-    ];
-    for (callee, overload, line) in rows {
-        expect_callee(&rt, alloc, &list, callee, overload, line)?;
-    }
-    Ok(())
-}
-
-#[test]
-fn promises_and_jobs(rt: HostRuntime) -> Result<(), Fail> {
-    let alloc = rt.alloc();
-    let list = definitions(alloc)?;
-    let rows = [
-        (
-            Event::Fulfilled {
-                promise: object(20),
-                value: number(1),
-            },
-            "promise #20 fulfilled 1",
-        ),
-        (
-            Event::Rejected {
-                promise: object(22),
-                value: Value::Obj(object(21)),
-            },
-            "promise #22 rejected #21",
-        ),
-        (
-            Event::Waits {
-                promise: object(21),
-                on: object(20),
-                method: object(19),
-            },
-            "promise #21 waits #20 #19",
-        ),
-        (
-            Event::Job {
-                promise: object(21),
-                on: object(20),
-                method: object(19),
-            },
-            "job #21 #20 #19",
-        ),
-    ];
-    for (event, line) in rows {
-        expect(&rt, alloc, &list, event, line)?;
-    }
-    Ok(())
-}
-
-#[test]
-fn ends_of_a_run(rt: HostRuntime) -> Result<(), Fail> {
-    let alloc = rt.alloc();
-    let list = definitions(alloc)?;
+fn expect_ends(rt: &impl Abort, alloc: Global, list: &Accepted) {
     let rows = [
         (Event::Done, "done"),
         (Event::Uncaught(Value::Obj(object(20))), "uncaught #20"),
@@ -278,9 +220,8 @@ fn ends_of_a_run(rt: HostRuntime) -> Result<(), Fail> {
         (Event::StopProfile(99), "stop profile 99"),
     ];
     for (event, line) in rows {
-        expect(&rt, alloc, &list, event, line)?;
+        expect_line(rt, alloc, list, event, line);
     }
-    Ok(())
 }
 
 const CODES: [(Code, &str); 26] = [
@@ -313,15 +254,13 @@ const CODES: [(Code, &str); 26] = [
 ];
 
 #[test]
-fn each_code(rt: HostRuntime) -> Result<(), Fail> {
-    let alloc = rt.alloc();
-    let list = definitions(alloc)?;
+fn promises_ends_and_errors(rt: HostRuntime) {
+    let list = definitions(&rt, rt.alloc());
+    expect_promises(&rt, rt.alloc(), &list);
+    expect_ends(&rt, rt.alloc(), &list);
+    let obj = object(20);
     for (code, line) in &CODES {
-        let event = Event::Error {
-            obj: object(20),
-            code: *code,
-        };
-        expect(&rt, alloc, &list, event, line)?;
+        let code = *code;
+        expect_line(&rt, rt.alloc(), &list, Event::Error { obj, code }, line);
     }
-    Ok(())
 }

@@ -1,171 +1,156 @@
 //! Each call on values once, with ample memory, IDL values as deep as they can be, and the nearest Numbers.
 
-use crate::shared::{object, rounded};
-use std::alloc::{AllocError, Global};
-use std::mem::ManuallyDrop;
+use crate::shared::{expect, object, rounded, sure, units};
+use std::alloc::Global;
+use std::mem::{self, ManuallyDrop};
 use std::process::Abort;
-use std::test::Fail;
 use widl_text::Units;
 use widl_value::{
     Class, IdlEntries, IdlMembers, IdlPair, IdlPairs, IdlSlots, IdlValue, IdlValues, Number,
     ObjRef, Shape, Value, copy_slot,
 };
 
-fn is_int(value: &IdlValue, n: i128) -> bool {
-    matches!(value, IdlValue::Int(m) if *m == n)
+/// An integer is this one.
+fn expect_int(rt: &impl Abort, value: &IdlValue, n: i128, what: &str) {
+    expect(rt, matches!(value, IdlValue::Int(m) if *m == n), what);
 }
 
 /// A value of each variant that has no parts.
-fn one_of_each(alloc: Global) -> Result<IdlValues, AllocError> {
-    let mut all = ManuallyDrop::new(IdlValues::new(alloc));
-    let text = IdlValue::Text(Units::of_str(alloc, "text")?);
+fn one_of_each(rt: &impl Abort, alloc: Global) -> IdlValues {
+    let mut all = IdlValues::new(alloc);
     let values = [
         IdlValue::Undefined,
         IdlValue::Null,
         IdlValue::Missing,
         IdlValue::Bool(true),
         IdlValue::Int(-5),
-        text,
+        IdlValue::Text(units(rt, alloc, "text")),
         IdlValue::Choice { of: 3, index: 1 },
         IdlValue::Object(object(7)),
         IdlValue::Any(Value::Num(Number::Whole(9))),
         IdlValue::Promise(object(8)),
     ];
     for value in values {
-        all.push(value)?;
+        sure(rt, all.push(value));
     }
-    Ok(ManuallyDrop::into_inner(all))
+    all
 }
 
-fn list_of(alloc: Global, inner: IdlValue) -> Result<IdlValue, AllocError> {
+fn list_of(rt: &impl Abort, alloc: Global, inner: IdlValue) -> IdlValue {
     let mut values = IdlValues::new(alloc);
-    values.push(inner)?;
-    Ok(IdlValue::List(values))
+    sure(rt, values.push(inner));
+    IdlValue::List(values)
 }
 
-fn record_of(alloc: Global, inner: IdlValue) -> Result<IdlValue, AllocError> {
+fn record_of(rt: &impl Abort, alloc: Global, inner: IdlValue) -> IdlValue {
     let mut entries = IdlEntries::new(alloc);
-    entries.push((Units::of_str(alloc, "key")?, inner))?;
-    Ok(IdlValue::Entries(entries))
+    sure(rt, entries.push((units(rt, alloc, "key"), inner)));
+    IdlValue::Entries(entries)
 }
 
-fn dictionary_of(alloc: Global, inner: IdlValue) -> Result<IdlValue, AllocError> {
+fn dictionary_of(rt: &impl Abort, alloc: Global, inner: IdlValue) -> IdlValue {
     let mut members = IdlMembers::new(alloc);
-    members.push((4, 0, inner))?;
-    Ok(IdlValue::Dict { of: 5, members })
+    sure(rt, members.push((4, 0, inner)));
+    IdlValue::Dict { of: 5, members }
 }
 
-#[test]
-fn copies_each_variant_at_three_levels(rt: HostRuntime) -> Result<(), Fail> {
-    let alloc = rt.alloc();
-    let mut value = IdlValue::List(one_of_each(alloc)?);
-    for _ in 0..3 {
-        value = list_of(alloc, value)?;
-        value = record_of(alloc, value)?;
-        value = dictionary_of(alloc, value)?;
-    }
-    let copy = value.copy();
+/// A value can be copied, and dropped before its copy, which is a dictionary.
+fn expect_copy(rt: &impl Abort, value: IdlValue) {
+    let copy = sure(rt, value.copy());
     drop(value);
-    let copy = copy?;
-    let is_dictionary = matches!(&copy, IdlValue::Dict { of: 5, .. });
+    expect(rt, matches!(&copy, IdlValue::Dict { of: 5, .. }), "a copy");
     drop(copy);
-    assert!(rt; is_dictionary);
-    Ok(())
 }
 
 #[test]
-fn changes_values(rt: HostRuntime) -> Result<(), Fail> {
-    let mut values = IdlValues::new(rt.alloc());
-    values.push(IdlValue::Int(1))?;
-    assert_eq!(rt; values.len(), 1);
-    let former = ManuallyDrop::new(values.replace(0, IdlValue::Int(2)));
-    assert!(rt; is_int(&former, 1));
-    assert!(rt; is_int(values.at(0), 2));
-    Ok(())
-}
-
-#[test]
-fn changes_entries(rt: HostRuntime) -> Result<(), Fail> {
+fn copies_each_variant_at_three_levels(rt: HostRuntime) {
     let alloc = rt.alloc();
-    let mut entries = IdlEntries::new(alloc);
-    entries.push((Units::new(alloc), IdlValue::Int(1)))?;
-    assert_eq!(rt; entries.len(), 1);
-    let former = entries.replace(0, (Units::new(alloc), IdlValue::Int(2)));
-    let former = ManuallyDrop::new(former);
-    assert!(rt; is_int(&former.1, 1));
-    assert!(rt; is_int(&entries.at(0).1, 2));
-    Ok(())
-}
-
-#[test]
-fn changes_members(rt: HostRuntime) -> Result<(), Fail> {
-    let mut members = IdlMembers::new(rt.alloc());
-    members.push((0, 0, IdlValue::Int(1)))?;
-    assert_eq!(rt; members.len(), 1);
-    let former = ManuallyDrop::new(members.replace(0, (0, 1, IdlValue::Int(2))));
-    assert!(rt; is_int(&former.2, 1));
-    assert!(rt; is_int(&members.at(0).2, 2));
-    Ok(())
-}
-
-#[test]
-fn changes_slots(rt: HostRuntime) -> Result<(), Fail> {
-    let mut slots = IdlSlots::new(rt.alloc());
-    slots.push(None)?;
-    assert_eq!(rt; slots.len(), 1);
-    let copy = ManuallyDrop::new(copy_slot(slots.at(0))?);
-    assert!(rt; copy.is_none());
-    let former = ManuallyDrop::new(slots.replace(0, Some(IdlValue::Int(2))));
-    assert!(rt; former.is_none());
-    let copy = ManuallyDrop::new(copy_slot(slots.at(0))?);
-    assert!(rt; copy.is_some());
-    Ok(())
-}
-
-#[test]
-fn copies_pairs(rt: HostRuntime) -> Result<(), Fail> {
-    let mut pairs = IdlPairs::new(rt.alloc());
-    let pair = ManuallyDrop::new(IdlPair {
-        key: IdlValue::Int(1),
-        value: IdlValue::Int(2),
-    });
-    pairs.push(pair.copy()?)?;
-    assert_eq!(rt; pairs.len(), 1);
-    assert!(rt; is_int(&pairs.at(0).value, 2));
-    Ok(())
+    let mut value = IdlValue::List(one_of_each(&rt, alloc));
+    for _ in 0..3 {
+        let list = list_of(&rt, alloc, value);
+        value = dictionary_of(&rt, alloc, record_of(&rt, alloc, list));
+    }
+    expect_copy(&rt, value);
 }
 
 /// 256 dictionaries, each with a type of 16 levels.
 #[test]
-fn copies_and_drops_4096_levels(rt: HostRuntime) -> Result<(), Fail> {
+fn copies_and_drops_4096_levels(rt: HostRuntime) {
     let alloc = rt.alloc();
     let mut value = IdlValue::Int(1);
     for _ in 0..256 {
-        for level in 0..15 {
-            value = if level % 2 == 0 {
-                list_of(alloc, value)?
-            } else {
-                record_of(alloc, value)?
-            };
+        for _ in 0..7 {
+            let list = list_of(&rt, alloc, value);
+            value = record_of(&rt, alloc, list);
         }
-        value = dictionary_of(alloc, value)?;
+        let list = list_of(&rt, alloc, value);
+        value = dictionary_of(&rt, alloc, list);
     }
-    let copy = value.copy();
-    drop(value);
-    let copy = copy?;
-    let is_dictionary = matches!(&copy, IdlValue::Dict { of: 5, .. });
-    drop(copy);
-    assert!(rt; is_dictionary);
-    Ok(())
+    expect_copy(&rt, value);
+}
+
+fn change_values(rt: &impl Abort, alloc: Global) {
+    let mut values = IdlValues::new(alloc);
+    sure(rt, values.push(IdlValue::Int(1)));
+    assert!(rt; values.len() == 1);
+    let former = ManuallyDrop::new(values.replace(0, IdlValue::Int(2)));
+    expect_int(rt, &former, 1, "the former value");
+    expect_int(rt, values.at(0), 2, "the new value");
+}
+
+fn change_entries(rt: &impl Abort, alloc: Global) {
+    let mut entries = IdlEntries::new(alloc);
+    sure(rt, entries.push((Units::new(alloc), IdlValue::Int(1))));
+    assert!(rt; entries.len() == 1);
+    let new = (Units::new(alloc), IdlValue::Int(2));
+    let former = ManuallyDrop::new(entries.replace(0, new));
+    expect_int(rt, &former.1, 1, "the former entry");
+    expect_int(rt, &entries.at(0).1, 2, "the new entry");
+}
+
+fn change_members(rt: &impl Abort, alloc: Global) {
+    let mut members = IdlMembers::new(alloc);
+    sure(rt, members.push((0, 0, IdlValue::Int(1))));
+    assert!(rt; members.len() == 1);
+    let former = ManuallyDrop::new(members.replace(0, (0, 1, IdlValue::Int(2))));
+    expect_int(rt, &former.2, 1, "the former member");
+    expect_int(rt, &members.at(0).2, 2, "the new member");
+}
+
+fn change_slots(rt: &impl Abort, alloc: Global) {
+    let mut slots = IdlSlots::new(alloc);
+    sure(rt, slots.push(None));
+    assert!(rt; slots.len() == 1);
+    let copy = ManuallyDrop::new(sure(rt, copy_slot(slots.at(0))));
+    expect(rt, copy.is_none(), "a copy of an empty slot");
+    let former = ManuallyDrop::new(slots.replace(0, Some(IdlValue::Int(2))));
+    expect(rt, former.is_none(), "the former slot");
+    let copy = ManuallyDrop::new(sure(rt, copy_slot(slots.at(0))));
+    expect(rt, copy.is_some(), "a copy of the new slot");
+}
+
+fn copy_pairs(rt: &impl Abort, alloc: Global) {
+    let mut pairs = IdlPairs::new(alloc);
+    let (key, value) = (IdlValue::Int(1), IdlValue::Int(2));
+    let pair = ManuallyDrop::new(IdlPair { key, value });
+    sure(rt, pairs.push(sure(rt, pair.copy())));
+    assert!(rt; pairs.len() == 1);
+    expect_int(rt, &pairs.at(0).value, 2, "a copied pair");
+}
+
+#[test]
+fn changes_lists(rt: HostRuntime) {
+    change_values(&rt, rt.alloc());
+    change_entries(&rt, rt.alloc());
+    change_members(&rt, rt.alloc());
+    change_slots(&rt, rt.alloc());
+    copy_pairs(&rt, rt.alloc());
 }
 
 /// A value has this class, and a copy is the same.
-fn assert_class(rt: &impl Abort, value: Value, class: Class) -> Result<(), AllocError> {
-    let value = ManuallyDrop::new(value);
-    assert_eq!(rt; value.class(), class);
-    let copy = ManuallyDrop::new(value.copy()?);
-    assert!(rt; *copy == *value);
-    Ok(())
+fn expect_class(rt: &impl Abort, value: &Value, class: Class) {
+    let copy = ManuallyDrop::new(sure(rt, value.copy()));
+    assert!(rt; value.class() == class && *copy == *value, "{class:?}");
 }
 
 /// An object of this shape.
@@ -174,17 +159,22 @@ fn shaped(shape: Shape) -> Value {
 }
 
 #[test]
-fn copies_and_classes(rt: HostRuntime) -> Result<(), AllocError> {
-    assert_class(&rt, Value::Undefined, Class::Undefined)?;
-    assert_class(&rt, Value::Null, Class::Null)?;
-    assert_class(&rt, Value::Bool(false), Class::Bool)?;
-    assert_class(&rt, Value::Num(Number::Whole(-3)), Class::Num)?;
-    let text = Value::Str(Units::of_str(rt.alloc(), "no")?);
-    assert_class(&rt, text, Class::Str)?;
-    assert_class(&rt, Value::Sym(1), Class::Sym)?;
-    assert_class(&rt, shaped(Shape::Platform(4)), Class::Platform(4))?;
-    assert_class(&rt, shaped(Shape::Callable), Class::Callable)?;
-    assert_class(&rt, shaped(Shape::Plain), Class::Plain)
+fn copies_and_classes(rt: HostRuntime) {
+    let rows = [
+        (Value::Undefined, Class::Undefined),
+        (Value::Null, Class::Null),
+        (Value::Bool(false), Class::Bool),
+        (Value::Num(Number::Whole(-3)), Class::Num),
+        (Value::Str(units(&rt, rt.alloc(), "no")), Class::Str),
+        (Value::Sym(1), Class::Sym),
+        (shaped(Shape::Platform(4)), Class::Platform(4)),
+        (shaped(Shape::Callable), Class::Callable),
+        (shaped(Shape::Plain), Class::Plain),
+    ];
+    for (value, class) in &rows {
+        expect_class(&rt, value, *class);
+    }
+    mem::forget(rows);
 }
 
 /// Integers and the Numbers nearest to them.
@@ -202,10 +192,18 @@ const NEAREST: [(i128, i128); 11] = [
     (-18_446_744_073_709_551_616, -18_446_744_073_709_551_616),
 ];
 
+/// The Number nearest to an integer is this one.
+fn expect_nearest(rt: &impl Abort, v: i128, want: i128) {
+    assert!(rt;
+        rounded(v) == Some(Number::Whole(want)),
+        "the nearest of {v}"
+    );
+}
+
 #[test]
 fn rounds_to_the_nearest_number(rt: HostRuntime) {
     for (v, want) in &NEAREST {
-        assert_eq!(rt; rounded(*v), Some(Number::Whole(*want)), "nearest of {v}");
+        expect_nearest(&rt, *v, *want);
     }
 }
 
@@ -213,26 +211,11 @@ fn rounds_to_the_nearest_number(rt: HostRuntime) {
 fn rounds_the_neighbours_of_powers(rt: HostRuntime) {
     let mut power: i128 = 1;
     for bits in 0..65 {
-        let below = power.wrapping_sub(1);
-        let above = power.wrapping_add(1);
-        let rounded_below = if bits > 53 { power } else { below };
-        let rounded_above = if bits >= 53 { power } else { above };
-        assert_eq!(rt;
-            rounded(below),
-            Some(Number::Whole(rounded_below)),
-            "below the power {bits}"
-        );
-        assert_eq!(rt;
-            rounded(power),
-            Some(Number::Whole(power)),
-            "at the power {bits}"
-        );
+        let (below, above) = (power.wrapping_sub(1), power.wrapping_add(1));
+        expect_nearest(&rt, below, if bits > 53 { power } else { below });
+        expect_nearest(&rt, power, power);
         if bits < 64 {
-            assert_eq!(rt;
-                rounded(above),
-                Some(Number::Whole(rounded_above)),
-                "above the power {bits}"
-            );
+            expect_nearest(&rt, above, if bits >= 53 { power } else { above });
         }
         power = power.wrapping_mul(2);
     }

@@ -1,24 +1,13 @@
-use super::check;
-use std::alloc::Global;
-use std::process::Abort;
+//! Files, whose tokens are read from their bytes.
+
+use super::expect_answer;
+use crate::shared::sure;
 use std::string::String;
-use std::test::Fail;
 use widl_grammar::SyntaxFault;
 use widl_text::Place;
 
 fn syntax(at: u32) -> Result<(), SyntaxFault> {
     Err(SyntaxFault::Syntax(Place { file: 3, at }))
-}
-
-/// The answer for a file of this text.
-fn assert_answer(
-    rt: &impl Abort,
-    alloc: Global,
-    text: &str,
-    answer: Result<(), SyntaxFault>,
-) -> Result<(), Fail> {
-    assert_eq!(rt; check(alloc, text)?, answer, "{text}");
-    Ok(())
 }
 
 /// Texts, and the offsets of their faults.
@@ -29,15 +18,7 @@ const FAULTS: [(&str, u32); 4] = [
     ("typedef long T!", 14),
 ];
 
-#[test]
-fn places_are_offsets_in_the_file(rt: HostRuntime) -> Result<(), Fail> {
-    for (text, at) in &FAULTS {
-        assert_answer(&rt, rt.alloc(), text, syntax(*at))?;
-    }
-    Ok(())
-}
-
-/// Texts without a fault.
+/// Texts without a fault, which have each kind of token.
 const SENTENCES: [&str; 6] = [
     "",
     "[A=_interface] typedef _long T;",
@@ -48,20 +29,21 @@ const SENTENCES: [&str; 6] = [
 ];
 
 #[test]
-fn each_kind_of_token_has_its_terminal(rt: HostRuntime) -> Result<(), Fail> {
-    for text in &SENTENCES {
-        assert_answer(&rt, rt.alloc(), text, Ok(()))?;
+fn places_are_offsets_in_the_file(rt: HostRuntime) {
+    for (text, at) in &FAULTS {
+        expect_answer(&rt, rt.alloc(), text, syntax(*at));
     }
-    Ok(())
+    for text in &SENTENCES {
+        expect_answer(&rt, rt.alloc(), text, Ok(()));
+    }
 }
 
 // A file of 1 MiB, nested as deep as one can be.
 #[test]
-fn nesting_needs_no_stack(rt: HostRuntime) -> Result<(), Fail> {
+fn nesting_needs_no_stack(rt: HostRuntime) {
     let mut text = String::new(rt.alloc());
     for _ in 0..349_525u32 {
-        text.push_str("[A(")?;
+        sure(&rt, text.push_str("[A("));
     }
-    assert_eq!(rt; check(rt.alloc(), text.as_str())?, syntax(1_048_575));
-    Ok(())
+    expect_answer(&rt, rt.alloc(), &text, syntax(1_048_575));
 }

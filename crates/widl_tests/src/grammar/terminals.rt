@@ -1,6 +1,9 @@
+//! The terminals that the grammar quotes.
+
 use super::read;
-use std::alloc::{AllocFailed, Global};
-use std::test::Fail;
+use crate::shared::{expect, sure};
+use std::alloc::Global;
+use std::process::Abort;
 use widl_grammar::{Terminal, quoted};
 
 /// Sentences that have each quoted terminal between them.
@@ -24,26 +27,23 @@ const SENTENCES: [&str; 14] = [
 /// How many words and signs the grammar quotes.
 const QUOTED: usize = 86;
 
-/// The quoted terminals of the sentences, each once.
-fn quoted_in_sentences(alloc: Global) -> Result<Vec<Terminal>, AllocFailed<Terminal>> {
-    let mut found = Vec::new(alloc);
-    for sentence in &SENTENCES {
-        for word in sentence.split(' ') {
-            if let Some(terminal) = quoted(word.as_bytes()) {
-                if !found.iter().any(|other| *other == terminal) {
-                    found.push(terminal)?;
-                }
+/// Adds the quoted terminals of a sentence that are not there yet.
+fn add_quoted(rt: &impl Abort, found: &mut Vec<Terminal>, sentence: &str) {
+    for word in sentence.split(' ') {
+        if let Some(terminal) = quoted(word.as_bytes()) {
+            if !found.contains(&terminal) {
+                sure(rt, found.push(terminal));
             }
         }
     }
-    Ok(found)
 }
 
 #[test]
-fn each_quoted_terminal_is_accepted(rt: HostRuntime) -> Result<(), Fail> {
+fn each_quoted_terminal_is_accepted(rt: HostRuntime) {
+    let mut found = Vec::new(rt.alloc());
     for sentence in &SENTENCES {
-        assert_eq!(rt; read(rt.alloc(), sentence), Ok(()), "{sentence}");
+        expect(&rt, read(&rt, rt.alloc(), sentence).is_ok(), sentence);
+        add_quoted(&rt, &mut found, sentence);
     }
-    assert_eq!(rt; quoted_in_sentences(rt.alloc())?.len(), QUOTED);
-    Ok(())
+    expect(&rt, found.len() == QUOTED, "the quoted terminals");
 }

@@ -1,27 +1,28 @@
 //! The values of enumerations.
 
-use crate::shared::{NOWHERE, list_of, units};
-use std::alloc::{AllocError, Global};
+use crate::shared::{NOWHERE, expect, list_of, sure, units};
+use std::alloc::Global;
 use std::mem::ManuallyDrop;
+use std::process::Abort;
 use widl_idl::{Choice, Defs, Texts};
 use widl_scalar::enum_at;
 use widl_text::{Items, Units};
 
 /// A list whose one enumeration has these values.
-fn with_values(alloc: Global, values: Texts) -> Result<Defs, AllocError> {
+fn with_values(rt: &impl Abort, alloc: Global, values: Texts) -> ManuallyDrop<Defs> {
     let mut defs = list_of(alloc, Items::new(alloc), Items::new(alloc));
-    let (at, name) = (NOWHERE, Units::of_str(alloc, "E")?);
-    defs.choices.push(Choice { at, name, values })?;
-    Ok(defs)
+    let (at, name) = (NOWHERE, units(rt, alloc, "E"));
+    sure(rt, defs.choices.push(Choice { at, name, values }));
+    ManuallyDrop::new(defs)
 }
 
 /// `enum E { "auto", "", "autos", "auto" };`
-fn few_values(alloc: Global) -> Result<Texts, AllocError> {
+fn few_values(rt: &impl Abort, alloc: Global) -> Texts {
     let mut values = Texts::new(alloc);
     for value in &["auto", "", "autos", "auto"] {
-        values.push(Units::of_str(alloc, value)?)?;
+        sure(rt, values.push(units(rt, alloc, value)));
     }
-    Ok(values)
+    values
 }
 
 /// Enumerations, texts, and the places of the values that they are.
@@ -36,38 +37,35 @@ const PLACES: [(u32, &str, Option<u32>); 8] = [
     (4_294_967_295, "auto", None),
 ];
 
-#[test]
-fn finds_the_first_place(rt: HostRuntime) -> Result<(), AllocError> {
-    let defs = ManuallyDrop::new(with_values(rt.alloc(), few_values(rt.alloc())?)?);
-    for (choice, text, want) in &PLACES {
-        let text = units(rt.alloc(), text)?;
-        assert_eq!(rt; enum_at(&defs, *choice, &text), *want, "{text:?}");
-    }
-    Ok(())
-}
-
 /// The text `value` and a unit.
-fn numbered(alloc: Global, unit: u16) -> Result<Units, AllocError> {
-    let mut value = units(alloc, "value")?;
-    value.push(unit)?;
-    Ok(ManuallyDrop::into_inner(value))
+fn numbered(rt: &impl Abort, alloc: Global, unit: u16) -> Units {
+    let mut value = units(rt, alloc, "value");
+    sure(rt, value.push(unit));
+    value
 }
 
-fn many_values(alloc: Global, count: u16) -> Result<Texts, AllocError> {
+fn many_values(rt: &impl Abort, alloc: Global, count: u16) -> Texts {
     let mut values = Texts::new(alloc);
     for unit in 0..count {
-        values.push(numbered(alloc, unit)?)?;
+        sure(rt, values.push(numbered(rt, alloc, unit)));
     }
-    Ok(values)
+    values
 }
 
 #[test]
-fn finds_the_last_of_many_values(rt: HostRuntime) -> Result<(), AllocError> {
-    let values = many_values(rt.alloc(), 50_000)?;
-    let defs = ManuallyDrop::new(with_values(rt.alloc(), values)?);
-    for (unit, want) in [(49_999, Some(49_999)), (50_000, None)] {
-        let text = ManuallyDrop::new(numbered(rt.alloc(), unit)?);
-        assert_eq!(rt; enum_at(&defs, 0, &text), want);
+fn finds_the_first_place(rt: HostRuntime) {
+    let defs = with_values(&rt, rt.alloc(), few_values(&rt, rt.alloc()));
+    for (choice, text, want) in &PLACES {
+        let found = enum_at(&defs, *choice, &units(&rt, rt.alloc(), text));
+        expect(&rt, found == *want, text);
     }
-    Ok(())
+}
+
+#[test]
+fn finds_the_last_of_many_values(rt: HostRuntime) {
+    let defs = with_values(&rt, rt.alloc(), many_values(&rt, rt.alloc(), 50_000));
+    for (unit, want) in &[(49_999, Some(49_999)), (50_000, None)] {
+        let found = enum_at(&defs, 0, &numbered(&rt, rt.alloc(), *unit));
+        expect(&rt, found == *want, "one of many values");
+    }
 }

@@ -1,8 +1,7 @@
 //! Texts to numbers.
 
-use crate::shared::{rounded, units};
-use std::alloc::{AllocError, Global};
-use std::mem::ManuallyDrop;
+use crate::shared::{expect, rounded, sure, units};
+use std::alloc::Global;
 use std::process::Abort;
 use widl_scalar::{Read, number_of, number_text};
 use widl_text::Units;
@@ -11,14 +10,17 @@ use widl_value::Number;
 const TOP: i128 = 1 << 64;
 
 /// What a text is read as.
-fn assert_read(rt: &impl Abort, alloc: Global, text: &str, want: Read) -> Result<(), AllocError> {
-    let units = units(alloc, text)?;
-    assert_eq!(rt; number_of(alloc, &units)?, want, "{text:?}");
-    Ok(())
+fn expect_read(rt: &impl Abort, alloc: Global, text: &Units, want: Read, what: &str) {
+    expect(rt, sure(rt, number_of(alloc, text)) == want, what);
 }
 
+/// All white space, and the text 7 between it.
+const TRIMMED: &str =
+    "\u{9}\u{A}\u{B}\u{C}\u{D} \u{A0}\u{1680}\u{2000}\u{2001}\u{2002}\u{2003}\u{2004}\u{2005}\u{2006}\u{2007}\u{2008}\u{2009}\u{200A}\u{2028}\u{2029}\u{202F}\u{205F}\u{3000}\u{FEFF}7\u{9}\u{A}\u{B}\u{C}\u{D} \u{A0}\u{1680}\u{2000}\u{2001}\u{2002}\u{2003}\u{2004}\u{2005}\u{2006}\u{2007}\u{2008}\u{2009}\u{200A}\u{2028}\u{2029}\u{202F}\u{205F}\u{3000}\u{FEFF}";
+
 /// Numerals and what they are read as.
-const NUMERALS: [(&str, i128); 24] = [
+const NUMERALS: [(&str, i128); 25] = [
+    (TRIMMED, 7),
     ("", 0),
     (" \t\r\n ", 0),
     ("0", 0),
@@ -45,15 +47,6 @@ const NUMERALS: [(&str, i128); 24] = [
     ("-1844674407370955161600e-2", -TOP),
 ];
 
-#[test]
-fn reads_numerals(rt: HostRuntime) -> Result<(), AllocError> {
-    for (text, want) in &NUMERALS {
-        let want = Read::Number(Number::Whole(*want));
-        assert_read(&rt, rt.alloc(), text, want)?;
-    }
-    Ok(())
-}
-
 /// Numerals of what is no Number.
 const OUTSIDE: [&str; 10] = [
     "1.5",
@@ -68,16 +61,8 @@ const OUTSIDE: [&str; 10] = [
     "1e-99999999999999999999999999999999999999999",
 ];
 
-#[test]
-fn refuses_what_is_outside_the_profile(rt: HostRuntime) -> Result<(), AllocError> {
-    for text in &OUTSIDE {
-        assert_read(&rt, rt.alloc(), text, Read::OutOfProfile)?;
-    }
-    Ok(())
-}
-
-/// Texts that are no numerals, and what they are read as.
-const NUMBER_WORDS: [(&str, Number); 20] = [
+/// Texts that are no numerals, some for what is no white space, and what they are read as.
+const NUMBER_WORDS: [(&str, Number); 24] = [
     ("Infinity", Number::PosInf),
     ("+Infinity", Number::PosInf),
     (" -Infinity ", Number::NegInf),
@@ -98,86 +83,63 @@ const NUMBER_WORDS: [(&str, Number); 20] = [
     ("1.2.3", Number::NaN),
     ("12 34", Number::NaN),
     ("1n", Number::NaN),
+    ("\u{180E}7", Number::NaN),
+    ("7\u{200B}", Number::NaN),
+    ("\u{85}7", Number::NaN),
+    ("7\u{8}", Number::NaN),
 ];
 
 #[test]
-fn tells_words(rt: HostRuntime) -> Result<(), AllocError> {
+fn reads_texts(rt: HostRuntime) {
+    for (text, want) in &NUMERALS {
+        let want = Read::Number(Number::Whole(*want));
+        expect_read(&rt, rt.alloc(), &units(&rt, rt.alloc(), text), want, text);
+    }
+    for text in &OUTSIDE {
+        let want = Read::OutOfProfile;
+        expect_read(&rt, rt.alloc(), &units(&rt, rt.alloc(), text), want, text);
+    }
     for (text, want) in &NUMBER_WORDS {
-        assert_read(&rt, rt.alloc(), text, Read::Number(*want))?;
+        let want = Read::Number(*want);
+        expect_read(&rt, rt.alloc(), &units(&rt, rt.alloc(), text), want, text);
     }
-    Ok(())
 }
 
-/// All white space, and the text 7 between it.
-const TRIMMED: &str =
-    "\u{9}\u{A}\u{B}\u{C}\u{D} \u{A0}\u{1680}\u{2000}\u{2001}\u{2002}\u{2003}\u{2004}\u{2005}\u{2006}\u{2007}\u{2008}\u{2009}\u{200A}\u{2028}\u{2029}\u{202F}\u{205F}\u{3000}\u{FEFF}7\u{9}\u{A}\u{B}\u{C}\u{D} \u{A0}\u{1680}\u{2000}\u{2001}\u{2002}\u{2003}\u{2004}\u{2005}\u{2006}\u{2007}\u{2008}\u{2009}\u{200A}\u{2028}\u{2029}\u{202F}\u{205F}\u{3000}\u{FEFF}";
-
-#[test]
-fn trims_white_space_of_every_kind(rt: HostRuntime) -> Result<(), AllocError> {
-    let seven = Read::Number(Number::Whole(7));
-    assert_read(&rt, rt.alloc(), TRIMMED, seven)?;
-    for none in &["\u{180E}7", "7\u{200B}", "\u{85}7", "7\u{8}"] {
-        assert_read(&rt, rt.alloc(), none, Read::Number(Number::NaN))?;
+/// The text of the Number nearest to v, which is of magnitude at most 2^64, is read as this number: but for
+/// 2^64, whose text names a number above it.
+fn expect_read_back(rt: &impl Abort, alloc: Global, v: i128, number: i128) {
+    if v <= TOP {
+        let want = if number == TOP {
+            Read::OutOfProfile
+        } else {
+            Read::Number(Number::Whole(number))
+        };
+        let text = sure(rt, number_text(alloc, rounded(v).unwrap_or(Number::NaN)));
+        expect_read(rt, alloc, &text, want, "a power of two or its neighbour");
     }
-    Ok(())
-}
-
-/// What is read of the text of the Number nearest to v, which is of magnitude at most 2^64.
-fn read_back(alloc: Global, v: i128) -> Result<Option<Read>, AllocError> {
-    let Some(number) = rounded(v) else {
-        return Ok(None);
-    };
-    let text = ManuallyDrop::new(number_text(alloc, number)?);
-    Ok(Some(number_of(alloc, &text)?))
 }
 
 #[test]
-fn reads_back_the_powers_and_their_neighbours(rt: HostRuntime) -> Result<(), AllocError> {
+fn reads_back_the_powers_and_their_neighbours(rt: HostRuntime) {
     let mut power: i128 = 1;
     for bits in 0..65 {
-        let below = if bits > 53 {
-            power
-        } else {
-            power.wrapping_sub(1)
-        };
-        let above = if bits >= 53 {
-            power
-        } else {
-            power.wrapping_add(1)
-        };
-        for (v, want) in [
-            (power.wrapping_sub(1), below),
-            (power, power),
-            (power.wrapping_add(1), above),
-        ] {
-            if v <= TOP {
-                let read = read_back(rt.alloc(), v)?;
-                // The text of 2^64 names a number above it.
-                let same = if want == TOP {
-                    Read::OutOfProfile
-                } else {
-                    Read::Number(Number::Whole(want))
-                };
-                assert_eq!(rt; read, Some(same), "{v}");
-            }
-        }
+        let (below, above) = (power.wrapping_sub(1), power.wrapping_add(1));
+        let read_below = if bits > 53 { power } else { below };
+        let read_above = if bits >= 53 { power } else { above };
+        expect_read_back(&rt, rt.alloc(), below, read_below);
+        expect_read_back(&rt, rt.alloc(), power, power);
+        expect_read_back(&rt, rt.alloc(), above, read_above);
         power = power.wrapping_mul(2);
     }
-    Ok(())
 }
 
-/// A front 500,000 times, and an end.
-fn repeated(alloc: Global, front: &str, end: &str) -> Result<ManuallyDrop<Units>, AllocError> {
-    let mut text = units(alloc, "")?;
-    for unit in front.bytes() {
-        for _ in 0..500_000 {
-            text.push(u16::from(unit))?;
+/// Adds an ASCII text so many times.
+fn repeat(rt: &impl Abort, text: &mut Units, part: &str, count: u32) {
+    for _ in 0..count {
+        for unit in part.bytes() {
+            sure(rt, text.push(u16::from(unit)));
         }
     }
-    for unit in end.bytes() {
-        text.push(u16::from(unit))?;
-    }
-    Ok(text)
 }
 
 /// Fronts that stand 500,000 times, ends, and what they are read as.
@@ -190,26 +152,22 @@ const LONG_TEXTS: [(&str, &str, Read); 5] = [
 ];
 
 #[test]
-fn reads_long_texts(rt: HostRuntime) -> Result<(), AllocError> {
+fn reads_long_texts(rt: HostRuntime) {
     for (front, end, want) in &LONG_TEXTS {
-        let text = repeated(rt.alloc(), front, end)?;
-        assert_eq!(rt; number_of(rt.alloc(), &text)?, *want, "{front} {end}");
+        let mut text = units(&rt, rt.alloc(), "");
+        repeat(&rt, &mut text, front, 500_000);
+        repeat(&rt, &mut text, end, 1);
+        expect_read(&rt, rt.alloc(), &text, *want, end);
     }
-    Ok(())
-}
-
-#[test]
-fn takes_the_zeros_of_a_long_text_back(rt: HostRuntime) -> Result<(), AllocError> {
-    let mut text = units(rt.alloc(), "1")?;
-    for _ in 0..500_000 {
-        text.push(48)?;
-    }
-    for unit in "e-499999".bytes() {
-        text.push(u16::from(unit))?;
-    }
-    assert_eq!(rt;
-        number_of(rt.alloc(), &text)?,
-        Read::Number(Number::Whole(10))
+    let mut text = units(&rt, rt.alloc(), "1");
+    repeat(&rt, &mut text, "0", 500_000);
+    repeat(&rt, &mut text, "e-499999", 1);
+    let ten = Read::Number(Number::Whole(10));
+    expect_read(
+        &rt,
+        rt.alloc(),
+        &text,
+        ten,
+        "many zeros that are taken back",
     );
-    Ok(())
 }

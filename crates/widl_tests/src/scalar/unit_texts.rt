@@ -1,29 +1,37 @@
 //! Texts to texts of scalar values and of bytes.
 
-use crate::shared::units;
-use std::alloc::AllocError;
-use std::mem::ManuallyDrop;
+use crate::shared::{expect, sure, units};
+use std::alloc::Global;
+use std::process::Abort;
 use widl_scalar::{is_byte_text, scalar_text};
 
-#[test]
-fn replaces_lone_surrogates(rt: HostRuntime) -> Result<(), AllocError> {
-    let mut text = units(rt.alloc(), "")?;
-    for unit in &[0xDE00, 0xD83D, 0xD83D, 0xDE00, 0xDC00, 0x61, 0xD800] {
-        text.push(*unit)?;
+const LONE: [u16; 7] = [0xDE00, 0xD83D, 0xD83D, 0xDE00, 0xDC00, 0x61, 0xD800];
+
+const REPLACED: [u16; 7] = [0xFFFD, 0xFFFD, 0xD83D, 0xDE00, 0xFFFD, 0x61, 0xFFFD];
+
+fn expect_replaced(rt: &impl Abort, alloc: Global) {
+    let mut text = units(rt, alloc, "");
+    for unit in &LONE {
+        sure(rt, text.push(*unit));
     }
-    let scalar = ManuallyDrop::new(scalar_text(rt.alloc(), &text)?);
-    assert_eq!(rt;
-        scalar.as_slice(),
-        [0xFFFD, 0xFFFD, 0xD83D, 0xDE00, 0xFFFD, 0x61, 0xFFFD].as_slice()
+    let scalar = sure(rt, scalar_text(alloc, &text));
+    expect(
+        rt,
+        scalar.as_slice() == REPLACED.as_slice(),
+        "lone surrogates",
     );
-    Ok(())
 }
 
+const BYTE_TEXTS: [(&str, bool); 3] = [("", true), ("a\u{FF}", true), ("a\u{100}", false)];
+
 #[test]
-fn tells_texts_of_bytes(rt: HostRuntime) -> Result<(), AllocError> {
-    for (text, want) in &[("", true), ("a\u{FF}", true), ("a\u{100}", false)] {
-        let text = units(rt.alloc(), text)?;
-        assert_eq!(rt; is_byte_text(&text), *want, "{text:?}");
+fn replaces_lone_surrogates_and_tells_texts_of_bytes(rt: HostRuntime) {
+    expect_replaced(&rt, rt.alloc());
+    for (text, want) in &BYTE_TEXTS {
+        expect(
+            &rt,
+            is_byte_text(&units(&rt, rt.alloc(), text)) == *want,
+            text,
+        );
     }
-    Ok(())
 }

@@ -2,12 +2,12 @@
 
 use super::objects::Objects;
 use super::written::write_key;
-use crate::shared::number;
-use std::alloc::{AllocError, Global};
+use crate::shared::{expect, number, sure, units};
+use std::alloc::Global;
 use std::mem::ManuallyDrop;
 use std::process::Abort;
 use widl_store::{DefineFault, Found, NotConfigurable, Prop, Put, PutFault};
-use widl_text::{Key, Units};
+use widl_text::Key;
 use widl_value::{Flags, Number, ObjRef, Shape, Value};
 
 /// `Object.prototype`.
@@ -22,9 +22,8 @@ pub const ARRAY: ObjRef = ObjRef {
     shape: Shape::Plain,
 };
 
-pub fn name(alloc: Global, text: &str) -> Result<Key, AllocError> {
-    let units = Units::of_str(alloc, text)?;
-    Ok(Key::Name(units))
+pub fn name(rt: &impl Abort, alloc: Global, text: &str) -> Key {
+    Key::Name(units(rt, alloc, text))
 }
 
 /// A property that is enumerable, of the number 1.
@@ -40,10 +39,10 @@ pub fn plain(writable: bool, configurable: bool) -> Prop {
 }
 
 /// An object with this prototype.
-pub fn heir(rt: &impl Abort, store: &mut Objects, proto: ObjRef) -> Result<ObjRef, AllocError> {
+pub fn heir(rt: &impl Abort, store: &mut Objects, proto: ObjRef) -> ObjRef {
     assert!(rt; store.len() < 4_294_967_295);
     assert!(rt; store.is_live(proto));
-    store.add(proto)
+    sure(rt, store.add(proto))
 }
 
 fn put_word(answer: &Result<Put, PutFault>) -> &'static str {
@@ -64,15 +63,21 @@ pub fn put(rt: &impl Abort, store: &mut Objects, obj: ObjRef, key: Key, n: i128)
 }
 
 /// What a put of 1 at a name answers.
-pub fn puts(
+pub fn expect_put(
     rt: &impl Abort,
     alloc: Global,
     store: &mut Objects,
     obj: ObjRef,
     text: &str,
-) -> Result<&'static str, AllocError> {
-    let key = name(alloc, text)?;
-    Ok(put(rt, store, obj, key, 1))
+    want: &str,
+) {
+    let key = name(rt, alloc, text);
+    expect(rt, put(rt, store, obj, key, 1) == want, text);
+}
+
+/// Puts the number at a key.
+pub fn expect_done(rt: &impl Abort, store: &mut Objects, obj: ObjRef, key: Key, n: i128) {
+    expect(rt, put(rt, store, obj, key, n) == "done", "a put");
 }
 
 fn define_word(answer: Result<(), DefineFault>) -> &'static str {
@@ -97,15 +102,17 @@ pub fn define(
 }
 
 /// What a definition at a name answers.
-pub fn defines(
+pub fn expect_define(
     rt: &impl Abort,
     alloc: Global,
     store: &mut Objects,
     obj: ObjRef,
     text: &str,
-) -> Result<&'static str, AllocError> {
-    let key = name(alloc, text)?;
-    Ok(define(rt, store, obj, key, plain(true, true)))
+    want: &str,
+) {
+    let key = name(rt, alloc, text);
+    let found = define(rt, store, obj, key, plain(true, true));
+    expect(rt, found == want, text);
 }
 
 fn delete_word(answer: Result<(), NotConfigurable>) -> &'static str {
@@ -122,15 +129,16 @@ pub fn delete(rt: &impl Abort, store: &mut Objects, obj: ObjRef, key: &Key) -> &
 }
 
 /// What a deletion at a name answers.
-pub fn deletes(
+pub fn expect_delete(
     rt: &impl Abort,
     alloc: Global,
     store: &mut Objects,
     obj: ObjRef,
     text: &str,
-) -> Result<&'static str, AllocError> {
-    let key = ManuallyDrop::new(name(alloc, text)?);
-    Ok(delete(rt, store, obj, &key))
+    want: &str,
+) {
+    let key = ManuallyDrop::new(name(rt, alloc, text));
+    expect(rt, delete(rt, store, obj, &key) == want, text);
 }
 
 fn found_number(found: &Found) -> Option<i128> {
@@ -147,15 +155,16 @@ pub fn find(rt: &impl Abort, store: &Objects, obj: ObjRef, key: &Key) -> Option<
 }
 
 /// The number that is found at a name.
-pub fn finds(
+pub fn expect_number(
     rt: &impl Abort,
     alloc: Global,
     store: &Objects,
     obj: ObjRef,
     text: &str,
-) -> Result<Option<i128>, AllocError> {
-    let key = ManuallyDrop::new(name(alloc, text)?);
-    Ok(find(rt, store, obj, &key))
+    want: i128,
+) {
+    let key = ManuallyDrop::new(name(rt, alloc, text));
+    expect(rt, find(rt, store, obj, &key) == Some(want), text);
 }
 
 fn found_word(found: &Found) -> &'static str {
@@ -168,51 +177,44 @@ fn found_word(found: &Found) -> &'static str {
 }
 
 /// What is found at a name.
-pub fn shows(
+pub fn expect_found(
     rt: &impl Abort,
     alloc: Global,
     store: &Objects,
     obj: ObjRef,
     text: &str,
-) -> Result<&'static str, AllocError> {
-    let key = ManuallyDrop::new(name(alloc, text)?);
+    want: &str,
+) {
+    let key = ManuallyDrop::new(name(rt, alloc, text));
     assert!(rt; store.is_live(obj));
-    Ok(found_word(&store.find(obj, &key)))
+    expect(rt, found_word(&store.find(obj, &key)) == want, text);
 }
 
-/// Whether the property that the object itself has at a name is enumerable.
-pub fn owns(
+/// Whether the property that the object itself has at a name is enumerable, where it has one.
+pub fn expect_own(
     rt: &impl Abort,
     alloc: Global,
     store: &Objects,
     obj: ObjRef,
     text: &str,
-) -> Result<Option<bool>, AllocError> {
-    let key = ManuallyDrop::new(name(alloc, text)?);
+    want: Option<bool>,
+) {
+    let key = ManuallyDrop::new(name(rt, alloc, text));
     assert!(rt; store.is_live(obj));
-    Ok(store.own(obj, &key).map(|flags| flags.enumerable))
+    let found = store.own(obj, &key).map(|flags| flags.enumerable);
+    expect(rt, found == want, text);
 }
 
-fn write_keys(text: &mut String, keys: &[Key]) -> Result<(), AllocError> {
-    for key in keys {
-        write_key(text, key)?;
-        text.push_str(" ")?;
-    }
-    Ok(())
-}
-
-/// The keys in their order.
-pub fn own_keys(
-    rt: &impl Abort,
-    alloc: Global,
-    store: &Objects,
-    obj: ObjRef,
-) -> Result<String, AllocError> {
+/// The keys in their order, each with a space after it.
+pub fn expect_keys(rt: &impl Abort, alloc: Global, store: &Objects, obj: ObjRef, want: &str) {
     assert!(rt; store.is_live(obj));
-    let keys = store.own_keys(obj)?;
+    let keys = sure(rt, store.own_keys(obj));
     let mut text = String::new(alloc);
-    write_keys(&mut text, keys.as_slice())?;
-    Ok(text)
+    for key in keys.as_slice() {
+        write_key(rt, &mut text, key);
+        sure(rt, text.push_str(" "));
+    }
+    expect(rt, text.as_str() == want, want);
 }
 
 /// A property that isn't configurable.
@@ -229,14 +231,7 @@ pub fn accessor(get: Option<ObjRef>, set: Option<ObjRef>) -> Prop {
 }
 
 /// Defines a property of the first object.
-pub fn set(
-    rt: &impl Abort,
-    alloc: Global,
-    store: &mut Objects,
-    text: &str,
-    prop: Prop,
-) -> Result<(), AllocError> {
-    let key = name(alloc, text)?;
-    assert!(rt; define(rt, store, FIRST, key, prop) == "done");
-    Ok(())
+pub fn set(rt: &impl Abort, alloc: Global, store: &mut Objects, text: &str, prop: Prop) {
+    let key = name(rt, alloc, text);
+    expect(rt, define(rt, store, FIRST, key, prop) == "done", text);
 }

@@ -1,12 +1,12 @@
 //! The first objects against rows by hand.
 
-use super::calls::{ARRAY, defines, deletes, puts};
+use super::calls::{ARRAY, expect_define, expect_delete, expect_put};
 use super::objects::{Objects, realm_over};
 use super::written::written;
-use std::alloc::{AllocError, Global};
+use crate::shared::{expect, sure};
+use std::alloc::Global;
 use std::fmt::Write;
 use std::process::Abort;
-use std::test::Fail;
 use widl_idl::Owner;
 use widl_store::Home;
 use widl_value::{ObjRef, Shape};
@@ -31,25 +31,11 @@ const FIRST: &str = "plain: toString=#8 w-c; valueOf=#9 w-c;
 #1 function 17(): length=2 --c; name=then --c;
 ";
 
-/// The objects from this one on are these.
-fn reads(
-    rt: &impl Abort,
-    alloc: Global,
-    store: &mut Objects,
-    first: u32,
-    rows: &str,
-) -> Result<(), AllocError> {
-    let text = written(rt, alloc, store, first)?;
-    assert_eq!(rt; text.as_str(), rows);
-    Ok(())
-}
-
-#[test]
-fn makes_the_fixed_objects(rt: HostRuntime) -> Result<(), Fail> {
-    let mut store = realm_over(rt.alloc(), &[])?;
-    let done = reads(&rt, rt.alloc(), &mut store, 0, FIRST);
-    drop(store);
-    Ok(done?)
+/// The objects over these files, from this one on, are these.
+fn expect_objects(rt: &impl Abort, alloc: Global, files: &[&str], first: u32, rows: &str) {
+    let mut store = realm_over(rt, alloc, files);
+    let text = written(rt, alloc, &mut store, first);
+    expect(rt, text.as_str() == rows, rows);
 }
 
 const FIRST_NAMESPACE: &str =
@@ -65,54 +51,51 @@ const NAMESPACES: &str = "#0 namespace: b=#19 wec; a=#20 wec; @2=A --c;
 #1 operation 1.0(): length=0 --c; name=is --c;
 ";
 
+#[test]
+fn makes_the_fixed_objects_and_namespaces(rt: HostRuntime) {
+    expect_objects(&rt, rt.alloc(), &[], 0, FIRST);
+    let files = [FIRST_NAMESPACE, SECOND_NAMESPACE];
+    expect_objects(&rt, rt.alloc(), &files, 18, NAMESPACES);
+}
+
 /// The number of the object that stands for a namespace.
-fn home(store: &Objects, owner: Owner) -> Option<u32> {
-    store.home(Home::Owner(owner)).map(|obj| obj.id)
+fn expect_home(rt: &impl Abort, store: &Objects, owner: Owner, want: Option<u32>) {
+    let found = store.home(Home::Owner(owner)).map(|obj| obj.id);
+    expect(rt, found == want, "a home");
 }
 
 #[test]
-fn makes_namespaces_and_their_functions(rt: HostRuntime) -> Result<(), Fail> {
-    let mut store = realm_over(rt.alloc(), &[FIRST_NAMESPACE, SECOND_NAMESPACE])?;
-    assert!(rt; home(&store, Owner::Space(1)) == Some(21));
-    assert!(rt; home(&store, Owner::Space(2)).is_none());
-    assert!(rt; home(&store, Owner::Iface(0)).is_none());
-    let done = reads(&rt, rt.alloc(), &mut store, 18, NAMESPACES);
-    drop(store);
-    Ok(done?)
+fn finds_the_objects_of_namespaces(rt: HostRuntime) {
+    let store = realm_over(&rt, rt.alloc(), &[FIRST_NAMESPACE, SECOND_NAMESPACE]);
+    expect_home(&rt, &store, Owner::Space(1), Some(21));
+    expect_home(&rt, &store, Owner::Space(2), None);
+    expect_home(&rt, &store, Owner::Iface(0), None);
 }
 
 /// A namespace with so many operations.
-fn many_operations(alloc: Global, count: u32) -> Result<String, AllocError> {
-    let mut file = String::from_str(alloc, "namespace N { ")?;
+fn many_operations(rt: &impl Abort, alloc: Global, count: u32) -> String {
+    let mut file = sure(rt, String::from_str(alloc, "namespace N { "));
     for n in 0..count {
-        write!(file, "undefined o{n}(any x); ")?;
+        sure(rt, write!(file, "undefined o{n}(any x); "));
     }
-    file.push_str("};")?;
-    Ok(file)
+    sure(rt, file.push_str("};"));
+    file
 }
 
 const LAST_OPERATION: &str = "#1 operation 0.19999(): length=1 --c; name=o19999 --c;
 ";
 
-#[test]
-fn makes_a_function_for_each_operation(rt: HostRuntime) -> Result<(), Fail> {
-    let file = many_operations(rt.alloc(), 20_000)?;
-    let mut store = realm_over(rt.alloc(), &[file.as_str()])?;
-    let done = reads(&rt, rt.alloc(), &mut store, 20_018, LAST_OPERATION);
-    drop(store);
-    Ok(done?)
-}
-
 /// Namespaces like the second one, with names of their own.
-fn many_namespaces(alloc: Global, first: u32, end: u32) -> Result<String, AllocError> {
+fn many_namespaces(rt: &impl Abort, alloc: Global, first: u32, end: u32) -> String {
     let mut file = String::new(alloc);
     for n in first..end {
-        write!(
+        let namespace = write!(
             file,
             "namespace n{n} {{ undefined _is(long... x); undefined _is(DOMString x, any y); }}; "
-        )?;
+        );
+        sure(rt, namespace);
     }
-    Ok(file)
+    file
 }
 
 const LAST_NAMESPACE: &str = "#0 namespace: is=#40017 wec; @2=n19999 --c;
@@ -120,15 +103,20 @@ const LAST_NAMESPACE: &str = "#0 namespace: is=#40017 wec; @2=n19999 --c;
 ";
 
 #[test]
-fn makes_an_object_for_each_namespace(rt: HostRuntime) -> Result<(), Fail> {
+fn makes_a_function_for_each_operation(rt: HostRuntime) {
+    let file = many_operations(&rt, rt.alloc(), 20_000);
+    expect_objects(&rt, rt.alloc(), &[&file], 20_018, LAST_OPERATION);
+}
+
+#[test]
+fn makes_an_object_for_each_namespace(rt: HostRuntime) {
     let alloc = rt.alloc();
-    let first = many_namespaces(alloc, 0, 10_000)?;
-    let second = many_namespaces(alloc, 10_000, 20_000)?;
-    let mut store = realm_over(alloc, &[first.as_str(), second.as_str()])?;
-    assert!(rt; home(&store, Owner::Space(19_999)) == Some(40_016));
-    let done = reads(&rt, alloc, &mut store, 40_016, LAST_NAMESPACE);
-    drop(store);
-    Ok(done?)
+    let first = many_namespaces(&rt, alloc, 0, 10_000);
+    let second = many_namespaces(&rt, alloc, 10_000, 20_000);
+    let mut store = realm_over(&rt, alloc, &[&first, &second]);
+    expect_home(&rt, &store, Owner::Space(19_999), Some(40_016));
+    let text = written(&rt, alloc, &mut store, 40_016);
+    expect(&rt, text.as_str() == LAST_NAMESPACE, LAST_NAMESPACE);
 }
 
 const FUNCTION: ObjRef = ObjRef {
@@ -141,18 +129,12 @@ const NAMESPACE: ObjRef = ObjRef {
     shape: Shape::Plain,
 };
 
-fn change_first(rt: &impl Abort, alloc: Global, store: &mut Objects) -> Result<(), AllocError> {
-    assert!(rt; puts(rt, alloc, store, FUNCTION, "length")? == "read only");
-    assert!(rt; defines(rt, alloc, store, FUNCTION, "length")? == "done");
-    assert!(rt; deletes(rt, alloc, store, NAMESPACE, "b")? == "done");
-    assert!(rt; defines(rt, alloc, store, ARRAY, "length")? == "length");
-    Ok(())
-}
-
 #[test]
-fn shows_the_flags_of_first_objects(rt: HostRuntime) -> Result<(), Fail> {
-    let mut store = realm_over(rt.alloc(), &[FIRST_NAMESPACE])?;
-    let done = change_first(&rt, rt.alloc(), &mut store);
-    drop(store);
-    Ok(done?)
+fn shows_the_flags_of_first_objects(rt: HostRuntime) {
+    let alloc = rt.alloc();
+    let mut store = realm_over(&rt, alloc, &[FIRST_NAMESPACE]);
+    expect_put(&rt, alloc, &mut store, FUNCTION, "length", "read only");
+    expect_define(&rt, alloc, &mut store, FUNCTION, "length", "done");
+    expect_delete(&rt, alloc, &mut store, NAMESPACE, "b", "done");
+    expect_define(&rt, alloc, &mut store, ARRAY, "length", "length");
 }

@@ -1,15 +1,17 @@
 //! A store with the shapes of its objects, so that each of these can be asked for.
 
-ghost use Rattle.std.specs.Prelude.{◌≡◌, ◌-◌, ◌^◌, ◌<◌, ◌++◌, ◌∷◌, IfOk, IfSome, OnOk, length, map, replicate, true};
+ghost use Rattle.std.specs.Prelude.{◌≡◌, ◌-◌, ◌^◌, ◌<◌, ◌++◌, ◌∷◌, IfSome, length, map, replicate, true};
 ghost use Rattle.widl_idl.specs.DefinitionTerms.{space_term};
 ghost use Rattle.widl_store.specs.Realm.{realm_over};
 ghost use Rattle.widl_value.specs.declared.object.Shape.TheVariants as forms;
 ghost use Rattle.widl_tests.specs.Shapes.{AreShapes, IsKnown};
 
 use crate::shared::accepted_sets::accepted;
+use crate::shared::sure;
 use std::alloc::{AllocError, Global};
 use std::marker::Model;
-use std::test::Fail;
+use std::mem::ManuallyDrop;
+use std::process::Abort;
 use widl_idl::Space;
 use widl_overload::{Accepted, has_operations_alone};
 use widl_store::{
@@ -61,42 +63,41 @@ const FIRST_SHAPES: [Shape; 18] = [
 
 /// Adds the shapes of a namespace object and of so many functions.
 #[tactic(auto, using(crate::proofs::KnownShapes::functions_more))]
-fn add_shapes(shapes: &mut Vec<Shape>, functions: usize) -> Result<(), AllocError>
-    ensures { OnOk result (shapes.new.items ≡ shapes.old.items ++ forms.Plain ∷ replicate functions forms.Callable) }
+fn add_shapes(rt: &impl Abort, shapes: &mut Vec<Shape>, functions: usize)
+    ensures { shapes.new.items ≡ shapes.old.items ++ forms.Plain ∷ replicate functions forms.Callable }
 {
-    shapes.push(Shape::Plain)?;
+    sure(rt, shapes.push(Shape::Plain));
     for _function in 0..functions {
-        shapes.push(Shape::Callable)?;
+        sure(rt, shapes.push(Shape::Callable));
     }
-    Ok(())
 }
 
 /// The shapes of the objects before a script begins, over these namespaces.
 #[tactic(auto, using(crate::proofs::KnownShapes::spaces_more))]
-fn shapes_over(alloc: Global, spaces: &[Space]) -> Result<Vec<Shape>, AllocError>
-    ensures { IfOk result (λ shapes. AreShapes (realm_over (map space_term spaces.now)).objects shapes.items) }
+fn shapes_over(rt: &impl Abort, alloc: Global, spaces: &[Space]) -> Vec<Shape>
+    ensures { AreShapes (realm_over (map space_term spaces.now)).objects result.items }
 {
-    let mut shapes = Vec::from_slice(alloc, &FIRST_SHAPES)?;
+    let mut shapes = sure(rt, Vec::from_slice(alloc, &FIRST_SHAPES));
     for space in spaces {
-        add_shapes(&mut shapes, space.ops.len())?;
+        add_shapes(rt, &mut shapes, space.ops.len());
     }
-    Ok(shapes)
+    shapes
 }
 
 /// The objects before a script begins, over these definitions.
-fn objects_over(alloc: Global, list: &Accepted) -> Result<Objects, Fail> {
+fn objects_over(rt: &impl Abort, alloc: Global, list: &Accepted) -> Objects {
     if !has_operations_alone(list) {
-        return Err("the first store of these definitions is not supported".into());
+        panic!(rt; "the first store of these definitions is not supported");
     }
-    let store = realm(alloc, list)?;
-    let shapes = shapes_over(alloc, list.defs().spaces.as_slice())?;
-    Ok(Objects { store, shapes })
+    let store = sure(rt, realm(alloc, list));
+    let shapes = shapes_over(rt, alloc, list.defs().spaces.as_slice());
+    Objects { store, shapes }
 }
 
 /// The objects before a script begins, over the definitions of these files.
-pub fn realm_over(alloc: Global, files: &[&str]) -> Result<Objects, Fail> {
-    let list = accepted(alloc, files)?;
-    objects_over(alloc, &list)
+pub fn realm_over(rt: &impl Abort, alloc: Global, files: &[&str]) -> Objects {
+    let list = ManuallyDrop::new(accepted(rt, alloc, files));
+    objects_over(rt, alloc, &list)
 }
 
 impl Objects {

@@ -2,146 +2,136 @@
 
 use super::kept_for;
 use crate::shared::accepted_sets::accepted;
-use crate::shared::{add_argument, list_with, many_interfaces, of_kind, overload, units};
-use std::alloc::{AllocError, Global};
+use crate::shared::{
+    add_argument, add_overload, expect, list_with, many_interfaces, of_kind, sure, units,
+};
+use std::alloc::Global;
 use std::fmt::Write;
 use std::mem::ManuallyDrop;
 use std::process::Abort;
-use std::test::Fail;
 use widl_idl::{Args, Defs, IdlType, IdlTypes, Optionality, Sigs};
-use widl_tables::{Kept, Pick, Tables, compile, pick_member, pick_overload};
+use widl_tables::{Pick, Tables, compile, pick_member, pick_overload};
 use widl_value::Class;
 
 /// Numbers, and at the end an interface of this number.
-fn sixty_four_arguments(alloc: Global, number: u32, opt: Optionality) -> Result<Args, AllocError> {
-    let mut args = ManuallyDrop::new(Args::new(alloc));
+fn sixty_four_arguments(rt: &impl Abort, alloc: Global, number: u32, opt: Optionality) -> Args {
+    let mut args = Args::new(alloc);
     for _place in 0..63 {
-        add_argument(alloc, &mut args, of_kind(alloc, "long")?, opt)?;
+        add_argument(rt, alloc, &mut args, of_kind(rt, alloc, "long"), opt);
     }
-    add_argument(alloc, &mut args, IdlType::Interface(number), opt)?;
-    Ok(ManuallyDrop::into_inner(args))
+    add_argument(rt, alloc, &mut args, IdlType::Interface(number), opt);
+    args
 }
 
 /// A list with 64 overloads of 64 arguments: the first 63 are of one type, and the last is of an interface of its own.
-fn many_overloads(alloc: Global, opt: Optionality) -> Result<ManuallyDrop<Defs>, AllocError> {
-    let mut sigs = ManuallyDrop::new(Sigs::new(alloc));
+fn many_overloads(rt: &impl Abort, alloc: Global, opt: Optionality) -> ManuallyDrop<Defs> {
+    let mut sigs = Sigs::new(alloc);
     for number in 0..64u32 {
-        sigs.push(overload(sixty_four_arguments(alloc, number, opt)?))?;
+        let args = sixty_four_arguments(rt, alloc, number, opt);
+        add_overload(rt, &mut sigs, args);
     }
-    let ifaces = many_interfaces(alloc, 64, false)?;
-    let defs = list_with(alloc, ifaces, ManuallyDrop::into_inner(sigs))?;
-    Ok(ManuallyDrop::new(defs))
+    let ifaces = many_interfaces(rt, alloc, 64, false);
+    ManuallyDrop::new(list_with(rt, alloc, ifaces, sigs))
 }
 
-/// So many arguments keep so many overloads, which differ at this place.
-fn assert_kept(
-    rt: &impl Abort,
-    alloc: Global,
-    defs: &Defs,
-    args: u32,
-    wanted: (usize, Option<u32>),
-) -> Result<ManuallyDrop<Kept>, AllocError> {
-    let kept = kept_for(alloc, rt, defs, args)?;
-    assert_eq!(rt; (kept.overloads.len(), kept.place), wanted);
-    Ok(kept)
+/// So many arguments keep so many overloads, which differ at this place, and a class picks this one.
+type Kept = (u32, (usize, Option<u32>), Class, Pick);
+
+fn expect_kept(rt: &impl Abort, alloc: Global, defs: &Defs, rows: &[Kept]) {
+    for (args, (count, place), class, wanted) in rows {
+        let kept = kept_for(rt, alloc, defs, *args);
+        let differ_there = kept.overloads.len() == *count && kept.place == *place;
+        assert!(rt; differ_there, "{args} arguments");
+        let pick = pick_overload(defs, &kept, *class, false);
+        assert!(rt; pick == *wanted, "{args} arguments, {class:?}");
+    }
 }
 
-fn assert_pick(rt: &impl Abort, defs: &Defs, kept: &Kept, class: Class, wanted: Pick) {
-    assert_eq!(rt; pick_overload(defs, kept, class, false), wanted);
-}
+const REQUIRED: [Kept; 3] = [
+    (64, (64, Some(63)), Class::Platform(63), Pick::Entry(63)),
+    (64, (64, Some(63)), Class::Plain, Pick::Refuse),
+    (63, (0, None), Class::Plain, Pick::Refuse),
+];
+
+// No place tells the first three apart, as in no valid list: past the end of the entries each takes any value.
+const OPTIONAL: [Kept; 5] = [
+    (0, (64, Some(0)), Class::Sym, Pick::Entry(0)),
+    (1, (64, Some(1)), Class::Sym, Pick::Entry(0)),
+    (63, (64, Some(63)), Class::Sym, Pick::Entry(0)),
+    (64, (64, Some(63)), Class::Undefined, Pick::Entry(0)),
+    (64, (64, Some(63)), Class::Sym, Pick::Refuse),
+];
 
 #[test]
-fn many_overloads_apart_at_the_end(rt: HostRuntime) -> Result<(), Fail> {
-    let alloc = rt.alloc();
-    let defs = many_overloads(alloc, Optionality::Required)?;
-    let all = assert_kept(&rt, alloc, &defs, 64, (64, Some(63)))?;
-    assert_pick(&rt, &defs, &all, Class::Platform(63), Pick::Entry(63));
-    assert_pick(&rt, &defs, &all, Class::Plain, Pick::Refuse);
-    assert_kept(&rt, alloc, &defs, 63, (0, None))?;
-    Ok(())
-}
-
-#[test]
-fn many_optional_arguments(rt: HostRuntime) -> Result<(), Fail> {
-    let alloc = rt.alloc();
-    let defs = many_overloads(alloc, Optionality::Optional)?;
-    for count in &[0, 1, 63] {
-        let all = assert_kept(&rt, alloc, &defs, *count, (64, Some(*count)))?;
-        // No place tells these apart, as in no valid list: past the end of the entries each takes any value.
-        assert_pick(&rt, &defs, &all, Class::Sym, Pick::Entry(0));
-    }
-    let all = assert_kept(&rt, alloc, &defs, 64, (64, Some(63)))?;
-    assert_pick(&rt, &defs, &all, Class::Undefined, Pick::Entry(0));
-    assert_pick(&rt, &defs, &all, Class::Sym, Pick::Refuse);
-    Ok(())
+fn many_overloads_apart_at_the_end(rt: HostRuntime) {
+    let defs = many_overloads(&rt, rt.alloc(), Optionality::Required);
+    expect_kept(&rt, rt.alloc(), &defs, &REQUIRED);
+    let defs = many_overloads(&rt, rt.alloc(), Optionality::Optional);
+    expect_kept(&rt, rt.alloc(), &defs, &OPTIONAL);
 }
 
 /// A list with so many interfaces and an operation without overloads.
 fn interfaces_alone(
+    rt: &impl Abort,
     alloc: Global,
     count: u32,
     chained: bool,
-) -> Result<ManuallyDrop<Defs>, AllocError> {
-    let ifaces = many_interfaces(alloc, count, chained)?;
-    let defs = list_with(alloc, ifaces, Sigs::new(alloc))?;
-    Ok(ManuallyDrop::new(defs))
+) -> ManuallyDrop<Defs> {
+    let ifaces = many_interfaces(rt, alloc, count, chained);
+    ManuallyDrop::new(list_with(rt, alloc, ifaces, Sigs::new(alloc)))
 }
 
-/// The members of a union of the interfaces below this number.
-fn members_below(alloc: Global, count: u32) -> Result<ManuallyDrop<IdlTypes>, AllocError> {
+/// A class picks this member of a union.
+fn expect_member(rt: &impl Abort, defs: &Defs, members: &IdlTypes, class: Class, wanted: Pick) {
+    let pick = pick_member(defs, members, class, false);
+    assert!(rt; pick == wanted, "{class:?}");
+}
+
+/// A union of so many interfaces, of which none inherits from another.
+fn expect_large_union(rt: &impl Abort, alloc: Global, count: u32) {
+    let defs = interfaces_alone(rt, alloc, count, false);
     let mut members = ManuallyDrop::new(IdlTypes::new(alloc));
     for number in 0..count {
-        members.push(IdlType::Interface(number))?;
+        sure(rt, members.push(IdlType::Interface(number)));
     }
-    Ok(members)
+    let last = count.saturating_sub(1);
+    expect_member(
+        rt,
+        &defs,
+        &members,
+        Class::Platform(last),
+        Pick::Entry(last),
+    );
+    expect_member(rt, &defs, &members, Class::Platform(count), Pick::Refuse);
+    expect_member(rt, &defs, &members, Class::Str, Pick::Refuse);
 }
 
-#[test]
-fn large_unions(rt: HostRuntime) -> Result<(), Fail> {
-    let alloc = rt.alloc();
-    for count in [1_000, 100_000] {
-        let defs = interfaces_alone(alloc, count, false)?;
-        let members = members_below(alloc, count)?;
-        let rows = [
-            (Class::Platform(count - 1), Pick::Entry(count - 1)),
-            (Class::Platform(count), Pick::Refuse),
-            (Class::Str, Pick::Refuse),
-        ];
-        for (class, wanted) in &rows {
-            assert_eq!(&rt; pick_member(&defs, &members, *class, false), *wanted);
-        }
-    }
-    Ok(())
-}
-
-#[test]
-fn a_long_chain_of_interfaces(rt: HostRuntime) -> Result<(), Fail> {
-    let alloc = rt.alloc();
-    let defs = interfaces_alone(alloc, 60_000, true)?;
+/// A union of the ends of a chain of interfaces.
+fn expect_chain(rt: &impl Abort, alloc: Global) {
+    let defs = interfaces_alone(rt, alloc, 60_000, true);
     let mut members = ManuallyDrop::new(IdlTypes::new(alloc));
-    members.push(IdlType::Interface(59_999))?;
-    members.push(IdlType::Interface(0))?;
-    let pick = pick_member(&defs, &members, Class::Platform(59_998), false);
-    assert_eq!(&rt; pick, Pick::Entry(1));
-    Ok(())
+    sure(rt, members.push(IdlType::Interface(59_999)));
+    sure(rt, members.push(IdlType::Interface(0)));
+    expect_member(rt, &defs, &members, Class::Platform(59_998), Pick::Entry(1));
 }
 
-/// `enum E { "auto", "", "autos", "none" }; enum F { "value0", "value1", .. };`
-fn two_enumerations(alloc: Global, count: u32) -> Result<String, AllocError> {
+#[test]
+fn large_unions(rt: HostRuntime) {
+    expect_large_union(&rt, rt.alloc(), 1_000);
+    expect_large_union(&rt, rt.alloc(), 100_000);
+    expect_chain(&rt, rt.alloc());
+}
+
+/// The tables over `enum E { "auto", "", "autos", "none" }; enum F { "value0", "value1", .. };`.
+fn two_enumerations(rt: &impl Abort, alloc: Global, count: u32) -> ManuallyDrop<Tables> {
     let few = "enum E { \"auto\", \"\", \"autos\", \"none\" }; enum F { ";
-    let mut file = String::from_str(alloc, few)?;
+    let mut file = sure(rt, String::from_str(alloc, few));
     for number in 0..count {
-        write!(file, "\"value{number}\", ")?;
+        sure(rt, write!(file, "\"value{number}\", "));
     }
-    file.push_str("};")?;
-    Ok(file)
-}
-
-/// The tables over the definitions of a file.
-fn tables_of(alloc: Global, file: &str) -> Result<ManuallyDrop<Tables>, Fail> {
-    let set = accepted(alloc, &[file])?;
-    let tables = compile(alloc, ManuallyDrop::into_inner(set))?;
-    Ok(ManuallyDrop::new(tables))
+    sure(rt, file.push_str("};"));
+    let set = accepted(rt, alloc, &[&file]);
+    ManuallyDrop::new(sure(rt, compile(alloc, set)))
 }
 
 /// Enumerations, texts, and the places of the values that they are.
@@ -156,13 +146,10 @@ const PLACES: [(u32, &str, Option<u32>); 7] = [
 ];
 
 #[test]
-fn values_of_enumerations(rt: HostRuntime) -> Result<(), Fail> {
-    let alloc = rt.alloc();
-    let file = two_enumerations(alloc, 50_000)?;
-    let tables = tables_of(alloc, file.as_str())?;
+fn values_of_enumerations(rt: HostRuntime) {
+    let tables = two_enumerations(&rt, rt.alloc(), 50_000);
     for (choice, text, want) in &PLACES {
-        let text = units(alloc, text)?;
-        assert_eq!(&rt; tables.enum_at(*choice, &text), *want, "{text:?}");
+        let found = tables.enum_at(*choice, &units(&rt, rt.alloc(), text));
+        expect(&rt, found == *want, text);
     }
-    Ok(())
 }

@@ -2,69 +2,61 @@
 
 use super::definitions;
 use super::lists::{sequence, with_value};
-use super::short::shown;
-use crate::shared::object;
-use std::alloc::{AllocError, Global};
+use super::short::long_text;
+use crate::shared::{expect, object, sure};
+use std::alloc::Global;
 use std::mem::ManuallyDrop;
-use std::test::Fail;
-use widl_text::Units;
+use std::process::Abort;
+use widl_overload::Accepted;
 use widl_trace::{Event, line_within};
 use widl_value::{IdlValue, Value, Values};
 
 /// So many texts of 1,000 units.
-fn texts(alloc: Global, count: usize) -> Result<Values, AllocError> {
-    let mut text = Units::new(alloc);
-    for _ in 0..1_000 {
-        text.push(0x61)?;
-    }
+fn texts(rt: &impl Abort, alloc: Global, count: usize) -> Values {
+    let text = long_text(rt, alloc, 1_000);
     let mut values = Values::new(alloc);
     for _ in 0..count {
-        values.push(Value::Str(text.copy()?))?;
+        sure(rt, values.push(Value::Str(sure(rt, text.copy()))));
     }
-    Ok(values)
+    values
 }
 
-#[test]
-fn a_call_with_many_texts_is_given_up(rt: HostRuntime) -> Result<(), Fail> {
-    let alloc = rt.alloc();
-    let list = definitions(alloc)?;
-    let args = texts(alloc, 500_000)?;
-    let event = ManuallyDrop::new(Event::New {
-        f: object(19),
-        args,
-    });
-    assert!(rt; line_within(alloc, &list, &event, 1_000)?.is_none());
-    Ok(())
+/// A call with many texts is given up.
+fn expect_no_line(rt: &impl Abort, alloc: Global, list: &Accepted) {
+    let (f, args) = (object(19), texts(rt, alloc, 500_000));
+    let event = ManuallyDrop::new(Event::New { f, args });
+    let line = sure(rt, line_within(alloc, list, &event, 1_000));
+    expect(rt, line.is_none(), "a call with many texts");
 }
 
-#[test]
-fn a_line_of_two_mebibytes(rt: HostRuntime) -> Result<(), Fail> {
-    let alloc = rt.alloc();
-    let list = definitions(alloc)?;
-    let event = ManuallyDrop::new(shown(alloc, 2_097_152)?);
-    assert_eq!(rt;
-        widl_trace::line(alloc, &list, &event)?.bytes().len(),
-        2_097_159
-    );
-    Ok(())
-}
-
-/// A sequence that nests so many levels.
-fn nested(alloc: Global, levels: usize) -> Result<IdlValue, AllocError> {
+/// A value that nests 4,096 levels, which can be dropped before its line is looked at.
+fn expect_nested(rt: &impl Abort, alloc: Global, list: &Accepted) {
     let mut value = IdlValue::Int(7);
-    for _ in 0..levels {
-        value = sequence(alloc, value)?;
+    for _ in 0..4_096 {
+        value = sequence(rt, alloc, value);
     }
-    Ok(value)
+    let event = with_value(rt, alloc, value);
+    let line = sure(rt, widl_trace::line(alloc, list, &event));
+    drop(event);
+    expect(
+        rt,
+        line.bytes().len() == 10 + 4_096 + 1 + 4_096 + 1,
+        "many levels",
+    );
+}
+
+/// A line of two mebibytes.
+fn expect_long_line(rt: &impl Abort, alloc: Global, list: &Accepted) {
+    let text = Value::Str(long_text(rt, alloc, 2_097_152));
+    let event = ManuallyDrop::new(Event::Show(text));
+    let line = sure(rt, widl_trace::line(alloc, list, &event));
+    expect(rt, line.bytes().len() == 2_097_159, "two mebibytes");
 }
 
 #[test]
-fn a_value_of_4096_levels(rt: HostRuntime) -> Result<(), Fail> {
-    let alloc = rt.alloc();
-    let list = definitions(alloc)?;
-    let event = with_value(alloc, nested(alloc, 4_096)?)?;
-    let line = widl_trace::line(alloc, &list, &event);
-    drop(event);
-    assert_eq!(rt; line?.bytes().len(), 10 + 4_096 + 1 + 4_096 + 1);
-    Ok(())
+fn long_lines(rt: HostRuntime) {
+    let list = definitions(&rt, rt.alloc());
+    expect_no_line(&rt, rt.alloc(), &list);
+    expect_nested(&rt, rt.alloc(), &list);
+    expect_long_line(&rt, rt.alloc(), &list);
 }

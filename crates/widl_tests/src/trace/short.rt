@@ -1,55 +1,49 @@
 //! Lines that may have so many bytes at most, and what lines cost.
 
 use super::definitions;
-use crate::shared::object;
-use std::alloc::{AllocError, Global};
+use crate::shared::{expect, object, sure};
+use std::alloc::Global;
 use std::mem::ManuallyDrop;
 use std::process::Abort;
-use std::test::Fail;
 use widl_overload::Accepted;
 use widl_text::Units;
 use widl_trace::{Event, cost, line_within};
 use widl_value::Value;
 
-/// Shows a text of so many units.
-pub fn shown(alloc: Global, count: usize) -> Result<Event, AllocError> {
+/// A text of so many units.
+pub fn long_text(rt: &impl Abort, alloc: Global, count: usize) -> Units {
     let mut text = Units::new(alloc);
     for _ in 0..count {
-        text.push(0x61)?;
+        sure(rt, text.push(0x61));
     }
-    Ok(Event::Show(Value::Str(text)))
+    text
 }
 
-fn expect_cost(
-    rt: &impl Abort,
-    alloc: Global,
-    list: &Accepted,
-    count: usize,
-    bytes: usize,
-    units: u64,
-) -> Result<(), Fail> {
-    let event = ManuallyDrop::new(shown(alloc, count)?);
-    let line = widl_trace::line(alloc, list, &event)?;
-    assert_eq!(rt; (line.bytes().len(), cost(&line)), (bytes, units));
-    Ok(())
+/// A text of so many units is shown by a line of so many bytes, which costs so many units.
+fn expect_cost(rt: &impl Abort, alloc: Global, list: &Accepted, row: (usize, usize, u64)) {
+    let text = Value::Str(long_text(rt, alloc, row.0));
+    let event = ManuallyDrop::new(Event::Show(text));
+    let line = sure(rt, widl_trace::line(alloc, list, &event));
+    expect(rt, line.bytes().len() == row.1, "the bytes of a line");
+    expect(rt, cost(&line) == row.2, "the cost of a line");
 }
 
 #[test]
-fn a_unit_pays_for_64_bytes_with_the_line_feed(rt: HostRuntime) -> Result<(), Fail> {
-    let alloc = rt.alloc();
-    let list = definitions(alloc)?;
-    expect_cost(&rt, alloc, &list, 56, 63, 1)?;
-    expect_cost(&rt, alloc, &list, 57, 64, 2)
+fn a_unit_pays_for_64_bytes_with_the_line_feed(rt: HostRuntime) {
+    let list = definitions(&rt, rt.alloc());
+    expect_cost(&rt, rt.alloc(), &list, (56, 63, 1));
+    expect_cost(&rt, rt.alloc(), &list, (57, 64, 2));
 }
 
+/// How many bytes a line of 12 may have, and whether it is written.
+const MOST_BYTES: [(usize, bool); 4] = [(0, false), (11, false), (12, true), (13, true)];
+
 #[test]
-fn a_line_has_at_most_the_bytes_that_it_may_have(rt: HostRuntime) -> Result<(), Fail> {
-    let alloc = rt.alloc();
-    let list = definitions(alloc)?;
+fn a_line_has_at_most_the_bytes_that_it_may_have(rt: HostRuntime) {
+    let list = definitions(&rt, rt.alloc());
     let event = ManuallyDrop::new(Event::Uncaught(Value::Obj(object(20))));
-    for (most, there) in [(0, false), (11, false), (12, true), (13, true)] {
-        let line = line_within(alloc, &list, &event, most)?;
-        assert_eq!(rt; line.is_some(), there, "{most} bytes");
+    for (most, there) in &MOST_BYTES {
+        let line = sure(&rt, line_within(rt.alloc(), &list, &event, *most));
+        assert!(rt; line.is_some() == *there, "{most} bytes");
     }
-    Ok(())
 }
