@@ -5,8 +5,8 @@ ghost use Rattle.std.specs.Prelude.{◌≡◌, ◌<◌, ◌≤◌, []};
 
 mod maker;
 
-use maker::{call, define, finished, member, put, put_function, put_names, put_row};
-use std::alloc::{AllocError, Global};
+use maker::{call, define, finished, member, put, put_function, put_names, put_row, sure};
+use std::alloc::Global;
 use std::mem;
 use std::process::Abort;
 use widl_convert::is_served;
@@ -62,34 +62,34 @@ fn expect_end(
     };
     let (found, counts) = run(alloc, &tables, store, script, budget, &mut writer, &mut out);
     mem::forget(tables);
-    assert_eq!(rt; found, end);
-    assert_eq!(rt; out.held(), text.as_bytes());
+    assert!(rt; found == end, "{text}");
+    assert!(rt; out.held() == text.as_bytes(), "{text}");
     counts
 }
 
 /// `function g() / define this.n = 1 / throw "x" / end / let o = object() / define o.a get g / try / do o.a / catch e / show e
 /// / show o.n / end`.
-fn put_getter(
-    rt: &impl Abort,
-    alloc: Global,
-    tables: &mut ScriptTables,
-) -> Result<Row, AllocError> {
-    put_names(rt, alloc, tables, &["g", "n", "o", "a", "e"])?;
-    let this = put(rt, tables, Expression::This)?;
-    let one = put(rt, tables, Expression::Number(Number::Whole(1)))?;
-    let text = put(rt, tables, Expression::Text(Units::of_str(alloc, "x")?))?;
-    let object = put(rt, tables, Expression::NewObject { proto: None })?;
-    let o = put(rt, tables, Expression::Name(2))?;
-    let getter = put(rt, tables, Expression::Name(0))?;
-    let read = put(rt, tables, Expression::Member(member(o, 3)))?;
-    let caught = put(rt, tables, Expression::Name(4))?;
-    let kept = put(rt, tables, Expression::Member(member(o, 1)))?;
+fn put_getter(rt: &impl Abort, alloc: Global, tables: &mut ScriptTables) -> Row {
+    put_names(rt, alloc, tables, &["g", "n", "o", "a", "e"]);
+    let this = put(rt, tables, Expression::This);
+    let one = put(rt, tables, Expression::Number(Number::Whole(1)));
+    let text = put(
+        rt,
+        tables,
+        Expression::Text(sure(rt, Units::of_str(alloc, "x"))),
+    );
+    let object = put(rt, tables, Expression::NewObject { proto: None });
+    let o = put(rt, tables, Expression::Name(2));
+    let getter = put(rt, tables, Expression::Name(0));
+    let read = put(rt, tables, Expression::Member(member(o, 3)));
+    let caught = put(rt, tables, Expression::Name(4));
+    let kept = put(rt, tables, Expression::Member(member(o, 1)));
     let body = [define(member(this, 1), one), Statement::Throw(text)];
-    let body = put_row(rt, tables, &body)?;
-    let function = put_function(rt, alloc, tables, None, None, body)?;
-    let body = put_row(rt, tables, &[Statement::Do(read)])?;
+    let body = put_row(rt, tables, &body);
+    let function = put_function(rt, alloc, tables, None, None, body);
+    let body = put_row(rt, tables, &[Statement::Do(read)]);
     let handler = [Statement::Show(caught), Statement::Show(kept)];
-    let handler = put_row(rt, tables, &handler)?;
+    let handler = put_row(rt, tables, &handler);
     let name = 4;
     let top = [
         Statement::Function(function),
@@ -119,31 +119,27 @@ fn a_getter_defines_a_property_and_throws(rt: HostRuntime) {
     let script = finished(&rt, alloc, tables, top);
     let text = "call #18 this #19 ()\nthr \"x\"\nshow \"x\"\nshow 1\ndone\n";
     let counts = expect_end(&rt, alloc, &script, 16, End::Done, text);
-    assert_eq!(&rt; (counts.events, counts.units), (5, 16));
+    assert!(&rt; counts.events == 5 && counts.units == 16);
     let end = End::Stopped(Stop::Budget);
     let text = "call #18 this #19 ()\nthr \"x\"\nshow \"x\"\nshow 1\nstop budget\n";
     let counts = expect_end(&rt, alloc, &script, 15, end, text);
-    assert_eq!(&rt; (counts.events, counts.units), (5, 15));
+    assert!(&rt; counts.events == 5 && counts.units == 15);
     mem::forget(script);
 }
 
 /// `function f() / return 1 / end / try / set undefined.x = f() / catch e / show e / end`.
-fn put_set_of_undefined(
-    rt: &impl Abort,
-    alloc: Global,
-    tables: &mut ScriptTables,
-) -> Result<Row, AllocError> {
-    put_names(rt, alloc, tables, &["f", "x", "e"])?;
-    let one = put(rt, tables, Expression::Number(Number::Whole(1)))?;
-    let undefined = put(rt, tables, Expression::Undefined)?;
-    let f = put(rt, tables, Expression::Name(0))?;
-    let value = put(rt, tables, call(f))?;
-    let caught = put(rt, tables, Expression::Name(2))?;
-    let body = put_row(rt, tables, &[Statement::Return(one)])?;
-    let function = put_function(rt, alloc, tables, None, None, body)?;
+fn put_set_of_undefined(rt: &impl Abort, alloc: Global, tables: &mut ScriptTables) -> Row {
+    put_names(rt, alloc, tables, &["f", "x", "e"]);
+    let one = put(rt, tables, Expression::Number(Number::Whole(1)));
+    let undefined = put(rt, tables, Expression::Undefined);
+    let f = put(rt, tables, Expression::Name(0));
+    let value = put(rt, tables, call(f));
+    let caught = put(rt, tables, Expression::Name(2));
+    let body = put_row(rt, tables, &[Statement::Return(one)]);
+    let function = put_function(rt, alloc, tables, None, None, body);
     let member = member(undefined, 1);
-    let body = put_row(rt, tables, &[Statement::Set { member, value }])?;
-    let handler = put_row(rt, tables, &[Statement::Show(caught)])?;
+    let body = put_row(rt, tables, &[Statement::Set { member, value }]);
+    let handler = put_row(rt, tables, &[Statement::Show(caught)]);
     let name = 2;
     let top = [
         Statement::Function(function),
@@ -169,24 +165,20 @@ fn a_value_is_computed_before_it_is_set(rt: HostRuntime) {
 
 /// `function s(v) / define this.b = v / end / let o = object() / define o.a get s set s / let p = object(o) / set p.a = 5 /
 /// show p.b / show o.b`.
-fn put_setter(
-    rt: &impl Abort,
-    alloc: Global,
-    tables: &mut ScriptTables,
-) -> Result<Row, AllocError> {
-    put_names(rt, alloc, tables, &["s", "v", "b", "o", "a", "p"])?;
-    let this = put(rt, tables, Expression::This)?;
-    let given = put(rt, tables, Expression::Name(1))?;
-    let object = put(rt, tables, Expression::NewObject { proto: None })?;
-    let o = put(rt, tables, Expression::Name(3))?;
-    let getter = put(rt, tables, Expression::Name(0))?;
-    let derived = put(rt, tables, Expression::NewObject { proto: Some(o) })?;
-    let p = put(rt, tables, Expression::Name(5))?;
-    let value = put(rt, tables, Expression::Number(Number::Whole(5)))?;
-    let own = put(rt, tables, Expression::Member(member(p, 2)))?;
-    let inherited = put(rt, tables, Expression::Member(member(o, 2)))?;
-    let body = put_row(rt, tables, &[define(member(this, 2), given)])?;
-    let function = put_function(rt, alloc, tables, Some(1), Some(1), body)?;
+fn put_setter(rt: &impl Abort, alloc: Global, tables: &mut ScriptTables) -> Row {
+    put_names(rt, alloc, tables, &["s", "v", "b", "o", "a", "p"]);
+    let this = put(rt, tables, Expression::This);
+    let given = put(rt, tables, Expression::Name(1));
+    let object = put(rt, tables, Expression::NewObject { proto: None });
+    let o = put(rt, tables, Expression::Name(3));
+    let getter = put(rt, tables, Expression::Name(0));
+    let derived = put(rt, tables, Expression::NewObject { proto: Some(o) });
+    let p = put(rt, tables, Expression::Name(5));
+    let value = put(rt, tables, Expression::Number(Number::Whole(5)));
+    let own = put(rt, tables, Expression::Member(member(p, 2)));
+    let inherited = put(rt, tables, Expression::Member(member(o, 2)));
+    let body = put_row(rt, tables, &[define(member(this, 2), given)]);
+    let function = put_function(rt, alloc, tables, Some(1), Some(1), body);
     let setter = Some(getter);
     let top = [
         Statement::Function(function),
@@ -225,20 +217,20 @@ fn a_setter_of_the_prototype_is_called(rt: HostRuntime) {
 }
 
 /// `let x = 1 / function f() / show x / let x = 2 / show x / end / do f() / show x`.
-fn put_local(rt: &impl Abort, alloc: Global, tables: &mut ScriptTables) -> Result<Row, AllocError> {
-    put_names(rt, alloc, tables, &["f", "x"])?;
-    let one = put(rt, tables, Expression::Number(Number::Whole(1)))?;
-    let x = put(rt, tables, Expression::Name(1))?;
-    let two = put(rt, tables, Expression::Number(Number::Whole(2)))?;
-    let f = put(rt, tables, Expression::Name(0))?;
-    let called = put(rt, tables, call(f))?;
+fn put_local(rt: &impl Abort, alloc: Global, tables: &mut ScriptTables) -> Row {
+    put_names(rt, alloc, tables, &["f", "x"]);
+    let one = put(rt, tables, Expression::Number(Number::Whole(1)));
+    let x = put(rt, tables, Expression::Name(1));
+    let two = put(rt, tables, Expression::Number(Number::Whole(2)));
+    let f = put(rt, tables, Expression::Name(0));
+    let called = put(rt, tables, call(f));
     let local = Statement::Let {
         name: 1,
         value: two,
     };
     let body = [Statement::Show(x), local, Statement::Show(x)];
-    let body = put_row(rt, tables, &body)?;
-    let function = put_function(rt, alloc, tables, None, Some(1), body)?;
+    let body = put_row(rt, tables, &body);
+    let function = put_function(rt, alloc, tables, None, Some(1), body);
     let top = [
         Statement::Let {
             name: 1,

@@ -13,27 +13,40 @@ use crate::rows::rows_of;
 use std::alloc::Global;
 use std::mem;
 use std::process::Abort;
-use std::test::Fail;
 
 /// A script, and the rows of its tables.
 type Form = (&'static str, &'static str);
 
 /// Compares the tables of scripts with their rows, one after the other.
-fn expect_rows(rt: &impl Abort, alloc: Global, forms: &[Form]) -> Result<(), Fail> {
+fn expect_rows(rt: &impl Abort, alloc: Global, forms: &[Form]) {
     for (script, rows) in forms {
         let built = built_of(rt, alloc, script);
-        let found = rows_of(alloc, &built);
+        let found = rows_of(rt, alloc, &built);
         mem::forget(built);
-        expect_lines(rt, found?.as_str(), rows);
+        expect_lines(rt, found.as_str(), rows);
     }
-    Ok(())
 }
 
 /// Compares lines with others that stand further right.
 fn expect_lines(rt: &impl Abort, found: &str, lines: &str) {
     let mut found = found.lines();
     for line in lines.trim().lines() {
-        assert_eq!(rt; found.next().unwrap_or("no row"), line.trim());
+        let (found, wanted) = (found.next().unwrap_or("no row"), line.trim());
+        assert!(rt; found == wanted, "{found} and not {wanted}");
     }
-    assert_eq!(rt; found.next().unwrap_or("no row"), "no row");
+    assert!(rt; found.next().is_none(), "a row more");
+}
+
+const FORMS: [&[Form]; 4] = [
+    &blocks::BLOCKS,
+    &expressions::EXPRESSIONS,
+    &lines::LINES,
+    &scripts::SCRIPTS,
+];
+
+#[test]
+fn scripts_have_nodes(rt: HostRuntime) {
+    for forms in &FORMS {
+        expect_rows(&rt, rt.alloc(), forms);
+    }
 }

@@ -1,117 +1,118 @@
 //! Steps blocks as rows of text.
 
-use std::alloc::AllocError;
+use crate::built::{put, sure};
 use std::fmt::Write;
+use std::process::Abort;
 use widl_idl::Literal;
 use widl_script_tree::{Invoke, Source, StepLine, StepsBlock, Target};
 use widl_text::Units;
 use widl_value::{Number, Value};
 
 /// Writes a name of ASCII characters.
-pub fn write_name(out: &mut String, name: &Units) -> Result<(), AllocError> {
+pub fn write_name(rt: &impl Abort, out: &mut String, name: &Units) {
     for unit in name.as_slice() {
-        out.push(char::from_u32(u32::from(*unit)).unwrap_or('?'))?;
+        sure(
+            rt,
+            out.push(char::from_u32(u32::from(*unit)).unwrap_or('?')),
+        );
     }
-    Ok(())
 }
 
 /// Writes a text by the numbers of its units.
-pub fn write_text(out: &mut String, text: &Units) -> Result<(), AllocError> {
-    out.push_str("text")?;
+pub fn write_text(rt: &impl Abort, out: &mut String, text: &Units) {
+    put(rt, out, "text");
     for unit in text.as_slice() {
-        write!(out, " {unit}")?;
+        sure(rt, write!(out, " {unit}"));
     }
-    Ok(())
 }
 
-pub fn write_number(out: &mut String, number: Number) -> Result<(), AllocError> {
+pub fn write_number(rt: &impl Abort, out: &mut String, number: Number) {
     match number {
-        Number::NaN => out.push_str("NaN"),
-        Number::PosInf => out.push_str("Infinity"),
-        Number::NegInf => out.push_str("-Infinity"),
-        Number::Whole(whole) => write!(out, "{whole}"),
+        Number::NaN => put(rt, out, "NaN"),
+        Number::PosInf => put(rt, out, "Infinity"),
+        Number::NegInf => put(rt, out, "-Infinity"),
+        Number::Whole(whole) => sure(rt, write!(out, "{whole}")),
     }
 }
 
-fn write_literal(out: &mut String, literal: &Literal) -> Result<(), AllocError> {
+fn write_literal(rt: &impl Abort, out: &mut String, literal: &Literal) {
     match literal {
-        Literal::Null => out.push_str("null"),
-        Literal::Undefined => out.push_str("undefined"),
-        Literal::Bool(truth) => write!(out, "{truth}"),
-        Literal::Int(number) => write!(out, "{number}"),
-        Literal::Text(text) => write_text(out, text),
-        Literal::EmptyList => out.push_str("[]"),
-        Literal::EmptyDict => out.push_str("{}"),
+        Literal::Null => put(rt, out, "null"),
+        Literal::Undefined => put(rt, out, "undefined"),
+        Literal::Bool(truth) => sure(rt, write!(out, "{truth}")),
+        Literal::Int(number) => sure(rt, write!(out, "{number}")),
+        Literal::Text(text) => write_text(rt, out, text),
+        Literal::EmptyList => put(rt, out, "[]"),
+        Literal::EmptyDict => put(rt, out, "{}"),
     }
 }
 
 /// Writes what a step throws, which is neither a symbol nor an object.
-fn write_value(out: &mut String, value: &Value) -> Result<(), AllocError> {
+fn write_value(rt: &impl Abort, out: &mut String, value: &Value) {
     match value {
-        Value::Undefined => out.push_str("undefined"),
-        Value::Null => out.push_str("null"),
-        Value::Bool(truth) => write!(out, "{truth}"),
-        Value::Num(number) => write_number(out, *number),
-        Value::Str(text) => write_text(out, text),
-        Value::Sym(_) => out.push_str("symbol"),
-        Value::Obj(_) => out.push_str("object"),
+        Value::Undefined => put(rt, out, "undefined"),
+        Value::Null => put(rt, out, "null"),
+        Value::Bool(truth) => sure(rt, write!(out, "{truth}")),
+        Value::Num(number) => write_number(rt, out, *number),
+        Value::Str(text) => write_text(rt, out, text),
+        Value::Sym(_) => put(rt, out, "symbol"),
+        Value::Obj(_) => put(rt, out, "object"),
     }
 }
 
-fn write_source(out: &mut String, source: &Source) -> Result<(), AllocError> {
+fn write_source(rt: &impl Abort, out: &mut String, source: &Source) {
     match source {
-        Source::Arg(argument) => write!(out, "arg {argument}"),
-        Source::This => out.push_str("this"),
+        Source::Arg(argument) => sure(rt, write!(out, "arg {argument}")),
+        Source::This => put(rt, out, "this"),
         Source::Slot(slot) => {
-            out.push_str("slot ")?;
-            write_name(out, slot)
+            put(rt, out, "slot ");
+            write_name(rt, out, slot)
         }
-        Source::Literal(literal) => write_literal(out, literal),
+        Source::Literal(literal) => write_literal(rt, out, literal),
     }
 }
 
-fn write_invoke(out: &mut String, call: &Invoke) -> Result<(), AllocError> {
-    write!(out, "invoke {}", call.arg)?;
+fn write_invoke(rt: &impl Abort, out: &mut String, call: &Invoke) {
+    sure(rt, write!(out, "invoke {}", call.arg));
     for source in call.sources.as_slice() {
-        out.push_str(", ")?;
-        write_source(out, source)?;
+        put(rt, out, ", ");
+        write_source(rt, out, source);
     }
-    Ok(())
 }
 
-fn write_line(out: &mut String, line: &StepLine) -> Result<(), AllocError> {
+fn write_line(rt: &impl Abort, out: &mut String, line: &StepLine) {
     match line {
         StepLine::Return(source) => {
-            out.push_str("return ")?;
-            write_source(out, source)
+            put(rt, out, "return ");
+            write_source(rt, out, source)
         }
         StepLine::ReturnInvoke(call) => {
-            out.push_str("return ")?;
-            write_invoke(out, call)
+            put(rt, out, "return ");
+            write_invoke(rt, out, call)
         }
         StepLine::SetSlot { slot, source } => {
-            out.push_str("slot ")?;
-            write_name(out, slot)?;
-            out.push_str(" = ")?;
-            write_source(out, source)
+            put(rt, out, "slot ");
+            write_name(rt, out, slot);
+            put(rt, out, " = ");
+            write_source(rt, out, source)
         }
         StepLine::Append(key, value) => {
-            out.push_str("append ")?;
-            write_source(out, key)?;
-            out.push_str(", ")?;
-            write_source(out, value)
+            put(rt, out, "append ");
+            write_source(rt, out, key);
+            put(rt, out, ", ");
+            write_source(rt, out, value)
         }
-        StepLine::Clear => out.push_str("clear"),
+        StepLine::Clear => put(rt, out, "clear"),
         StepLine::Throw(value) => {
-            out.push_str("throw ")?;
-            write_value(out, value)
+            put(rt, out, "throw ");
+            write_value(rt, out, value)
         }
-        StepLine::Invoke(call) => write_invoke(out, call),
+        StepLine::Invoke(call) => write_invoke(rt, out, call),
     }
 }
 
 /// Writes what a steps block is for.
-fn write_target(out: &mut String, target: &Target) -> Result<(), AllocError> {
+fn write_target(rt: &impl Abort, out: &mut String, target: &Target) {
     match target {
         Target::Operation {
             owner,
@@ -119,40 +120,39 @@ fn write_target(out: &mut String, target: &Target) -> Result<(), AllocError> {
             fixed,
             overload,
         } => {
-            write!(out, "operation {fixed} {overload} ")?;
-            write_name(out, owner)?;
-            out.push_str(".")?;
-            write_name(out, name)
+            sure(rt, write!(out, "operation {fixed} {overload} "));
+            write_name(rt, out, owner);
+            put(rt, out, ".");
+            write_name(rt, out, name)
         }
         Target::Constructor { owner, overload } => {
-            write!(out, "constructor {overload} ")?;
-            write_name(out, owner)
+            sure(rt, write!(out, "constructor {overload} "));
+            write_name(rt, out, owner)
         }
         Target::Getter { owner, name } => {
-            out.push_str("getter ")?;
-            write_name(out, owner)?;
-            out.push_str(".")?;
-            write_name(out, name)
+            put(rt, out, "getter ");
+            write_name(rt, out, owner);
+            put(rt, out, ".");
+            write_name(rt, out, name)
         }
         Target::Setter { owner, name } => {
-            out.push_str("setter ")?;
-            write_name(out, owner)?;
-            out.push_str(".")?;
-            write_name(out, name)
+            put(rt, out, "setter ");
+            write_name(rt, out, owner);
+            put(rt, out, ".");
+            write_name(rt, out, name)
         }
         Target::Stringifier { owner } => {
-            out.push_str("stringifier ")?;
-            write_name(out, owner)
+            put(rt, out, "stringifier ");
+            write_name(rt, out, owner)
         }
     }
 }
 
 /// Writes a steps block: what it is for, and its lines.
-pub fn write_block(out: &mut String, block: &StepsBlock) -> Result<(), AllocError> {
-    write_target(out, &block.target)?;
+pub fn write_block(rt: &impl Abort, out: &mut String, block: &StepsBlock) {
+    write_target(rt, out, &block.target);
     for line in block.lines.as_slice() {
-        out.push_str(" / ")?;
-        write_line(out, line)?;
+        put(rt, out, " / ");
+        write_line(rt, out, line);
     }
-    Ok(())
 }

@@ -1,33 +1,31 @@
 //! The tables of scripts that aren't run yet, and of long ones.
 
-use crate::built::built_of;
+use crate::built::{built_of, put, sure};
 use crate::steps_rows::write_block;
-use std::alloc::{AllocError, Global};
+use std::alloc::Global;
 use std::mem;
 use std::process::Abort;
-use std::test::Fail;
 use widl_script_tree::ScriptTables;
 
-/// A text, many times, and then another.
-fn many(alloc: Global, count: usize, text: &str, end: &str) -> Result<String, AllocError> {
-    let mut all = String::new(alloc);
+/// Adds a text, many times.
+fn put_many(rt: &impl Abort, out: &mut String, count: usize, text: &str) {
     for _ in 0..count {
-        all.push_str(text)?;
+        put(rt, out, text);
     }
-    all.push_str(end)?;
-    Ok(all)
 }
 
-/// The steps blocks, each with its lines.
-fn blocks_of(alloc: Global, tables: &ScriptTables) -> Result<String, AllocError> {
+/// The steps blocks of a script, each with its lines, are these.
+fn expect_blocks(rt: &impl Abort, alloc: Global, script: &str, text: &str) {
+    let built = built_of(rt, alloc, script);
     let mut out = String::new(alloc);
-    for number in 0..tables.steps_count() {
-        if let Some(block) = tables.steps(number) {
-            write_block(&mut out, block)?;
-            out.push_str("\n")?;
+    for number in 0..built.tables.steps_count() {
+        if let Some(block) = built.tables.steps(number) {
+            write_block(rt, &mut out, block);
+            put(rt, &mut out, "\n");
         }
     }
-    Ok(out)
+    mem::forget(built);
+    assert!(rt; out.as_str() == text, "{script}");
 }
 
 /// How many expressions, statements, functions, steps blocks and names there are.
@@ -41,14 +39,6 @@ fn counts_of(tables: &ScriptTables) -> Counts {
         tables.steps_count(),
         tables.name_count(),
     ]
-}
-
-/// The steps blocks of a script.
-fn expect_blocks(rt: &impl Abort, alloc: Global, script: &str) -> Result<String, AllocError> {
-    let built = built_of(rt, alloc, script);
-    let blocks = blocks_of(alloc, &built.tables);
-    mem::forget(built);
-    blocks
 }
 
 /// Steps blocks of every kind, also for what isn't served.
@@ -86,13 +76,10 @@ const BLOCKS: [(&str, &str); 12] = [
 ];
 
 #[test]
-fn steps_blocks_have_targets_and_lines(rt: HostRuntime) -> Result<(), Fail> {
-    let alloc = rt.alloc();
+fn steps_blocks_have_targets_and_lines(rt: HostRuntime) {
     for (script, text) in &BLOCKS {
-        let blocks = expect_blocks(&rt, alloc, script)?;
-        assert_eq!(&rt; blocks.as_str(), *text, "{script}");
+        expect_blocks(&rt, rt.alloc(), script, text);
     }
-    Ok(())
 }
 
 /// Compares how much the tables of a script have.
@@ -100,7 +87,7 @@ fn expect_counts(rt: &impl Abort, alloc: Global, script: &str, counts: Counts) {
     let built = built_of(rt, alloc, script);
     let found = counts_of(&built.tables);
     mem::forget(built);
-    assert_eq!(rt; found, counts);
+    assert!(rt; found == counts, "{found:?}");
 }
 
 /// Scripts of about 1 MiB, whose middle parts come so many times, and how much their tables have. What stands in a list is
@@ -125,44 +112,51 @@ const LONG: [(&str, usize, &str, &str, Counts); 5] = [
     ),
 ];
 
-#[test]
-fn long_scripts_have_tables(rt: HostRuntime) -> Result<(), Fail> {
-    let alloc = rt.alloc();
-    for (head, count, text, tail, counts) in &LONG {
-        let rest = many(alloc, *count, text, tail)?;
-        let script = format!(in alloc; "{head}{rest}")?;
-        expect_counts(&rt, alloc, script.as_str(), *counts);
-    }
-    Ok(())
+/// A script of a head, a part that comes so many times, and a tail.
+fn expect_long(rt: &impl Abort, alloc: Global, parts: (&str, usize, &str, &str), counts: Counts) {
+    let (head, count, text, tail) = parts;
+    let mut script = sure(rt, String::from_str(alloc, head));
+    put_many(rt, &mut script, count, text);
+    put(rt, &mut script, tail);
+    expect_counts(rt, alloc, script.as_str(), counts);
 }
 
 #[test]
-fn open_blocks_have_many_lines(rt: HostRuntime) -> Result<(), Fail> {
-    let alloc = rt.alloc();
-    let ends = many(alloc, 32, "end\n", "")?;
-    let lines = many(alloc, 200_000, "do 1\n", ends.as_str())?;
-    let script = many(alloc, 32, "if 1 is 1\n", lines.as_str())?;
-    expect_counts(&rt, alloc, script.as_str(), [200_064, 400_064, 0, 0, 0]);
-    Ok(())
+fn long_scripts_have_tables(rt: HostRuntime) {
+    for (head, count, text, tail, counts) in &LONG {
+        expect_long(&rt, rt.alloc(), (head, *count, text, tail), *counts);
+    }
+}
+
+#[test]
+fn open_blocks_have_many_lines(rt: HostRuntime) {
+    let mut script = String::new(rt.alloc());
+    put_many(&rt, &mut script, 32, "if 1 is 1\n");
+    put_many(&rt, &mut script, 200_000, "do 1\n");
+    put_many(&rt, &mut script, 32, "end\n");
+    expect_counts(
+        &rt,
+        rt.alloc(),
+        script.as_str(),
+        [200_064, 400_064, 0, 0, 0],
+    );
 }
 
 /// A function with so many parameters of different names.
-fn many_parameters(alloc: Global, count: u32) -> Result<String, AllocError> {
-    let mut script = String::from_str(alloc, "function f(f")?;
+fn many_parameters(rt: &impl Abort, alloc: Global, count: u32) -> String {
+    let mut script = sure(rt, String::from_str(alloc, "function f(f"));
     for number in 0..count {
-        script.push(',')?;
+        put(rt, &mut script, ",");
         for letter in [number / 17_576, number / 676, number / 26, number] {
-            script.push(char::from(b'A' + (letter % 26) as u8))?;
+            sure(rt, script.push(char::from(b'A' + (letter % 26) as u8)));
         }
     }
-    script.push_str(")\nend")?;
-    Ok(script)
+    put(rt, &mut script, ")\nend");
+    script
 }
 
 #[test]
-fn each_of_many_names_has_a_number(rt: HostRuntime) -> Result<(), Fail> {
-    let alloc = rt.alloc();
-    let script = many_parameters(alloc, 200_000)?;
-    expect_counts(&rt, alloc, script.as_str(), [0, 2, 1, 0, 200_001]);
-    Ok(())
+fn each_of_many_names_has_a_number(rt: HostRuntime) {
+    let script = many_parameters(&rt, rt.alloc(), 200_000);
+    expect_counts(&rt, rt.alloc(), script.as_str(), [0, 2, 1, 0, 200_001]);
 }

@@ -1,11 +1,11 @@
 //! The tables of a script that is put together by hand: before a node is put, its parts are found to be there.
 
-ghost use Rattle.std.specs.Prelude.{◌≡◌, [], length, IfOk, IsTrue};
+ghost use Rattle.std.specs.Prelude.{◌≡◌, [], length, IsTrue, Ok};
 ghost use Rattle.std.specs.Option.{option_to_list};
 ghost use Rattle.widl_script_tree.specs.Parts.{IsLower, IsLowerRow, IsLowerStatement, IsMember};
 
 use indexmap::IndexMap;
-use std::alloc::{AllocError, Global};
+use std::alloc::Global;
 use std::process::Abort;
 use widl_script_tree::{
     Expression, Function, LocalNames, MemberKey, MemberOf, Params, Row, Script, ScriptTables,
@@ -13,18 +13,23 @@ use widl_script_tree::{
 };
 use widl_text::Units;
 
+/// What a call made. The test ends where there is no memory.
+pub fn sure<T, E>(rt: &impl Abort, made: Result<T, E>) -> T
+    ensures { made ≡ Ok result }
+{
+    match made {
+        Ok(value) => value,
+        Err(_) => panic!(rt; "no memory"),
+    }
+}
+
 /// Puts names, whose numbers are their places.
-pub fn put_names(
-    rt: &impl Abort,
-    alloc: Global,
-    tables: &mut ScriptTables,
-    names: &[&str],
-) -> Result<(), AllocError> {
+pub fn put_names(rt: &impl Abort, alloc: Global, tables: &mut ScriptTables, names: &[&str]) {
     for name in names {
         assert!(rt; tables.name_count() < u32::MAX);
-        tables.put_name(Units::of_str(alloc, name)?)?;
+        let name = sure(rt, Units::of_str(alloc, name));
+        sure(rt, tables.put_name(name));
     }
-    Ok(())
 }
 
 /// Whether the places of a row are below a place.
@@ -85,14 +90,10 @@ fn is_lower(tables: &ScriptTables, node: &Expression) -> bool
 }
 
 /// Puts an expression.
-pub fn put(
-    rt: &impl Abort,
-    tables: &mut ScriptTables,
-    node: Expression,
-) -> Result<u32, AllocError> {
+pub fn put(rt: &impl Abort, tables: &mut ScriptTables, node: Expression) -> u32 {
     assert!(rt; tables.expression_count() < u32::MAX);
     assert!(rt; is_lower(tables, &node));
-    tables.put_expression(node)
+    sure(rt, tables.put_expression(node))
 }
 
 /// Whether the parts of a statement are in the tables.
@@ -129,41 +130,37 @@ fn is_lower_statement(tables: &ScriptTables, node: Statement) -> bool
 }
 
 /// Puts statements that follow one another.
-pub fn put_row(
-    rt: &impl Abort,
-    tables: &mut ScriptTables,
-    nodes: &[Statement],
-) -> Result<Row, AllocError> {
+pub fn put_row(rt: &impl Abort, tables: &mut ScriptTables, nodes: &[Statement]) -> Row {
     let first = tables.statement_count();
     for node in nodes {
         assert!(rt; tables.statement_count() < u32::MAX);
         assert!(rt; is_lower_statement(tables, *node));
-        tables.put_statement(*node)?;
+        sure(rt, tables.put_statement(*node));
     }
     let count = tables.statement_count().saturating_sub(first);
-    Ok(Row { first, count })
+    Row { first, count }
 }
 
 /// One parameter, or none.
-fn params_of(alloc: Global, name: Option<u32>) -> Result<Params, AllocError>
-    ensures { IfOk result (λ params. params ≡ option_to_list name) }
+fn params_of(rt: &impl Abort, alloc: Global, name: Option<u32>) -> Params
+    ensures { result ≡ option_to_list name }
 {
     let mut params = Params::new(alloc);
     if let Some(name) = name {
-        params.push(name)?;
+        sure(rt, params.push(name));
     }
-    Ok(params)
+    params
 }
 
 /// One local name, or none.
-fn names_of(alloc: Global, name: Option<u32>) -> Result<LocalNames, AllocError>
-    ensures { IfOk result (λ names. names ≡ option_to_list name) }
+fn names_of(rt: &impl Abort, alloc: Global, name: Option<u32>) -> LocalNames
+    ensures { result ≡ option_to_list name }
 {
     let mut names = LocalNames::new(alloc);
     if let Some(name) = name {
-        names.put(name)?;
+        sure(rt, names.put(name));
     }
-    Ok(names)
+    names
 }
 
 /// Puts a function of the first name, with its parameter and its local name if it has them.
@@ -174,37 +171,30 @@ pub fn put_function(
     param: Option<u32>,
     local: Option<u32>,
     body: Row,
-) -> Result<u32, AllocError> {
+) -> u32 {
     let count = tables.name_count();
     assert!(rt; 0 < count);
     assert!(rt; param.is_none_or(|param| param < count));
     assert!(rt; local.is_none_or(|local| local < count));
     assert!(rt; is_lower_row(body, tables.statement_count()));
     assert!(rt; tables.function_count() < u32::MAX);
-    let params = params_of(alloc, param)?;
-    let names = names_of(alloc, local)?;
+    let params = params_of(rt, alloc, param);
+    let names = names_of(rt, alloc, local);
     let name = 0;
-    tables.put_function(Function {
+    let function = Function {
         name,
         params,
         names,
         body,
-    })
+    };
+    sure(rt, tables.put_function(function))
 }
 
-/// The script of these statements outside functions, if there was memory to put them.
-pub fn finished(
-    rt: &impl Abort,
-    alloc: Global,
-    tables: ScriptTables,
-    top: Result<Row, AllocError>,
-) -> Script
+/// The script of these statements outside functions.
+pub fn finished(rt: &impl Abort, alloc: Global, tables: ScriptTables, top: Row) -> Script
     ensures owners { result.owners ≡ [] }
     ensures blocks { result.blocks ≡ [] }
 {
-    let Ok(top) = top else {
-        panic!(rt; "no memory for the script")
-    };
     assert!(rt; tables.steps_count() == 0);
     assert!(rt; is_lower_row(top, tables.statement_count()));
     tables.finish(top, IndexMap::new(alloc), IndexMap::new(alloc))

@@ -1,9 +1,8 @@
 //! Blocks that are empty, blocks in blocks, functions, and constants in steps blocks.
 
-use super::{Form, expect_rows};
-use std::test::Fail;
+use super::Form;
 
-const BLOCKS: [Form; 5] = [
+pub const BLOCKS: [Form; 5] = [
     (
         "
         try
@@ -270,8 +269,3 @@ const BLOCKS: [Form; 5] = [
         ",
     ),
 ];
-
-#[test]
-fn blocks_have_nodes(rt: HostRuntime) -> Result<(), Fail> {
-    expect_rows(&rt, rt.alloc(), &BLOCKS)
-}

@@ -1,9 +1,8 @@
 //! Every form of expression.
 
-use super::{Form, expect_rows};
-use std::test::Fail;
+use super::Form;
 
-const EXPRESSIONS: [Form; 4] = [
+pub const EXPRESSIONS: [Form; 4] = [
     (
         r#"
         show undefined
@@ -195,8 +194,3 @@ const EXPRESSIONS: [Form; 4] = [
         ",
     ),
 ];
-
-#[test]
-fn expressions_have_nodes(rt: HostRuntime) -> Result<(), Fail> {
-    expect_rows(&rt, rt.alloc(), &EXPRESSIONS)
-}

@@ -1,11 +1,10 @@
 //! Statements of one line.
 
-use super::{Form, expect_rows};
-use std::test::Fail;
+use super::Form;
 
 /// A member that is set, defined or deleted has a node of its own too. In the second script names are spelled like words, and members
 /// like keywords.
-const LINES: [Form; 2] = [
+pub const LINES: [Form; 2] = [
     (
         "
         let a = 1
@@ -138,8 +137,3 @@ const LINES: [Form; 2] = [
         ",
     ),
 ];
-
-#[test]
-fn lines_have_nodes(rt: HostRuntime) -> Result<(), Fail> {
-    expect_rows(&rt, rt.alloc(), &LINES)
-}

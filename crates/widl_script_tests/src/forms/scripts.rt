@@ -1,9 +1,8 @@
 //! Scripts with an iterable object, an iterator that throws, and pairs that grow while they are listed.
 
-use super::{Form, expect_rows};
-use std::test::Fail;
+use super::Form;
 
-const SCRIPTS: [Form; 3] = [
+pub const SCRIPTS: [Form; 3] = [
     (
         "
         function g()
@@ -228,8 +227,3 @@ const SCRIPTS: [Form; 3] = [
         ",
     ),
 ];
-
-#[test]
-fn scripts_have_nodes(rt: HostRuntime) -> Result<(), Fail> {
-    expect_rows(&rt, rt.alloc(), &SCRIPTS)
-}
