@@ -3,6 +3,7 @@
 use crate::fault::Fault;
 use crate::values::value_of;
 use std::alloc::Global;
+use std::mem::ManuallyDrop;
 use widl_idl::Literal;
 use widl_text::Units;
 use widl_value::{IdlEntries, IdlMembers, IdlValue, IdlValues, Number, ObjRef, Shape, Value};
@@ -49,25 +50,25 @@ fn pair_of(text: &str) -> Result<(&str, &str), Fault> {
 
 /// A sequence of these values.
 fn list_of(alloc: Global, text: &str) -> Result<IdlValue, Fault> {
-    let mut values = IdlValues::new(alloc);
+    let mut values = ManuallyDrop::new(IdlValues::new(alloc));
     if !text.is_empty() {
         for item in text.split(',') {
             values.push(idl_plain(alloc, item.trim())?)?;
         }
     }
-    Ok(IdlValue::List(values))
+    Ok(IdlValue::List(ManuallyDrop::into_inner(values)))
 }
 
 /// A record of these entries.
 fn entries_of(alloc: Global, text: &str) -> Result<IdlValue, Fault> {
-    let mut entries = IdlEntries::new(alloc);
+    let mut entries = ManuallyDrop::new(IdlEntries::new(alloc));
     if !text.is_empty() {
         for entry in text.split(',') {
             let (key, value) = pair_of(entry)?;
             entries.push((Units::of_str(alloc, key)?, idl_plain(alloc, value)?))?;
         }
     }
-    Ok(IdlValue::Entries(entries))
+    Ok(IdlValue::Entries(ManuallyDrop::into_inner(entries)))
 }
 
 /// A value of the dictionary of a number, with the members behind it.
@@ -82,7 +83,7 @@ fn dictionary_of(alloc: Global, text: &str) -> Result<IdlValue, Fault> {
 
 /// These members.
 fn members_of(alloc: Global, text: &str) -> Result<IdlMembers, Fault> {
-    let mut members = IdlMembers::new(alloc);
+    let mut members = ManuallyDrop::new(IdlMembers::new(alloc));
     if !text.is_empty() {
         for member in text.split(',') {
             let (key, value) = pair_of(member)?;
@@ -90,7 +91,7 @@ fn members_of(alloc: Global, text: &str) -> Result<IdlMembers, Fault> {
             members.push((of, index, idl_plain(alloc, value)?))?;
         }
     }
-    Ok(members)
+    Ok(ManuallyDrop::into_inner(members))
 }
 
 /// The IDL value that is written as a value: an integer, a text, an object and the like.

@@ -1,5 +1,6 @@
 //! The conversations of a row.
 
+ghost use Rattle.std.specs.Prelude.{IfOk};
 ghost use Rattle.widl_calls.specs.Stack.{CallExpects};
 ghost use Rattle.widl_convert.specs.AskTerms.{BeginAnswer};
 ghost use Rattle.widl_convert.specs.Stack.{Expects};
@@ -106,6 +107,19 @@ fn tell_asker(
     end
 }
 
+/// The conversation of a task that is no call.
+fn asker_for(alloc: Global, tables: &Tables, task: Task, row: &Row<'_>) -> Result<Asker, Fault>
+    ensures { IfOk result (λ asker. Expects asker BeginAnswer) }
+{
+    match task {
+        Task::Scalars => scalar(alloc, row.of, row.given),
+        Task::Results => result_of(alloc, tables, row.given),
+        Task::Resolutions => resolution(alloc, OPERATION, row.given),
+        Task::Callees => resolution(alloc, callee_of(row.of)?, row.given),
+        _ => conversion(alloc, tables, row.given),
+    }
+}
+
 /// Tells the conversation of a row that is given one thing.
 fn tell_one(
     alloc: Global,
@@ -114,32 +128,13 @@ fn tell_one(
     row: &Row<'_>,
     told: &mut String,
 ) -> Result<(), Fault> {
-    let given = row.given;
     match task {
-        Task::Conversions => tell_asker(
-            alloc,
-            tables,
-            conversion(alloc, tables, given)?,
-            row,
-            told,
-        ),
         Task::Many => tell_many(alloc, tables, row, told),
-        Task::Scalars => tell_asker(alloc, tables, scalar(alloc, row.of, given)?, row, told),
-        Task::Results => tell_asker(alloc, tables, result_of(alloc, tables, given)?, row, told),
-        Task::Resolutions => {
-            tell_asker(
-                alloc,
-                tables,
-                resolution(alloc, OPERATION, given)?,
-                row,
-                told,
-            )
-        }
-        Task::Callees => {
-            let callee = callee_of(row.of)?;
-            tell_asker(alloc, tables, resolution(alloc, callee, given)?, row, told)
-        }
         Task::Operations | Task::Functions => tell_in_script(alloc, tables, task, row, told),
+        _ => {
+            let asker = asker_for(alloc, tables, task, row)?;
+            tell_asker(alloc, tables, asker, row, told)
+        }
     }
 }
 

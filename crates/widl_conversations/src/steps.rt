@@ -9,6 +9,7 @@ use crate::literals::literal_of;
 use crate::values::value_of;
 use indexmap::IndexMap;
 use std::alloc::Global;
+use std::mem::ManuallyDrop;
 use widl_idl::Callee;
 use widl_script_tree::{
     Row, Script, ScriptTables, Source, StepLine, StepLines, StepsBlock, Target,
@@ -37,15 +38,16 @@ fn step_line_of(alloc: Global, line: &str) -> Result<StepLine, Fault> {
 
 /// The lines of a block.
 fn step_lines_of(alloc: Global, text: &str) -> Result<StepLines, Fault> {
-    let mut lines = StepLines::new(alloc);
+    let mut lines = ManuallyDrop::new(StepLines::new(alloc));
     for line in text.split(';') {
         lines.push(step_line_of(alloc, line.trim())?)?;
     }
-    Ok(lines)
+    Ok(ManuallyDrop::into_inner(lines))
 }
 
 /// The block of an overload.
 fn block(alloc: Global, overload: u32, lines: StepLines) -> Result<StepsBlock, Fault> {
+    let lines = ManuallyDrop::new(lines);
     Ok(StepsBlock {
         target: Target::Operation {
             owner: Units::of_str(alloc, "N")?,
@@ -53,7 +55,7 @@ fn block(alloc: Global, overload: u32, lines: StepLines) -> Result<StepsBlock, F
             fixed: false,
             overload,
         },
-        lines,
+        lines: ManuallyDrop::into_inner(lines),
     })
 }
 
@@ -71,9 +73,9 @@ fn tables_with(alloc: Global, block: StepsBlock) -> Result<ScriptTables, Fault> 
 
 /// The numbers of the blocks for overloads: the first for this one.
 fn targets(alloc: Global, overload: u32) -> Result<IndexMap<(Callee, Option<u32>), u32>, Fault> {
-    let mut targets = IndexMap::new(alloc);
+    let mut targets = ManuallyDrop::new(IndexMap::new(alloc));
     targets.insert((OPERATION, Some(overload)), 0)?;
-    Ok(targets)
+    Ok(ManuallyDrop::into_inner(targets))
 }
 
 /// A script of these tables.
@@ -99,10 +101,10 @@ fn overload_of(steps: &str) -> Result<(u32, &str), Fault> {
 /// A script with these steps for an overload of the first operation of the first namespace.
 fn script_with(alloc: Global, steps: &str) -> Result<Script, Fault> {
     let (overload, lines) = overload_of(steps)?;
-    let targets = targets(alloc, overload)?;
+    let targets = ManuallyDrop::new(targets(alloc, overload)?);
     let block = block(alloc, overload, step_lines_of(alloc, lines)?)?;
     let tables = tables_with(alloc, block)?;
-    Ok(finish(alloc, tables, targets))
+    Ok(finish(alloc, tables, ManuallyDrop::into_inner(targets)))
 }
 
 /// A script with these steps, if there are any.

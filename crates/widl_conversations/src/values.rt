@@ -6,6 +6,7 @@
 
 use crate::fault::Fault;
 use std::alloc::Global;
+use std::mem::ManuallyDrop;
 use widl_text::Units;
 use widl_value::{Number, ObjRef, Shape, Value, Values};
 
@@ -82,11 +83,11 @@ pub fn value_of(alloc: Global, text: &str) -> Result<Value, Fault> {
 
 /// Values with commas between; no text among them has a comma.
 pub fn values_of(alloc: Global, text: &str) -> Result<Values, Fault> {
-    let mut values = Values::new(alloc);
+    let mut values = ManuallyDrop::new(Values::new(alloc));
     if !text.is_empty() {
         for value in text.split(',') {
             values.push(value_of(alloc, value.trim())?)?;
         }
     }
-    Ok(values)
+    Ok(ManuallyDrop::into_inner(values))
 }

@@ -1,6 +1,6 @@
 //! How values, asks and ends are told.
 
-use std::fmt;
+use std::fmt::{self, Display};
 use widl_convert::{Ask, Next, Outcome, ScriptEntries};
 use widl_text::{Key, Units};
 use widl_trace::Event;
@@ -76,8 +76,8 @@ impl fmt::Display for Told<'_, Value> {
             Value::Undefined => f.write_str("undefined"),
             Value::Null => f.write_str("null"),
             Value::Bool(truth) => write!(f, "{truth}"),
-            Value::Num(number) => write!(f, "{}", Told(number)),
-            Value::Str(units) => write!(f, "{}", Told(units)),
+            Value::Num(number) => Told(number).fmt(f),
+            Value::Str(units) => Told(units).fmt(f),
             Value::Sym(id) => write!(f, "@{id}"),
             Value::Obj(ObjRef { id, shape: _ }) => write!(f, "#{id}"),
         }
@@ -125,7 +125,7 @@ impl fmt::Display for Told<'_, Ask> {
             } => { write!(f, "call {} on {}{}", function.id, Told(this), Told(args)) }
             Ask::Kind(obj) => write!(f, "kind {}", obj.id),
             Ask::Unit => f.write_str("unit"),
-            Ask::Note(event) => write!(f, "{}", Told(event)),
+            Ask::Note(event) => Told(event).fmt(f),
             Ask::OwnKeys(obj) => write!(f, "keys {}", obj.id),
             Ask::Own { obj, key } => write!(f, "own {} {}", obj.id, Told(key)),
             Ask::NewArray(values) => write!(f, "array{}", Told(values)),
@@ -146,7 +146,7 @@ impl fmt::Display for Inner<'_, IdlValue> {
             IdlValue::Missing => f.write_str("missing"),
             IdlValue::Bool(truth) => write!(f, "{truth}"),
             IdlValue::Int(n) => write!(f, "{n}"),
-            IdlValue::Text(units) => write!(f, "{}", Told(units)),
+            IdlValue::Text(units) => Told(units).fmt(f),
             IdlValue::Object(obj) => write!(f, "object {}", obj.id),
             IdlValue::Any(value) => write!(f, "any {}", Told(value)),
             IdlValue::Choice { of, index } => write!(f, "value {of}.{index}"),
@@ -165,7 +165,7 @@ impl fmt::Display for Told<'_, IdlValue> {
             IdlValue::List(values) => write!(f, "list {}", Inner(values)),
             IdlValue::Entries(entries) => write!(f, "record {}", Inner(entries)),
             IdlValue::Dict { of, members } => write!(f, "dictionary {of} {}", Inner(members)),
-            value => write!(f, "{}", Inner(value)),
+            value => Inner(value).fmt(f),
         }
     }
 }
@@ -181,7 +181,7 @@ impl fmt::Display for Told<'_, IdlValues> {
         f.write_str("(")?;
         for place in 0..count {
             f.write_str(sign_before(place))?;
-            write!(f, "{}", Told(self.0.at(place)))?;
+            Told(self.0.at(place)).fmt(f)?;
         }
         f.write_str(")")
     }
@@ -193,7 +193,7 @@ impl fmt::Display for Inner<'_, IdlValues> {
         f.write_str("(")?;
         for place in 0..self.0.len() {
             f.write_str(sign_before(place))?;
-            write!(f, "{}", Inner(self.0.at(place)))?;
+            Inner(self.0.at(place)).fmt(f)?;
         }
         f.write_str(")")
     }
@@ -241,8 +241,8 @@ impl fmt::Display for Told<'_, Event> {
 impl fmt::Display for Told<'_, Outcome> {
     fn fmt<W: fmt::Write>(&self, f: &mut fmt::Formatter<W>) -> fmt::Result {
         match self.0 {
-            Outcome::Idl(value) => write!(f, "{}", Told(value)),
-            Outcome::Script(value) => write!(f, "{}", Told(value)),
+            Outcome::Idl(value) => Told(value).fmt(f),
+            Outcome::Script(value) => Told(value).fmt(f),
             Outcome::Chosen { overload, values } => write!(f, "#{overload} {}", Told(values)),
         }
     }
@@ -252,8 +252,8 @@ impl fmt::Display for Told<'_, Outcome> {
 impl fmt::Display for Told<'_, Next> {
     fn fmt<W: fmt::Write>(&self, f: &mut fmt::Formatter<W>) -> fmt::Result {
         match self.0 {
-            Next::Ask(ask) => write!(f, "{}", Told(ask)),
-            Next::Done(outcome) => write!(f, "{}", Told(outcome)),
+            Next::Ask(ask) => Told(ask).fmt(f),
+            Next::Done(outcome) => Told(outcome).fmt(f),
             Next::Throw(code) => write!(f, "throws {code:?}"),
             Next::Rethrow(value) => write!(f, "rethrows {}", Told(value)),
             Next::Profile(number) => write!(f, "profile {number}"),
