@@ -1,7 +1,8 @@
 //! The tests of the crates below, in a crate of their own: a crate with tests is proved twice, once with and once
-//! without them. A module holds the tests of the crate of its name; [`shared`] has the definitions, types and values
-//! that several make. It stands on crates up to `widl_front` and `widl_tables`, and knows none of the crates that
-//! convert, call and run, whose tests are those of the command (`widl_cli`). Nothing stands on it.
+//! without them. A module holds the tests of the crate of its name, `streamed` those of the writer of `widl_sink` and
+//! `line_levels` those of the levels of `widl_lines`; [`shared`] has the definitions, types and values that several make. It
+//! stands on crates up to `widl_front` and `widl_tables`, and knows none of the crates that convert, call and run, whose runs
+//! stand on the pages of `widl_rows` and in `widl_top_tests`. Nothing stands on it.
 #![tactic(auto)]
 
 #[cfg(test)]
