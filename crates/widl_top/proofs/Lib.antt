@@ -5,6 +5,6 @@ mod Endings
 mod Fetches
 mod Names
 mod OneOutput
-mod PlainSteps
-mod ReadScripts
+pub mod PlainSteps
+pub mod ReadScripts
 mod ScriptRuns
