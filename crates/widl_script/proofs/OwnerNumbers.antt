@@ -11,6 +11,7 @@ use Rattle.widl_idl.specs.declared.callee.Owner.TheVariants as owners
 use Rattle.widl_idl.specs.DefinitionTerms.{DefsTerm, IfaceTerm, SpaceTerm}
 use Rattle.widl_overload.specs.OperationsAlone.{HasOperationsAlone}
 use Rattle.widl_script_tree.specs.Tables.{Tables, key_at, name_at, name_or}
+use Rattle.widl_script_rules.proofs.OwnerTexts.{no_ifaces}
 use Rattle.widl_script.specs.Owners.{owner_there}
 use Rattle.widl_script.specs.Scripts.{owner_named, owner_or}
 

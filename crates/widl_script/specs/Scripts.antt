@@ -15,6 +15,7 @@ use Rattle.widl_script_tree.specs.Tables.{Tables, name_at, owner_at, script_tree
 use Rattle.widl_script_tree.specs.Trees.{Text, StatementTrees, no_statements, then_more, StepsT, ScriptTree}
 use Rattle.widl_script_words.specs.SpelledStatements.{Lines, IsTreeOf}
 use Rattle.widl_script_rules.specs.LeastBreak.{IsLeastBreak}
+use Rattle.widl_script_rules.specs.Targets.{is_target_of}
 
 -- 1. The tree, or the first break
 
