@@ -5,7 +5,7 @@
 
 Run at the top of the repository, after the program is built (crates/widl_cli/out/widl_cli, if none is named). Each page's
 commands are run in a scratch folder beside the examples and the files that `cat` shows, and what is written must be what
-stands there. Each block of tools/first_steps.txt is run with a pseudo-terminal for standard error, through `widl` under
+stands there. The lines that README shows of the library must stand in `widl_top`, in their order. Each block of tools/first_steps.txt is run with a pseudo-terminal for standard error, through `widl` under
 another name, and the line there must be the block's. The rules of docs/RULES.md and docs/SCRIPTS.md must each have a text.
 """
 import os
@@ -23,6 +23,7 @@ TOP = os.path.dirname(os.path.dirname(os.path.abspath(__file__)))
 PROGRAM = os.path.join(TOP, "crates", "widl_cli", "out", "widl_cli")
 SECONDS = 120
 PAGES = ["README.md", "docs/EXAMPLES.md"]
+LIBRARY = ["crates/widl_top/src/answer.rt", "crates/widl_top/src/running.rt"]
 SCRIPT_RULES = [f"S{number}" for number in range(1, 15)]
 
 
@@ -127,6 +128,19 @@ def run_tries(program, faults):
     return len(tries())
 
 
+def compare_library(faults):
+    """The indented lines of README's section on the library are lines of the sources, in the order of these."""
+    section = read("README.md").partition("\n## As a library\n")[2].partition("\n## ")[0]
+    shown = [line.strip() for line in section.splitlines() if line.startswith("    ")]
+    sources = [line.strip() for path in LIBRARY for line in read(path).splitlines()]
+    place = 0
+    for line in shown or ["(no line)"]:
+        if line not in sources[place:]:
+            faults.append(f"README.md: the library has no such line here: {line}")
+        else:
+            place = sources.index(line, place) + 1
+
+
 def look_for_texts(faults):
     """Each rule has a text that a terminal can show."""
     scripts, sets = explain_refusal.rows("SCRIPTS.md", (2,)), explain_refusal.rows("RULES.md", (7, 8))
@@ -143,6 +157,7 @@ def main():
     shown = sum(try_page(page, program, faults) for page in PAGES)
     wrong = run_tries(program, faults)
     look_for_texts(faults)
+    compare_library(faults)
     for fault in faults:
         print(f"first steps: {fault}")
     if faults:
