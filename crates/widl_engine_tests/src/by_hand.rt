@@ -62,6 +62,8 @@ fn expect_end(
     };
     let (found, counts) = run(alloc, &tables, store, script, budget, &mut writer, &mut out);
     mem::forget(tables);
+    let flushed = writer.flush(&mut out).is_ok();
+    assert!(rt; flushed, "{text}");
     assert!(rt; found == end, "{text}");
     assert!(rt; out.held() == text.as_bytes(), "{text}");
     counts
