@@ -13,6 +13,7 @@ pub mod PlainTrees
 pub mod Meanings
 pub mod Nodes
 pub mod Ranges
+pub mod StringTypes
 pub mod Profile
 pub mod Parts
 pub mod Nesting

@@ -4,7 +4,8 @@ use Rattle.widl_idl.specs.PlainTypes.{PlainValue}
 use Rattle.widl_idl.specs.Terms.{TypeTerm, BooleanType, IntegerType, NullableType}
 use Rattle.widl_names.specs.Extents.{outline}
 use Rattle.widl_overload.specs.rules.MemberRules.{is_promise}
-use Rattle.widl_overload.specs.rules.TypeRules.{is_unit_string, takes_value}
+use Rattle.widl_idl.specs.StringTypes.{is_unit_string}
+use Rattle.widl_overload.specs.rules.TypeRules.{takes_value}
 
 pub promise_outline : (t : TypeTerm) → is_promise (outline t) ≡ is_promise t
 promise_outline (NullableType t) = refl

@@ -10,7 +10,8 @@ ghost use Rattle.widl_idl.specs.WrittenTypes.{meaning_of_annotated};
 ghost use Rattle.widl_names.specs.Listings.{listed_definitions};
 ghost use Rattle.widl_overload.specs.rules.MemberRules.{is_promise};
 ghost use Rattle.widl_overload.specs.rules.OnMembers.{BreaksNode, NodesBreak, member_rules};
-ghost use Rattle.widl_overload.specs.rules.TypeRules.{IsOtherStringifier, IsWritablePromise, is_unit_string};
+ghost use Rattle.widl_idl.specs.StringTypes.{is_unit_string};
+ghost use Rattle.widl_overload.specs.rules.TypeRules.{IsOtherStringifier, IsWritablePromise};
 ghost use Rattle.widl_member_rules.specs.MemberTypes.{member_nodes, own_members};
 ghost use Rattle.widl_refusals.specs.Refusals.{IsFirst};
 
@@ -18,10 +19,10 @@ use crate::constant_values::other_constant_value;
 use crate::promise_overloads::is_promise;
 use std::alloc::{AllocError, Global};
 use widl_idl::tree::{Attribute, AttributeKind, Definition, DefinitionKind, Member, MemberKind};
-use widl_idl::{IdlType, Refusal, Violation};
+use widl_idl::{IdlType, Refusal, Violation, is_unit_string};
 use widl_names::Resolver;
 use widl_overload::ValidityRule;
-use widl_refusals::{earlier_refusal, first, is_unit_string};
+use widl_refusals::{earlier_refusal, first};
 
 /// The first refusal by these rules, in all these definitions.
 ///

@@ -22,7 +22,8 @@ use Rattle.widl_overload.specs.declared.validity_rule.ValidityRule.{ValidityRule
 use Rattle.widl_overload.specs.declared.validity_rule.ValidityRule.TheVariants as rule
 use Rattle.widl_overload.specs.rules.OnTypes.{BreaksType, BreaksUse, type_rules, with_meaning}
 use Rattle.widl_overload.specs.rules.TypeUses.{TypeUse, meaning_of_use}
-use Rattle.widl_overload.specs.rules.TypeRules.{is_annotated, is_constant_type, is_copied, is_integer, is_misplaced, is_never_nullable, is_nullable_dictionary, is_unit_string, is_wrongly_nullable, members_of_union, without_nullable}
+use Rattle.widl_idl.specs.StringTypes.{is_unit_string}
+use Rattle.widl_overload.specs.rules.TypeRules.{is_annotated, is_constant_type, is_copied, is_integer, is_misplaced, is_never_nullable, is_nullable_dictionary, is_wrongly_nullable, members_of_union, without_nullable}
 use Rattle.widl_overload.specs.sets.Distinct.{category, is_dictionary}
 use Rattle.widl_refusals.specs.Refusals.{IsFirst}
 use Rattle.widl_refusals.proofs.FirstRefusals.{same_breaks}

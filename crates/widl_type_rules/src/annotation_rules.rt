@@ -11,9 +11,8 @@ ghost use Rattle.widl_type_rules.specs.UsesListed.{resolved_use};
 
 use crate::resolved_uses::ResolvedUse;
 use widl_idl::tree::ExtendedAttribute;
-use widl_idl::{IdlType, Mode, Violation, earlier_violation};
+use widl_idl::{IdlType, Mode, Violation, earlier_violation, is_unit_string};
 use widl_overload::TypeRole;
-use widl_refusals::is_unit_string;
 
 /// The place of a union's member type that is annotated, also by a typedef.
 pub fn annotated_member(ty: &ResolvedUse<'_>) -> Option<Violation>

@@ -7,8 +7,6 @@ use Rattle.widl_idl.specs.declared.int_kind.Mode.{Mode}
 use Rattle.widl_idl.specs.declared.int_kind.Mode.TheVariants as modes
 use Rattle.widl_idl.specs.DefinitionTerms.{IfaceTerm}
 use Rattle.widl_idl.specs.declared.violation.Violation.{Violation}
-use Rattle.widl_idl.specs.declared.text_kind.TextKind.{TextKind}
-use Rattle.widl_idl.specs.declared.text_kind.TextKind.TheVariants as texts
 use Rattle.widl_idl.specs.Flattened.{flattened_member, flattened_members, includes_nullable_type, nullable_members}
 use Rattle.widl_idl.specs.First.{Somewhere, is_before, violation_at}
 use Rattle.widl_idl.specs.MergingRules.{IsAt}
@@ -17,6 +15,7 @@ use Rattle.widl_idl.specs.PlainTrees.{ConstantMember, AttributeMember, PlainDefi
 use Rattle.widl_idl.specs.Resolution.{Annotation, ClampTo, EnforceRange, LegacyNullToEmptyString, Note, Typedef, WrittenType, TypedefName, NullableOf}
 use Rattle.widl_idl.specs.Terms.{TypeTerm, TypeTerms, AnyType, BooleanType, IntegerType, StringType, DictionaryType, SequenceType, RecordType, PromiseType, NullableType, UnionType, no_types}
 use Rattle.widl_idl.specs.Nodes.{Node, MemberNode}
+use Rattle.widl_idl.specs.StringTypes.{is_unit_string}
 use Rattle.widl_text.specs.IntegerTokens.{integer_of}
 use Rattle.widl_idl.specs.WrittenTypes.{annotation_of, meaning_alone, meaning_of_annotated, notes_of, typedefs, written_type}
 use Rattle.widl_overload.specs.declared.type_role.TypeRole.{TypeRole}
@@ -171,16 +170,6 @@ IsNullableDictionary t u s = ((is_argument_or_member_role u.role ≡ true) × (i
 abbrev pub is_integer : TypeTerm → Bool
 is_integer (IntegerType kind mode) = true
 is_integer t = false
-
-abbrev pub is_unit_text : TextKind → Bool
-is_unit_text texts.Dom = true
-is_unit_text texts.Usv = true
-is_unit_text texts.Byte = false
-
--- the string types DOMString and USVString
-abbrev pub is_unit_string : TypeTerm → Bool
-is_unit_string (StringType kind null_empty) = is_unit_text kind
-is_unit_string t = false
 
 -- whether an annotation applies to a type
 abbrev pub applies_to : TypeTerm → Annotation → Bool

@@ -6,7 +6,7 @@ use Rattle.widl_idl.specs.Terms.{type_term}
 use Rattle.widl_idl.specs.WrittenTypes.{meaning_of_annotated}
 use Rattle.widl_names.specs.Extents.{outline}
 use Rattle.widl_overload.specs.rules.MemberRules.{is_promise}
-use Rattle.widl_overload.specs.rules.TypeRules.{is_unit_string}
+use Rattle.widl_idl.specs.StringTypes.{is_unit_string}
 use Rattle.widl_member_rules.proofs.Outlines.{promise_outline, string_outline}
 use Rattle.widl_member_rules.proofs.member_types.own_type.Goals as goal
 

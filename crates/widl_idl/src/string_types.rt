@@ -2,9 +2,10 @@
 
 ghost use Rattle.std.specs.Prelude.{◌≡◌};
 ghost use Rattle.widl_idl.specs.Terms.{type_term};
-ghost use Rattle.widl_overload.specs.rules.TypeRules.{is_unit_string};
+ghost use Rattle.widl_idl.specs.StringTypes.{is_unit_string};
 
-use widl_idl::{IdlType, TextKind};
+use crate::text_kind::TextKind;
+use crate::types::IdlType;
 
 /// Whether a type is one of the string types DOMString and USVString.
 pub fn is_unit_string(t: &IdlType) -> bool
