@@ -23,6 +23,7 @@ use Rattle.widl_steps.specs.BuiltCalls.{calls_built_today}
 use Rattle.widl_steps.specs.CallRules.{call_rule}
 use Rattle.widl_steps.specs.CallTasks.{CallTask, Of, Function, Lines, CallTalk, NamedValues}
 use Rattle.widl_steps.specs.DefaultResults.{default_result}
+use Rattle.widl_steps.specs.Nullables.{inner_type}
 use Rattle.widl_steps.specs.ObjectFunctions.{by_kind, with_tag}
 use Rattle.widl_steps.specs.Operations.{StepsOf, chosen, result, result_type}
 use Rattle.widl_steps.specs.StepLines.{line}
@@ -54,7 +55,7 @@ abbrev pub call_job_of : DefsTerm → StepsOf → CallJob → CallTask
 call_job_of list steps (jobs.Function f what this args construct) = Function f what this args.values construct
 call_job_of list steps (jobs.Resolve callee args) = Of (Resolve callee args.values)
 call_job_of list steps (jobs.Lines o read) = Lines (type_for list o) (named_terms read) (lines_in list steps o)
-call_job_of list steps (jobs.OfUndefined o) = Of (Convert (type_for list o) values.Undefined)
+call_job_of list steps (jobs.OfUndefined o) = Of (Convert (inner_type (type_for list o)) values.Undefined)
 call_job_of list steps (jobs.Out o value) = Of (Out (type_for list o) (idl_term value))
 call_job_of list steps (jobs.ToLength v) = Of (Scalar wants.Length v)
 
@@ -129,14 +130,14 @@ function_load list (builtins.Pairs iface what) args = 0
 
 -- a dictionary that is made from undefined
 abbrev pub default_load : DefsTerm → Overload → ℕ
-default_load list o = 1 + inner_load (load list (Convert (type_for list o) values.Undefined))
+default_load list o = 1 + inner_load (load list (Convert (inner_type (type_for list o)) values.Undefined))
 
 -- what a task does before a charge
 abbrev pub job_load : DefsTerm → CallJob → ℕ
 job_load list (jobs.Function f what this args construct) = function_load list what args.values
 job_load list (jobs.Resolve callee args) = inner_load (load list (Resolve callee args.values))
 job_load list (jobs.Lines o read) = default_load list o
-job_load list (jobs.OfUndefined o) = inner_load (load list (Convert (type_for list o) values.Undefined))
+job_load list (jobs.OfUndefined o) = inner_load (load list (Convert (inner_type (type_for list o)) values.Undefined))
 job_load list (jobs.Out o value) = inner_load (load list (Out (type_for list o) (idl_term value)))
 job_load list (jobs.ToLength v) = inner_load (load list (Scalar wants.Length v))
 

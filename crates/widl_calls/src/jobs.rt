@@ -37,7 +37,8 @@ pub enum CallJob {
         /// The value of the argument that they read.
         read: Option<Box<NamedValue>>,
     },
-    /// `undefined` to an IDL value of the type of an overload's result.
+    /// `undefined` to an IDL value of the type of an overload's result, or of the inner one where that is
+    /// nullable.
     OfUndefined(Overload),
     /// The result of an overload to a value of the script.
     Out {

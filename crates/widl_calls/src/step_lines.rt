@@ -249,7 +249,8 @@ fn argument_value(value: IdlValue) -> CallMove
     }
 }
 
-/// The end with the value of a literal of the result's type; `{}` is what `undefined` is converted to.
+/// The end with the value of a literal of the result's type; `{}` is the dictionary that `undefined` is
+/// converted to.
 ///
 /// # Errors
 ///

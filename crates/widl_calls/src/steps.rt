@@ -26,7 +26,7 @@ use crate::overload::Overload;
 use crate::step_lines::{first_line, lines};
 use crate::waits::CallWait;
 use std::alloc::{AllocError, Global};
-use widl_convert::{Asker, Ending};
+use widl_convert::{Asker, Ending, inner_type};
 use widl_idl::{Callee, IdlType};
 use widl_script_tree::Script;
 use widl_steps::{Answer, Want};
@@ -81,7 +81,8 @@ fn resolve(
     begins(alloc, tables, Asker::start_resolve(alloc, callee, values)?)
 }
 
-/// The conversion of `undefined` to the type of an overload's result begins.
+/// The conversion of `undefined` to the type of an overload's result begins, or to the inner one where that
+/// is nullable.
 ///
 /// # Errors
 ///
@@ -95,7 +96,7 @@ fn of_undefined(alloc: Global, tables: &Tables, overload: Overload) -> Result<Ca
         Some(ty) => begins(
             alloc,
             tables,
-            Asker::start_convert(alloc, ty, Value::Undefined)?,
+            Asker::start_convert(alloc, inner_type(ty), Value::Undefined)?,
         ),
     }
 }

@@ -19,6 +19,7 @@ use crate::frames::{Frame, IdlFrame};
 use crate::jobs::{ArgumentPlace, Beginning, Job};
 use crate::literals::literal_value as literal_of;
 use crate::moves::{Ending, Move};
+use crate::nullable::inner_type;
 use crate::outcome::Outcome;
 use crate::resolution::Resolution;
 use std::alloc::{AllocError, Global};
@@ -132,8 +133,8 @@ pub(crate) fn default_of(
     }
 }
 
-/// The move to the IDL value that a literal is in a type that it fits; `{}` is what `undefined` is
-/// converted to.
+/// The move to the IDL value that a literal is in a type that it fits; `{}` is the dictionary that
+/// `undefined` is converted to, also where the type is that dictionary's nullable one.
 ///
 /// # Errors
 ///
@@ -151,7 +152,7 @@ fn with_literal(
     match literal_of(alloc, tables, ty, literal)? {
         Some(value) => Ok(gives(value)),
         None => Ok(Move::Goes(Job::Convert {
-            ty: ty.copy(alloc)?,
+            ty: inner_type(ty).copy(alloc)?,
             value: Value::Undefined,
         })),
     }

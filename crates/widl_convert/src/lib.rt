@@ -44,6 +44,7 @@ pub use asker::Asker;
 pub use literals::literal_value;
 pub use members_left::requires_member;
 pub use moves::Ending;
+pub use nullable::inner_type;
 pub use outcome::{Next, Outcome};
 pub use served::is_served;
 pub use widl_steps::{Answer, Ask, CursorState, KindName, ScriptEntries, Want};

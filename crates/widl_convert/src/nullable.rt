@@ -5,6 +5,7 @@ ghost use Rattle.widl_idl.specs.DefinitionTerms.{DefsTerm};
 ghost use Rattle.widl_idl.specs.Terms.{type_term};
 ghost use Rattle.widl_value.specs.IdlTerms.{NullValue};
 ghost use Rattle.widl_steps.specs.Built.{is_built_type};
+ghost use Rattle.widl_steps.specs.Nullables.{inner_type};
 ghost use Rattle.widl_steps.specs.Words.{gives, not_built};
 ghost use Rattle.widl_convert.specs.Frames.{move_dialog};
 ghost use Rattle.widl_convert.specs.Loads.{weight};
@@ -13,6 +14,16 @@ use crate::convert::{gives, not_built};
 use crate::moves::Move;
 use widl_idl::IdlType;
 use widl_value::IdlValue;
+
+/// The inner type of a nullable type; any other type itself.
+pub fn inner_type(ty: &IdlType) -> &IdlType
+    ensures { type_term result.now ≡ inner_type (type_term ty.now) }
+{
+    match ty {
+        IdlType::Nullable(inner) => inner,
+        _ => ty,
+    }
+}
 
 /// The end with null as a value of a nullable type, by its inner type (Web IDL, "Nullable types").
 pub(crate) fn null_of(inner: &IdlType) -> Move

@@ -47,7 +47,7 @@ use Rattle.widl_steps.specs.Defaults.{default, literal_value, defaults_from}
 use Rattle.widl_steps.specs.Dictionaries.{with_value, undefined_member, member_value, member, members, to_dictionary}
 use Rattle.widl_steps.specs.Laws.{Said, FaultsEnd}
 use Rattle.widl_tables.specs.MemberOrder.{DeclaredMember, members_in_order}
-use Rattle.widl_steps.specs.Nullables.{to_nullable}
+use Rattle.widl_steps.specs.Nullables.{inner_type, to_nullable}
 use Rattle.widl_steps.specs.Primitives.{tried, found_ordinary, try_method, ordinary, primitive_result, found_method, object_to_primitive, to_primitive}
 use Rattle.widl_steps.specs.Records.{is_enumerable, flags_in, keys_in, key_value, named, with_entry, entry_value, own_entry, entries, to_record}
 use Rattle.widl_steps.specs.Resolution.{with_entries, argument_task, argument, without_method, looked_for, sequence_given, from_method, probed, picked, arguments}
@@ -324,7 +324,7 @@ module _ (built : Built) (list : DefsTerm) where
   pass_literal t (literals.Int n) = pass_end _
   pass_literal t (literals.Text units) = pass_end _
   pass_literal t literals.EmptyList = pass_end _
-  pass_literal t literals.EmptyDict = pass_on (Convert t values.Undefined)
+  pass_literal t literals.EmptyDict = pass_on (Convert (inner_type t) values.Undefined)
 
   pass_default : (t : TypeTerm) (l : Option Literal) → Is (default list t l)
   pass_default t None = pass_end _

@@ -62,7 +62,7 @@ use Rattle.widl_steps.specs.Defaults.{default, literal_value, defaults_from}
 use Rattle.widl_steps.specs.Dictionaries.{with_value, undefined_member, member_value, member, members, to_dictionary}
 use Rattle.widl_steps.specs.Laws.{AsksAreTalked, ChainsEnd}
 use Rattle.widl_tables.specs.MemberOrder.{DeclaredMember, members_in_order}
-use Rattle.widl_steps.specs.Nullables.{to_nullable}
+use Rattle.widl_steps.specs.Nullables.{inner_type, to_nullable}
 use Rattle.widl_steps.specs.Primitives.{tried, found_ordinary, try_method, ordinary, primitive_result, found_method, object_to_primitive, to_primitive}
 use Rattle.widl_steps.specs.Resolution.{with_entries, default_at, takes_default, argument_task, argument, without_method, looked_for, sequence_given, from_method, probed, picked, of_several}
 use Rattle.widl_steps.specs.Records.{is_enumerable, flags_in, keys_in, key_value, with_entry, entry_value, own_entry, entries, to_record}
@@ -388,34 +388,38 @@ module _ (built : Built) (list : DefsTerm) (chains_end : ChainsEnd built list) w
 
   -- 2.6 Default values and the members of dictionaries
 
-  fine_literal : (t : TypeTerm) (l : Literal) → Converts t → Is (literal_value list t l)
-  fine_literal t literals.Null all = an_end _
-  fine_literal t literals.Undefined all = an_end _
-  fine_literal t (literals.Bool b) all = an_end _
-  fine_literal t (literals.Int n) all = an_end _
-  fine_literal t (literals.Text units) all = an_end _
-  fine_literal t literals.EmptyList all = an_end _
-  fine_literal t literals.EmptyDict all = goes (Convert t values.Undefined) (all values.Undefined)
+  converts_inner : (t : TypeTerm) → AreMade t → Converts (inner_type t)
+  converts_inner (NullableType t) made = converts t made
+  converts_inner t made = converts t made
 
-  fine_undefined_member : (n : ℕ) (o : Option ObjRef) (m : DeclaredMember) (left : List DeclaredMember) (made : List (ℕ × ℕ × IdlTerm)) (l : Option Literal) → Converts m.member.ty → ((made : List (ℕ × ℕ × IdlTerm)) → Finishes steps Fits (steps (Members n o left made))) → Is (undefined_member n o m left made l)
+  fine_literal : (t : TypeTerm) (l : Literal) → AreMade t → Is (literal_value list t l)
+  fine_literal t literals.Null made = an_end _
+  fine_literal t literals.Undefined made = an_end _
+  fine_literal t (literals.Bool b) made = an_end _
+  fine_literal t (literals.Int n) made = an_end _
+  fine_literal t (literals.Text units) made = an_end _
+  fine_literal t literals.EmptyList made = an_end _
+  fine_literal t literals.EmptyDict made = goes (Convert (inner_type t) values.Undefined) (converts_inner t made values.Undefined)
+
+  fine_undefined_member : (n : ℕ) (o : Option ObjRef) (m : DeclaredMember) (left : List DeclaredMember) (made : List (ℕ × ℕ × IdlTerm)) (l : Option Literal) → AreMade m.member.ty → ((made : List (ℕ × ℕ × IdlTerm)) → Finishes steps Fits (steps (Members n o left made))) → Is (undefined_member n o m left made l)
   fine_undefined_member n o m left made (Some l) all later =
       through (Default m.member.ty (Some l)) _ (fine_literal m.member.ty l all).ends (fine_given steps _ (λ w. goes (Members n o left (with_value m w made)) (later (with_value m w made))))
   fine_undefined_member n o m left made None all later = fine_if steps m.member.needed _ _ (an_end _) (goes (Members n o left made) (later made))
 
-  fine_member_value : (n : ℕ) (o : Option ObjRef) (m : DeclaredMember) (left : List DeclaredMember) (made : List (ℕ × ℕ × IdlTerm)) → Converts m.member.ty → ((made : List (ℕ × ℕ × IdlTerm)) → Finishes steps Fits (steps (Members n o left made))) → (v : Value) → Is (member_value n o m left made v)
+  fine_member_value : (n : ℕ) (o : Option ObjRef) (m : DeclaredMember) (left : List DeclaredMember) (made : List (ℕ × ℕ × IdlTerm)) → AreMade m.member.ty → ((made : List (ℕ × ℕ × IdlTerm)) → Finishes steps Fits (steps (Members n o left made))) → (v : Value) → Is (member_value n o m left made v)
   fine_member_value n o m left made all later values.Undefined = fine_undefined_member n o m left made m.member.value all later
-  fine_member_value n o m left made all later values.Null = through (Convert m.member.ty _) _ (all _) (fine_given steps _ (λ w. goes (Members n o left (with_value m w made)) (later (with_value m w made))))
-  fine_member_value n o m left made all later (values.Bool b) = through (Convert m.member.ty _) _ (all _) (fine_given steps _ (λ w. goes (Members n o left (with_value m w made)) (later (with_value m w made))))
-  fine_member_value n o m left made all later (values.Num i) = through (Convert m.member.ty _) _ (all _) (fine_given steps _ (λ w. goes (Members n o left (with_value m w made)) (later (with_value m w made))))
-  fine_member_value n o m left made all later (values.Str units) = through (Convert m.member.ty _) _ (all _) (fine_given steps _ (λ w. goes (Members n o left (with_value m w made)) (later (with_value m w made))))
-  fine_member_value n o m left made all later (values.Sym i) = through (Convert m.member.ty _) _ (all _) (fine_given steps _ (λ w. goes (Members n o left (with_value m w made)) (later (with_value m w made))))
-  fine_member_value n o m left made all later (values.Obj p) = through (Convert m.member.ty _) _ (all _) (fine_given steps _ (λ w. goes (Members n o left (with_value m w made)) (later (with_value m w made))))
+  fine_member_value n o m left made all later values.Null = through (Convert m.member.ty _) _ (converts m.member.ty all _) (fine_given steps _ (λ w. goes (Members n o left (with_value m w made)) (later (with_value m w made))))
+  fine_member_value n o m left made all later (values.Bool b) = through (Convert m.member.ty _) _ (converts m.member.ty all _) (fine_given steps _ (λ w. goes (Members n o left (with_value m w made)) (later (with_value m w made))))
+  fine_member_value n o m left made all later (values.Num i) = through (Convert m.member.ty _) _ (converts m.member.ty all _) (fine_given steps _ (λ w. goes (Members n o left (with_value m w made)) (later (with_value m w made))))
+  fine_member_value n o m left made all later (values.Str units) = through (Convert m.member.ty _) _ (converts m.member.ty all _) (fine_given steps _ (λ w. goes (Members n o left (with_value m w made)) (later (with_value m w made))))
+  fine_member_value n o m left made all later (values.Sym i) = through (Convert m.member.ty _) _ (converts m.member.ty all _) (fine_given steps _ (λ w. goes (Members n o left (with_value m w made)) (later (with_value m w made))))
+  fine_member_value n o m left made all later (values.Obj p) = through (Convert m.member.ty _) _ (converts m.member.ty all _) (fine_given steps _ (λ w. goes (Members n o left (with_value m w made)) (later (with_value m w made))))
 
-  fine_one_member : (n : ℕ) (o : Option ObjRef) (m : DeclaredMember) (left : List DeclaredMember) (made : List (ℕ × ℕ × IdlTerm)) → Converts m.member.ty → ((made : List (ℕ × ℕ × IdlTerm)) → Finishes steps Fits (steps (Members n o left made))) → Is (member n o m left made)
+  fine_one_member : (n : ℕ) (o : Option ObjRef) (m : DeclaredMember) (left : List DeclaredMember) (made : List (ℕ × ℕ × IdlTerm)) → AreMade m.member.ty → ((made : List (ℕ × ℕ × IdlTerm)) → Finishes steps Fits (steps (Members n o left made))) → Is (member n o m left made)
   fine_one_member n (Some o) m left made all later = fine_ask steps _ (member_value n (Some o) m left made) tt (fine_member_value n (Some o) m left made all later)
   fine_one_member n None m left made all later = fine_say steps Fits UnitAsk _ DoneAnswer tt (λ a f. fine_member_value n None m left made all later values.Undefined)
 
-  fine_members : (n : ℕ) (o : Option ObjRef) (left : List DeclaredMember) → AllByRecursion (λ (m : DeclaredMember). Converts m.member.ty) left → (made : List (ℕ × ℕ × IdlTerm)) → Is (steps (Members n o left made))
+  fine_members : (n : ℕ) (o : Option ObjRef) (left : List DeclaredMember) → AllByRecursion (λ (m : DeclaredMember). AreMade m.member.ty) left → (made : List (ℕ × ℕ × IdlTerm)) → Is (steps (Members n o left made))
   fine_members n o [] all made = fine_if steps (built.to_type (DictionaryType n)) _ _ (an_end _) (an_end _)
   fine_members n o (m ∷ left) all made =
       fine_if steps (built.to_type (DictionaryType n)) _ _ (fine_one_member n o m left made all.0 (λ more. (fine_members n o left all.1 more).ends)) (an_end _)
@@ -425,7 +429,7 @@ module _ (built : Built) (list : DefsTerm) (chains_end : ChainsEnd built list) w
   made_below zero n none made = absurd (none 1 (omega arith) alone_in_chain)
   made_below (suc count) n none made =
       (fine_members n None (members_in_order list n)
-      (all_weaker (λ (m : DeclaredMember) (holds : HeldBy list.dicts n m). converts m.member.ty (λ k inside. made_below count k (λ c e chain. none (c + 1) (omega (arith, e)) (after (holds k inside) chain)))) (members_in_order list n) (all_held list n)) made).ends
+      (all_weaker (λ (m : DeclaredMember) (holds : HeldBy list.dicts n m). λ k inside. made_below count k (λ c e chain. none (c + 1) (omega (arith, e)) (after (holds k inside) chain))) (members_in_order list n) (all_held list n)) made).ends
 
   is_made : (n : ℕ) → IsMade n
   is_made n made = by_built (built.to_type (DictionaryType n)) refl
@@ -434,12 +438,15 @@ module _ (built : Built) (list : DefsTerm) (chains_end : ChainsEnd built list) w
       by_built true e = made_below most_chained_dictionaries n (λ c is chain. chains_end n e (subst (λ (x : ℕ). BeginsChain list.dicts x n) is chain)) made
       by_built false e = subst (λ (b : Bool). Finishes steps Fits (if b then members n None (members_in_order list n) made else not_built)) (sym e) (an_end _).ends
 
-  all_convert : (t : TypeTerm) → Converts t
-  all_convert t = converts t (λ n inside. is_made n)
+  all_made : (t : TypeTerm) → AreMade t
+  all_made t n inside = is_made n
 
-  all_members_convert : (left : List DeclaredMember) → AllByRecursion (λ (m : DeclaredMember). Converts m.member.ty) left
-  all_members_convert [] = tt
-  all_members_convert (m ∷ left) = (all_convert m.member.ty, all_members_convert left)
+  all_convert : (t : TypeTerm) → Converts t
+  all_convert t = converts t (all_made t)
+
+  all_members_made : (left : List DeclaredMember) → AllByRecursion (λ (m : DeclaredMember). AreMade m.member.ty) left
+  all_members_made [] = tt
+  all_members_made (m ∷ left) = (all_made m.member.ty, all_members_made left)
 
   -- 2.7 Records
 
@@ -539,7 +546,7 @@ module _ (built : Built) (list : DefsTerm) (chains_end : ChainsEnd built list) w
 
   fine_default : (t : TypeTerm) (l : Option Literal) → Is (default list t l)
   fine_default t None = an_end _
-  fine_default t (Some l) = fine_literal t l (all_convert t)
+  fine_default t (Some l) = fine_literal t l (all_made t)
 
   fine_defaults_from : (c : Callee) (e : ℕ) (made : List IdlTerm) (a : Option ArgTerm) → ((w : IdlTerm) → Finishes steps Fits (steps (Defaults c e (made ++ w ∷ [])))) → Is (defaults_from c e made a)
   fine_defaults_from c e made None later = an_end _
@@ -667,7 +674,7 @@ module _ (built : Built) (list : DefsTerm) (chains_end : ChainsEnd built list) w
   fine_rule (SequenceFrom t o method) = fine_sequence_from t o method
   fine_rule (Turns t iterator next made) = fine_turns t iterator next made
   fine_rule (Entries key t o left made) = fine_entries key t o left made
-  fine_rule (Members n o left made) = fine_members n o left (all_members_convert left) made
+  fine_rule (Members n o left made) = fine_members n o left (all_members_made left) made
   fine_rule (Resolve c args) = fine_kept c _ _
   fine_rule (Arguments c entries d left made) = fine_arguments c entries d left made
   fine_rule (Default t l) = fine_default t l

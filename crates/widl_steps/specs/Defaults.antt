@@ -14,6 +14,7 @@ use Rattle.widl_overload.specs.sets.Sets.{is_variadic}
 use Rattle.widl_value.specs.declared.value.Value.TheVariants as values
 use Rattle.widl_value.specs.IdlTerms.{IdlTerm, NullValue, MissingValue, BooleanValue, IntegerValue, StringValue, EnumerationValue, AnyValue, SequenceValue, no_values}
 use Rattle.widl_scalar.specs.Enumerations.{value_place}
+use Rattle.widl_steps.specs.Nullables.{inner_type}
 use Rattle.widl_steps.specs.Tasks.{Convert, Default, Defaults, Picks, Talk, TaskEnd}
 use Rattle.widl_steps.specs.Words.{gives, given}
 
@@ -40,7 +41,7 @@ value_of_text list n text = EnumerationValue n (option_map_or (λ (place : ℕ).
 abbrev pub text_of : DefsTerm → TypeTerm → List ℕ → IdlTerm
 text_of list t text = option_map_or (λ (n : ℕ). value_of_text list n text) (enumeration_among (flattened_member t)) (StringValue text)
 
--- `{}` is the dictionary that undefined is converted to
+-- `{}` is the dictionary that undefined is converted to, also where the type is that dictionary's nullable one
 abbrev pub literal_value : DefsTerm → TypeTerm → Literal → Talk
 literal_value list t literals.Null = gives (null_of t)
 literal_value list t literals.Undefined = gives (AnyValue values.Undefined)
@@ -48,7 +49,7 @@ literal_value list t (literals.Bool b) = gives (BooleanValue b)
 literal_value list t (literals.Int n) = gives (IntegerValue n)
 literal_value list t (literals.Text text) = gives (text_of list t text)
 literal_value list t literals.EmptyList = gives (SequenceValue no_values)
-literal_value list t literals.EmptyDict = Steps (Convert t values.Undefined) End
+literal_value list t literals.EmptyDict = Steps (Convert (inner_type t) values.Undefined) End
 
 -- without a default value it is missing
 abbrev pub default : DefsTerm → TypeTerm → Option Literal → Talk

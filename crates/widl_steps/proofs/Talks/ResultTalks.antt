@@ -7,10 +7,10 @@ use Rattle.widl_idl.specs.declared.literal.Literal.TheVariants as literals
 use Rattle.widl_idl.specs.declared.text_kind.TextKind.TheVariants as texts
 use Rattle.widl_idl.specs.Terms.{packed, AnyType, UndefinedType, BooleanType, IntegerType, StringType, EnumerationType, DictionaryType, ObjectType, SequenceType, PromiseType, NullableType, UnionType}
 use Rattle.widl_value.specs.declared.value.Value.TheVariants as values
-use Rattle.widl_value.specs.IdlTerms.{UndefinedValue, NullValue, MissingValue, BooleanValue, StringValue, EnumerationValue, ObjectValue, AnyValue, SequenceValue, DictionaryValue, PromiseValue, no_values, no_members}
+use Rattle.widl_value.specs.IdlTerms.{UndefinedValue, NullValue, MissingValue, BooleanValue, StringValue, EnumerationValue, ObjectValue, AnyValue, SequenceValue, DictionaryValue, PromiseValue, no_values, no_members, packed_members}
 use Rattle.widl_value.specs.Rounding.{near_of, step_of}
 use Rattle.widl_steps.specs.Tasks.{Out, Default, Gives, Plain, Profile}
-use Rattle.widl_steps.proofs.Worked.{number, integer, plain, nothing_defined, with_values, Says}
+use Rattle.widl_steps.proofs.Worked.{number, integer, plain, takes_unit, derived, nothing_defined, with_values, Says}
 
 -- to script
 number_is_nearest : Says nothing_defined (Out (IntegerType ULongLong Wrap) (integer 18446744073709551615)) [] (Ends (Plain (number 18446744073709551616)))
@@ -72,6 +72,9 @@ undefined_of_any = (10, refl)
 empty_sequence : Says nothing_defined (Default (SequenceType AnyType) (Some literals.EmptyList)) [] (Ends (Gives (SequenceValue no_values)))
 empty_sequence = (10, refl)
 
--- `{}` is the dictionary that undefined is converted to
+-- `{}` is the dictionary that undefined is converted to, also where null is a value of the type
 empty_dictionary : Says nothing_defined (Default (DictionaryType 0) (Some literals.EmptyDict)) [] (Ends (Gives (DictionaryValue 0 no_members)))
 empty_dictionary = (10, refl)
+
+dictionary_of_nullable : Says derived (Default (NullableType (DictionaryType 1)) (Some literals.EmptyDict)) (takes_unit ∷ takes_unit ∷ takes_unit ∷ []) (Ends (Gives (DictionaryValue 1 (packed_members ((0, 0, integer 1) ∷ (1, 0, integer 9) ∷ [])))))
+dictionary_of_nullable = (60, (refl, tt, (refl, tt, (refl, tt, refl))))
