@@ -1,6 +1,5 @@
 -- For proofs alone. All that the first store holds is live.
 use Rattle.std.proofs.Common.{◌≡◌, ℕ, ◌+◌, List, [], ◌∷◌, ◌++◌, Option, Some, length, map, refl, sym, ap, ◌∙◌, arith, append_assoc, length-append}
-use Rattle.std.proofs.lemmas.Bool.{cond_both}
 use Rattle.std.specs.Prelude.{slice_get}
 use Rattle.std.specs.Option.{option_map}
 use Rattle.std.proofs.lemmas.List.{map-append, length-map}
@@ -10,9 +9,8 @@ use Rattle.widl_value.specs.declared.object.Shape.{Shape}
 use Rattle.widl_value.specs.declared.object.Shape.TheVariants.{Callable}
 use Rattle.widl_store.specs.declared.property.Prop.{Prop}
 use Rattle.widl_store.specs.Effects.{first_props}
-use Rattle.widl_store.specs.Inners.{InnerTerm, is_array}
 use Rattle.widl_store.specs.Intrinsics.{intrinsics}
-use Rattle.widl_store.specs.Objects.{Obj, IsLive, with_prop, length_key, length_prop, function_object}
+use Rattle.widl_store.specs.Objects.{Obj, IsLive, with_prop, function_object}
 use Rattle.widl_store.specs.Plans.{Plan, tag, with_entries, object_of}
 use Rattle.widl_store.specs.Realm.{operation_function, functions_from, operations_from, namespace_object, namespace_plans, namespaces_from, after, realm_plans, realm_over, realm_of}
 use Rattle.widl_store.proofs.LiveHomes.{homes_live}

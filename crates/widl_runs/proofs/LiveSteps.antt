@@ -330,7 +330,7 @@ module _ (p : Program) (runnable : IsRunnable p.script) (objects : List Obj) (fi
   safe_performs (DeleteT m) h = safe_member ForDelete m tt h
   safe_performs (TryT body name handler) h = (h.0, safe_caught name handler h.1)
   safe_performs (IfT left right met unmet) h = (h.0, λ c x. safe_value _ (λ v l. (h.1, λ d y. safe_value _ (λ w m. safe_chooses (same_value v w) met unmet h.2 h.3) d y)) c x)
-  safe_performs (FunctionT number name params body) h = (tt, λ r x. (((first FunctionPrototype, h), tt, tt, tt, tt), λ s y. (y.0.object, λ t z. tt)))
+  safe_performs (FunctionT number name params body) h = (tt, λ r x. (((first FunctionPrototype, h), (tt, (tt, (tt, tt)))), λ s y. (y.0.object, λ t z. tt)))
   safe_performs (StepsT target lines) h = tt
 
   safe_paid : (s : StatementTree) → HasFunction (length p.script.functions) s → IsSafe (Say Pay (λ r. performs s))
@@ -397,7 +397,7 @@ module _ (p : Program) (runnable : IsRunnable p.script) (objects : List Obj) (fi
   safe (ConstructValue f args) l = safe_construct f args l
   safe (Talk task) l = safe_in_world p objects (call_rule calls_built_today p.list (lines_of p.list p.script) task) (safe_call_task p.list (lines_of p.list p.script) plain_steps objects task l)
   safe (Asked ask) l = safe_ask ask l
-  safe (Fail why) l = (tt, λ r x. (((first TypeErrorPrototype, tt), tt, tt), λ s y. (tt, λ t z. y.0.object)))
+  safe (Fail why) l = (tt, λ r x. (((first TypeErrorPrototype, tt), (tt, tt)), λ s y. (tt, λ t z. y.0.object)))
 
   pub safe_whole : IsSafe (whole p)
   safe_whole = (runnable.top, λ c l. (tt, λ r x. l))

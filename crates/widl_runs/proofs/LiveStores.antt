@@ -9,9 +9,8 @@ use Rattle.widl_text.specs.declared.key.Key.{Key}
 use Rattle.widl_value.specs.declared.object.ObjRef.{ObjRef}
 use Rattle.widl_value.specs.declared.value.Value.{Value}
 use Rattle.widl_store.specs.declared.property.Prop.{Prop}
-use Rattle.widl_store.specs.declared.property.Prop.TheVariants as props
 use Rattle.widl_store.specs.Inners.{InnerTerm, is_array}
-use Rattle.widl_store.specs.Objects.{Obj, IsLive, own_at, same_key, prop_at, replaced, with_prop, is_other, without_prop, all_flags, length_key, length_prop}
+use Rattle.widl_store.specs.Objects.{Obj, IsLive, own_at, same_key, prop_at, replaced, with_prop, is_other, without_prop, length_key, length_prop}
 use Rattle.widl_store.specs.Effects.{with_props, changed, is_above, raised_from, raised, placed, plain_with, put_in, defined, deleted, first_props, new_object, added, with_inner, with_part}
 use Rattle.widl_store.specs.Found.{own_or, first_along, found_at}
 use Rattle.widl_store.specs.Plans.{Plan}

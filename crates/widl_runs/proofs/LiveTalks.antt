@@ -1,5 +1,5 @@
 -- For proofs alone. Conversations hold live references alone, where their tasks and all answers do.
-use Rattle.std.proofs.Common.{ℕ, zero, suc, ℤ, ◌^◌, Bool, true, false, List, [], ◌∷◌, ◌++◌, Option, Some, None, length, arith, if◌then◌else◌}
+use Rattle.std.proofs.Common.{refl, ℕ, zero, suc, ℤ, ◌^◌, Bool, true, false, List, [], ◌∷◌, ◌++◌, Option, Some, None, length, arith, if◌then◌else◌}
 use Rattle.std.proofs.lemmas.Bool.{cond_both}
 use Rattle.std.specs.Prelude.{◌&&◌, All, IfSome, bytes_eq, codes, decimal, nat_abs, nat_eq, nat_le, nat_lt, slice_get, take}
 use Rattle.std.specs.Map.{lookup}
@@ -70,7 +70,7 @@ use Rattle.widl_steps.specs.Scalars.{convert, convert_plain, enumeration_result,
 use Rattle.widl_steps.specs.Sequences.{element, element_of, element_within, found_iterator_method, sequence_from, to_sequence, told_done, turn_given, turns, with_next}
 use Rattle.widl_steps.specs.Tasks.{Task, Primitive, Scalar, Convert, SequenceFrom, Turns, Entries, Members, Resolve, Arguments, Default, Defaults, Out, OutItems, OutUnits, Container, ArrayOf, ObjectOf, TaskEnd, Gives, Plain, Picks, Throw, Rethrow, Profile, Talk as TaskTalk}
 use Rattle.widl_steps.specs.Unions.{member_from, member_picked, member_probed, to_member, to_union, without_iterator}
-use Rattle.widl_steps.specs.Words.{fails, gives, normal, not_built, number, object, returns, text}
+use Rattle.widl_steps.specs.Words.{fails, gives, normal, not_built, number, returns, text}
 use Rattle.widl_steps.specs.ArrayFunctions.{array_iterator_next, array_values, by_cursor, by_turn, cursor_in, element_read, ends_iterator, given_in_turn, iterator_result, length_read, read_in_turn, with_length}
 use Rattle.widl_steps.specs.BuiltCalls.{calls_built_today, is_built_function}
 use Rattle.widl_steps.specs.CallRules.{call_rule, function, intrinsic}

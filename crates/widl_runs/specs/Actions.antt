@@ -167,7 +167,7 @@ item_properties index (item ∷ items) = (keys.Name (decimal index), props.Plain
 abbrev pub data_properties : List (Key × Value) → List (Key × Prop)
 data_properties entries = map (λ (entry : Key × Value). (entry.0, props.Plain entry.1 all_flags)) entries
 
--- what a conversation asks for, and an array that a script writes
+-- what conversations ask for, and the arrays of a script: the prototype, the inner part, the properties
 abbrev pub prototype_of : NewTerm → Prototype
 prototype_of (NewArray items) = ArrayPrototype
 prototype_of (NewObject entries) = ObjectPrototype

@@ -1,5 +1,5 @@
 -- Worked conversations with everything built: the functions of arrays and array iterators, and default results.
-use Rattle.std.specs.Prelude.{◌≡◌, ℕ, [], ◌∷◌, ◌++◌, None, Some, Bool, true, false, codes, refl}
+use Rattle.std.specs.Prelude.{◌≡◌, ℕ, [], ◌∷◌, None, Some, Bool, true, false, codes, refl}
 use Rattle.std.specs.Fmt.{digits}
 use Rattle.widl_dialog.specs.Conversation.{Asks, Ends, Next}
 use Rattle.widl_dialog.proofs.Nexts.{one_next}
