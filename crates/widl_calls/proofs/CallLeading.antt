@@ -7,7 +7,8 @@ use Rattle.widl_idl.specs.DefinitionTerms.{DefsTerm}
 use Rattle.widl_value.specs.declared.object.ObjRef.{ObjRef}
 use Rattle.widl_value.specs.declared.value.Value.{Value}
 use Rattle.widl_store.specs.declared.inner.Builtin.{Builtin}
-use Rattle.widl_steps.specs.AskTerms.{Fits, IsFree, OfKind}
+use Rattle.widl_steps.specs.declared.ask.Look.TheVariants as looks
+use Rattle.widl_steps.specs.AskTerms.{Fits, IsFree, OfLook}
 use Rattle.widl_steps.specs.BuiltCalls.{calls_built_today}
 use Rattle.widl_steps.specs.CallRules.{call_rule}
 use Rattle.widl_steps.specs.CallTasks.{Function}
@@ -23,7 +24,7 @@ function_leads list steps f what this args construct (Ok m) x = here (call_rule 
 function_leads list steps f what this args construct (Err e) x = tt
 
 -- after the kind of an object nothing is left
-pub none_left : (list : DefsTerm) (r : Result CallMove AllocError) → IfOk r (λ m. (list : DefsTerm) → call_weight list m ≡ 0) → IfOk r (λ m. IsFree OfKind → call_weight list m < 1)
+pub none_left : (list : DefsTerm) (r : Result CallMove AllocError) → IfOk r (λ m. (list : DefsTerm) → call_weight list m ≡ 0) → IfOk r (λ m. IsFree (OfLook looks.Kind) → call_weight list m < 1)
 none_left list (Ok m) x = λ free. omega (arith, x list)
 none_left list (Err e) x = tt
 

@@ -2,8 +2,10 @@
 use Rattle.std.specs.Prelude.{ℕ, ◌+◌, true, false, codes}
 use Rattle.widl_dialog.specs.Dialog.{End, Say}
 use Rattle.widl_text.specs.declared.key.Key.TheVariants as keys
+use Rattle.widl_value.specs.declared.object.Shape.TheVariants as shapes
 use Rattle.widl_value.specs.declared.value.Value.TheVariants as values
-use Rattle.widl_steps.specs.AskTerms.{AskKind, OfGet, OfNewObject, OfNewArrayIterator, OfCursor, OfSetCursor, GetAsk, AnswerTerm}
+use Rattle.widl_steps.specs.declared.ask.Look.TheVariants as looks
+use Rattle.widl_steps.specs.AskTerms.{AskKind, OfGet, OfLook, OfNew, OfChange, GetAsk, AnswerTerm}
 use Rattle.widl_steps.specs.Words.{done, normal, returns}
 use Rattle.widl_steps.specs.ArrayFunctions.{by_cursor, cursor_in, element_read, iterator_result, length_read, read_in_turn}
 use Rattle.widl_steps.specs.CallTasks.{CallTalk}
@@ -14,15 +16,15 @@ use Rattle.widl_calls.specs.declared.array_turns.ArrayWait.{ArrayWait}
 use Rattle.widl_calls.specs.declared.array_turns.ArrayWait.TheVariants as waits
 
 abbrev pub array_kind_for : ArrayWait → AskKind
-array_kind_for waits.NewIterator = OfNewArrayIterator
-array_kind_for (waits.Cursor iterator) = OfCursor
-array_kind_for (waits.Begun t) = OfSetCursor
+array_kind_for waits.NewIterator = OfNew shapes.Plain
+array_kind_for (waits.Cursor iterator) = OfLook looks.Cursor
+array_kind_for (waits.Begun t) = OfChange
 array_kind_for (waits.Length t) = OfGet
 array_kind_for (waits.Element t) = OfGet
-array_kind_for (waits.Given v) = OfSetCursor
-array_kind_for waits.AtEnd = OfSetCursor
-array_kind_for (waits.Threw r) = OfSetCursor
-array_kind_for waits.NewResult = OfNewObject
+array_kind_for (waits.Given v) = OfChange
+array_kind_for waits.AtEnd = OfChange
+array_kind_for (waits.Threw r) = OfChange
+array_kind_for waits.NewResult = OfNew shapes.Plain
 
 -- a turn reads the length first
 abbrev pub with_turn : ArrayTurn → CallTalk

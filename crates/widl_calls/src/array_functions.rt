@@ -5,7 +5,7 @@ ghost use Rattle.widl_dialog.specs.Dialog.{End, Say};
 ghost use Rattle.widl_text.specs.declared.key.Key.TheVariants.{Name};
 ghost use Rattle.widl_idl.specs.DefinitionTerms.{DefsTerm};
 ghost use Rattle.widl_steps.specs.Operations.{StepsOf};
-ghost use Rattle.widl_steps.specs.AskTerms.{IsFree, OfSetCursor, SetCursorAsk, answer_term, ask_term, kind_of};
+ghost use Rattle.widl_steps.specs.AskTerms.{ChangeAsk, IsFree, OfChange, SetCursor, answer_term, ask_term, kind_of};
 ghost use Rattle.widl_steps.specs.Words.{normal, returns};
 ghost use Rattle.widl_steps.specs.ArrayFunctions.{array_iterator_next, array_values, by_cursor, by_turn, cursor_in, element_read, ends_iterator, iterator_result, length_read, read_in_turn, with_length};
 ghost use Rattle.widl_convert.specs.Frames.{end_of};
@@ -164,8 +164,8 @@ fn by_turn(alloc: Global, turn: ArrayTurn, state: Turn) -> Result<CallMove, Allo
 
 /// Sets how far an iterator has come.
 fn sets(iterator: ObjRef, next: u64, turn: Turn, wait: ArrayWait) -> CallMove
-    requires { array_kind_for wait ≡ OfSetCursor }
-    ensures dialog { (list : DefsTerm) (steps : StepsOf) → call_dialog list steps result ≡ Say (SetCursorAsk iterator next turn) (array_after wait) }
+    requires { array_kind_for wait ≡ OfChange }
+    ensures dialog { (list : DefsTerm) (steps : StepsOf) → call_dialog list steps result ≡ Say (ChangeAsk iterator (SetCursor next turn)) (array_after wait) }
     ensures weight { (list : DefsTerm) → call_weight list result ≡ array_patience wait }
 {
     let ask = Ask::SetCursor {

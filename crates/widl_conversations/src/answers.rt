@@ -1,14 +1,12 @@
 //! What asks come to.
 //!
-//! An answer is a value, `throws` and a value, or what `replies.rt` says of the other asks. A unit is taken, an event is
-//! told and an iterator is set without one.
+//! Answers stand in a row with semicolons between; `asks.rt` says what is answered to each ask.
 
 ghost use Rattle.std.specs.Prelude.{IfOk, IfSome};
-ghost use Rattle.widl_steps.specs.AskTerms.{Fits, IsCompletion, answer_term, ask_term};
+ghost use Rattle.widl_steps.specs.AskTerms.{Fits, answer_term, ask_term};
 
+use crate::asks::{answer_to, is_done_at_once};
 use crate::fault::Fault;
-use crate::replies::{cursor_of, flags_of, keys_of, kind_of, new_object_of};
-use crate::values::value_of;
 use crate::words::Told;
 use std::alloc::Global;
 use widl_convert::{Answer, Ask, Next};
@@ -63,59 +61,7 @@ impl<'a> Answers<'a> {
     }
 }
 
-/// Whether rows have no answer to an ask.
-fn is_done_at_once(ask: &Ask) -> bool {
-    match ask {
-        Ask::Unit => true,
-        Ask::Note(_) => true,
-        Ask::SetCursor {
-            obj: _,
-            next: _,
-            turn: _,
-        } => true,
-        _ => false,
-    }
-}
-
-/// The answer to an ask that a text says.
-fn answer_to(alloc: Global, ask: &Ask, text: &str) -> Result<Answer, Fault>
-    ensures { IfOk result (λ answer. Fits (ask_term ask.now) (answer_term answer)) }
-{
-    match ask {
-        Ask::Get { obj: _, key: _ } => completion_of(alloc, text),
-        Ask::Call {
-            f: _,
-            this: _,
-            args: _,
-        } => completion_of(alloc, text),
-        Ask::Kind(_) => Ok(Answer::Kind(kind_of(text)?)),
-        Ask::OwnKeys(_) => Ok(Answer::Keys(keys_of(alloc, text)?)),
-        Ask::Own { obj: _, key: _ } => Ok(Answer::Own(flags_of(text)?)),
-        Ask::NewArray(_) => new_object_of(text),
-        Ask::NewObject(_) => new_object_of(text),
-        Ask::NewArrayIterator(_) => new_object_of(text),
-        Ask::Cursor(_) => Ok(Answer::Cursor(cursor_of(text)?)),
-        Ask::Unit => Ok(Answer::Done),
-        Ask::Note(_) => Ok(Answer::Done),
-        Ask::SetCursor {
-            obj: _,
-            next: _,
-            turn: _,
-        } => Ok(Answer::Done),
-    }
-}
-
 /// Tells how a conversation ends.
 pub fn tell_end(end: &Next, told: &mut String) -> Result<(), Fault> {
     Ok(write!(told, "{}", Told(end))?)
-}
-
-/// The value that a read or a call gives or throws.
-fn completion_of(alloc: Global, text: &str) -> Result<Answer, Fault>
-    ensures { IfOk result (λ answer. IsCompletion (answer_term answer)) }
-{
-    match text.strip_prefix("throws ") {
-        Some(value) => Ok(Answer::Thrown(value_of(alloc, value)?)),
-        None => Ok(Answer::Normal(value_of(alloc, text)?)),
-    }
 }

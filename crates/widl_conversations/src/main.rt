@@ -9,6 +9,7 @@
 
 mod answers;
 mod asker;
+mod asks;
 mod calls;
 mod fault;
 mod idl;
@@ -16,7 +17,6 @@ mod literals;
 mod many;
 mod page;
 mod repeats;
-mod replies;
 mod rows;
 mod steps;
 mod task;

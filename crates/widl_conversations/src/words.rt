@@ -1,7 +1,7 @@
-//! How values, asks and ends are told.
+//! How values and ends are told.
 
 use std::fmt::{self, Display};
-use widl_convert::{Ask, Next, Outcome, ScriptEntries};
+use widl_convert::{Next, Outcome, ScriptEntries};
 use widl_text::{Key, Units};
 use widl_trace::Event;
 use widl_value::{IdlEntries, IdlMembers, IdlValue, IdlValues, Number, ObjRef, Value, Values};
@@ -111,29 +111,6 @@ impl fmt::Display for Told<'_, ScriptEntries> {
             write!(f, " {} = {}", Told(key), Told(value))?;
         }
         Ok(())
-    }
-}
-
-impl fmt::Display for Told<'_, Ask> {
-    fn fmt<W: fmt::Write>(&self, f: &mut fmt::Formatter<W>) -> fmt::Result {
-        match self.0 {
-            Ask::Get { obj, key } => write!(f, "get {} {}", obj.id, Told(key)),
-            Ask::Call {
-                f: function,
-                this,
-                args,
-            } => { write!(f, "call {} on {}{}", function.id, Told(this), Told(args)) }
-            Ask::Kind(obj) => write!(f, "kind {}", obj.id),
-            Ask::Unit => f.write_str("unit"),
-            Ask::Note(event) => Told(event).fmt(f),
-            Ask::OwnKeys(obj) => write!(f, "keys {}", obj.id),
-            Ask::Own { obj, key } => write!(f, "own {} {}", obj.id, Told(key)),
-            Ask::NewArray(values) => write!(f, "array{}", Told(values)),
-            Ask::NewObject(entries) => write!(f, "object{}", Told(entries)),
-            Ask::NewArrayIterator(obj) => write!(f, "iterator {}", obj.id),
-            Ask::Cursor(obj) => write!(f, "cursor {}", obj.id),
-            Ask::SetCursor { obj, next, turn } => { write!(f, "set {} at {next} {turn:?}", obj.id) }
-        }
     }
 }
 

@@ -1,5 +1,6 @@
 -- For proofs and contracts alone; no step names these words. The kind of the ask whose answer a suspended conversation waits for.
-use Rattle.widl_steps.specs.AskTerms.{AskKind, OfGet, OfCall, OfOwnKeys, OfOwn, OfUnit, OfNewArray, OfNewObject}
+use Rattle.widl_value.specs.declared.object.Shape.TheVariants as shapes
+use Rattle.widl_steps.specs.AskTerms.{AskKind, OfGet, OfCall, OfOwnKeys, OfOwn, OfUnit, OfNew}
 use Rattle.widl_convert.specs.declared.primitive.PrimitiveWait.{PrimitiveWait}
 use Rattle.widl_convert.specs.declared.primitive.PrimitiveWait.TheVariants.{Method, MethodResult, Ordinary, OrdinaryResult}
 use Rattle.widl_convert.specs.declared.sequence.SequenceWait.{SequenceWait}
@@ -30,8 +31,8 @@ kind_for_value (values.Sequence w) = kind_for_sequence w
 kind_for_value (values.Property p) = OfGet
 kind_for_value (values.Member w) = OfGet
 kind_for_value (values.UnionProbe p) = OfGet
-kind_for_value values.NewArray = OfNewArray
-kind_for_value values.NewObject = OfNewObject
+kind_for_value values.NewArray = OfNew shapes.Plain
+kind_for_value values.NewObject = OfNew shapes.Plain
 
 abbrev pub kind_for : Wait → AskKind
 kind_for (waits.Value w) = kind_for_value w

@@ -11,7 +11,7 @@ use Rattle.widl_runs.specs.declared.stop.Stop.TheVariants as stops
 use Rattle.widl_runs.specs.Actions.{Reply, IsDone, IsObject, TestDepth, act}
 use Rattle.widl_engine.specs.declared.due.Due.TheVariants as due
 use Rattle.widl_engine.specs.declared.due.Made.{Made}
-use Rattle.widl_engine.specs.declared.due.New.{New}
+use Rattle.widl_engine.specs.declared.due.NewObject.{NewObject}
 use Rattle.widl_engine.specs.Added.{IsAdded}
 use Rattle.widl_engine.specs.Frames.{new_of, after_add}
 use Rattle.widl_runs.specs.Jobs.{Program}
@@ -54,7 +54,7 @@ room s x c n here size =
 pub has_depth : (s : Tables) (t : StoreState) (x : Place) (p : Program) (b : Bool) (k : ℕ) (ls : List EventTerm) → nat_lt (length (contexts_in s x)) most_open_calls ≡ b → act p.list TestDepth (world_of s t x k ls) ≡ (let d : Done = if b then Went (world_of s t x k ls) IsDone else Stops stops.Depth in d)
 has_depth s t x p b k ls is = ap (λ (c : Bool). let d : Done = if c then Went (world_of s t x k ls) IsDone else Stops stops.Depth in d) is
 
-pub added_performed : (p : Program) (s : Tables) (t u : StoreState) (x : Place) (new : New) (what : Made) (object : ObjRef) (next : Move) → IsAdded t u object (new_of s new) → move_of p s next ≡ after_add s what (IsObject object) → Performed p s (due.Add new what) t x u x next
+pub added_performed : (p : Program) (s : Tables) (t u : StoreState) (x : Place) (new : NewObject) (what : Made) (object : ObjRef) (next : Move) → IsAdded t u object (new_of s new) → move_of p s next ≡ after_add s what (IsObject object) → Performed p s (due.Add new what) t x u x next
 added_performed p s t u x new what object next is goes =
     let store = sym is.store in
     let reference = sym is.reference in

@@ -11,8 +11,8 @@ use Rattle.widl_runs.specs.Jobs.{Program, Doing}
 use Rattle.widl_runs.specs.Worlds.{World}
 use Rattle.widl_engine.specs.declared.due.Due.{Due}
 use Rattle.widl_engine.specs.declared.due.Due.TheVariants as due
-use Rattle.widl_engine.specs.declared.due.New.{New}
-use Rattle.widl_engine.specs.declared.due.New.TheVariants as new
+use Rattle.widl_engine.specs.declared.due.NewObject.{NewObject}
+use Rattle.widl_engine.specs.declared.due.NewObject.TheVariants as new
 use Rattle.widl_engine.specs.declared.machine.Machine.{Machine}
 use Rattle.widl_engine.specs.declared.moves.Move.{Move}
 use Rattle.widl_engine.specs.declared.moves.Move.TheVariants as move
@@ -57,13 +57,11 @@ unfolding script_tree
 functions_in s = length-map s.functions (function_tree s)
 
 module _ (set : MergedSet) (s : Tables) (objects : List Obj) where
-  can_be_added : (n : New) → CanBeMade (program_of set s) objects (new_of s n) → CanBeAdded s objects n
-  can_be_added (new.Ordinary proto) x = x
-  can_be_added (new.Function number) x = subst (λ (k : ℕ). number < k) (functions_in s) x
-  can_be_added (new.Array items) x = x
-  can_be_added new.Error x = x
-  can_be_added (new.Entries entries) x = x
-  can_be_added (new.ArrayIterator object) x = x
+  can_be_added : (n : NewObject) → CanBeMade (program_of set s) objects (new_of s n) → CanBeAdded s objects n
+  can_be_added (new.Ordinary proto) x = x.0
+  can_be_added (new.Function number) x = subst (λ (k : ℕ). number < k) (functions_in s) x.1
+  can_be_added new.Error x = tt
+  can_be_added (new.Asked what) x = tt
 
 module _ (set : MergedSet) (s : Tables) where
   -- what the action of a place asks for, the due action asks for
@@ -89,9 +87,8 @@ module _ (set : MergedSet) (s : Tables) where
       at (due.Delete object key) y = y
       at (due.FindKeys object) y = y
       at (due.FindOwn object key) y = y
-      at (due.FindKind object) y = y
-      at (due.FindCursor object) y = y
-      at (due.MoveCursor object next turn) y = y
+      at (due.Look object what) y = y
+      at (due.Change object change) y = y
       at (due.Reach end) y = tt
 
   pub fits_move : (t : StoreState) (m : Machine) (current : Move) (d : Due) → current ≡ move.Acts d → MachineFits (program_of set s) s t (moves_on (program_of set s) s current m) m → Fits s t.objects m.place.next_symbol d

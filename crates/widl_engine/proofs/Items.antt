@@ -9,7 +9,7 @@ use Rattle.widl_store.specs.declared.property.Prop.{Prop}
 use Rattle.widl_store.specs.declared.property.Prop.TheVariants.{Plain}
 use Rattle.widl_store.specs.Effects.{with_props, placed, defined}
 use Rattle.widl_store.specs.Objects.{Obj, StoreState, with_objects, IsLive, all_flags}
-use Rattle.widl_runs.specs.Actions.{data_properties, with_items, with_properties}
+use Rattle.widl_runs.specs.Actions.{data_properties, item_properties, with_properties}
 use Rattle.widl_engine.proofs.TakenBack.{rest_of_taken}
 
 same_shape : (objects : List Obj) (id k : ℕ) (o x : Obj) → slice_get objects id ≡ Some o → x.shape ≡ o.shape → option_map (λ (q : Obj). q.shape) (slice_get (slice_set objects id x) k) ≡ option_map (λ (q : Obj). q.shape) (slice_get objects k)
@@ -26,11 +26,11 @@ live_changed objects id f r (Some o) at live = same_shape objects id r.id o (wit
 pub live_defined : (objects now : List Obj) (id : ℕ) (key : Key) (prop : Prop) (r : ObjRef) → now ≡ defined objects id key prop → IsLive objects r → IsLive now r
 live_defined objects now id key prop r is live = ap (λ (l : List Obj). option_map (λ (q : Obj). q.shape) (slice_get l r.id)) is ∙ live_changed objects id (λ o. placed o key prop) r (slice_get objects id) refl live
 
-pub next_item : (t u : StoreState) (id k : ℕ) (items more : List Value) (key : Key) (v new : Value) → k < length items → slice_get items k ≡ Some v → more ≡ slice_set items k new → key ≡ Name (decimal k) → u ≡ with_objects t (defined t.objects id key (Plain v all_flags)) → with_objects u (with_items u.objects id (k + 1) (drop (k + 1) more)) ≡ with_objects t (with_items t.objects id k (drop k items))
+pub next_item : (t u : StoreState) (id k : ℕ) (items more : List Value) (key : Key) (v new : Value) → k < length items → slice_get items k ≡ Some v → more ≡ slice_set items k new → key ≡ Name (decimal k) → u ≡ with_objects t (defined t.objects id key (Plain v all_flags)) → with_objects u (with_properties u.objects id (item_properties (k + 1) (drop (k + 1) more))) ≡ with_objects t (with_properties t.objects id (item_properties k (drop k items)))
 next_item t u id k items more key v new within at put is_key is =
-    ap (λ (z : StoreState). with_objects z (with_items z.objects id (k + 1) (drop (k + 1) more))) is
-    ∙ ap (λ (q : Key). with_objects t (with_items (defined t.objects id q (Plain v all_flags)) id (k + 1) (drop (k + 1) more))) is_key
-    ∙ ap (λ (vs : List Value). with_objects t (with_items t.objects id k vs)) (sym (rest_of_taken items more k v new within at put))
+    ap (λ (z : StoreState). with_objects z (with_properties z.objects id (item_properties (k + 1) (drop (k + 1) more)))) is
+    ∙ ap (λ (q : Key). with_objects t (with_properties (defined t.objects id q (Plain v all_flags)) id (item_properties (k + 1) (drop (k + 1) more)))) is_key
+    ∙ ap (λ (vs : List Value). with_objects t (with_properties t.objects id (item_properties k vs))) (sym (rest_of_taken items more k v new within at put))
 
 pub next_entry : (t u : StoreState) (id k : ℕ) (entries more : List (Key × Value)) (entry new : Key × Value) → k < length entries → slice_get entries k ≡ Some entry → more ≡ slice_set entries k new → u ≡ with_objects t (defined t.objects id entry.0 (Plain entry.1 all_flags)) → with_objects u (with_properties u.objects id (data_properties (drop (k + 1) more))) ≡ with_objects t (with_properties t.objects id (data_properties (drop k entries)))
 next_entry t u id k entries more entry new within at put is =

@@ -15,7 +15,7 @@ pub mod Measuring
 pub mod Beginning
 pub mod Talking
 pub mod Items
-pub mod IteratorMoves
+pub mod PartChanges
 pub mod KeysFound
 pub mod PaidSteps
 pub mod RunnableTables

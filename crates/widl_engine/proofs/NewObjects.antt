@@ -15,7 +15,7 @@ use Rattle.widl_store.specs.declared.property.Prop.TheVariants.{Plain}
 use Rattle.widl_store.specs.Effects.{is_fixed, is_fixed_in, define_of, defined, changed, with_props, placed, added, new_object}
 use Rattle.widl_store.specs.Inners.{ScriptPart}
 use Rattle.widl_store.specs.Objects.{Obj, StoreState, with_objects, own_at, prop_at, length_key, IsLive, function_object}
-use Rattle.widl_runs.specs.Actions.{ScriptFunction, with_new, function_prototype}
+use Rattle.widl_runs.specs.Actions.{FunctionPrototype, prototype, script_function, with_new}
 use Rattle.widl_store.specs.Plans.{fixed_flags}
 
 last_get : {X : Type 0} (xs : List X) (x : X) → slice_get (xs ++ x ∷ []) (length xs) ≡ Some x
@@ -34,7 +34,7 @@ free_last objects o key fixed own =
     ∙ (λ i. define_of (fixed i) (own i))
 
 abbrev new_function : ℕ → Obj
-new_function number = new_object (Some function_prototype) shapes.Callable (ScriptPart number)
+new_function number = new_object (Some (prototype FunctionPrototype)) shapes.Callable (ScriptPart number)
 
 pub function_free : (objects now : List Obj) (id number : ℕ) (key : Key) → now ≡ objects ++ new_function number ∷ [] → id ≡ length objects → define_of (is_fixed now id key) (own_at now id key) ≡ Ok tt
 function_free objects now id number key is at = (λ i. define_of (is_fixed (is i) (at i) key) (own_at (is i) (at i) key)) ∙ free_last objects (new_function number) key refl refl
@@ -64,10 +64,10 @@ function_free_again objects now id number first second prop is at length_text na
 abbrev defined_in : StoreState → ℕ → Key → Prop → StoreState
 defined_in t id key prop = with_objects t (defined t.objects id key prop)
 
-pub function_added : (old first second third : StoreState) (id number : ℕ) (t1 t2 name text : Text) (n : Number) (count : ℕ) → first ≡ with_objects old (added old.objects (Some function_prototype) shapes.Callable (ScriptPart number)) → second ≡ defined_in first id (Name t1) (Plain (values.Num n) fixed_flags) → third ≡ defined_in second id (Name t2) (Plain (values.Str text) fixed_flags) → id ≡ length old.objects → t1 ≡ codes "length" → t2 ≡ codes "name" → text ≡ name → n ≡ Whole (pos count) → third ≡ with_objects old (with_new old.objects (ScriptFunction number name count))
+pub function_added : (old first second third : StoreState) (id number : ℕ) (t1 t2 name text : Text) (n : Number) (count : ℕ) → first ≡ with_objects old (added old.objects (Some (prototype FunctionPrototype)) shapes.Callable (ScriptPart number)) → second ≡ defined_in first id (Name t1) (Plain (values.Num n) fixed_flags) → third ≡ defined_in second id (Name t2) (Plain (values.Str text) fixed_flags) → id ≡ length old.objects → t1 ≡ codes "length" → t2 ≡ codes "name" → text ≡ name → n ≡ Whole (pos count) → third ≡ with_objects old (with_new old.objects (script_function number name count))
 unfolding length_key
 function_added old first second third id number t1 t2 name text n count a b c at l1 l2 same many =
-    let start : StoreState = with_objects old (added old.objects (Some function_prototype) shapes.Callable (ScriptPart number)) in
+    let start : StoreState = with_objects old (added old.objects (Some (prototype FunctionPrototype)) shapes.Callable (ScriptPart number)) in
     c
     ∙ ap (λ (t : StoreState). defined_in t id (Name t2) (Plain (values.Str text) fixed_flags)) (b ∙ ap (λ (t : StoreState). defined_in t id (Name t1) (Plain (values.Num n) fixed_flags)) a)
     ∙ (λ i. defined_in (defined_in start (at i) (Name (l1 i)) (Plain (values.Num (many i)) fixed_flags)) (at i) (Name (l2 i)) (Plain (values.Str (same i)) fixed_flags))

@@ -8,16 +8,11 @@ use Rattle.widl_dialog.specs.Position.{At}
 use Rattle.widl_dialog.proofs.Lifting.{at_lift}
 use Rattle.widl_idl.specs.MergedSets.{MergedSet}
 use Rattle.widl_script_tree.specs.Tables.{Tables, script_tree}
-use Rattle.widl_steps.specs.AskTerms.{AskKind, OfGet, OfCall, OfKind, OfUnit, OfNote, OfOwnKeys, OfOwn, OfNewArray, OfNewObject, OfNewArrayIterator, OfCursor, OfSetCursor, AnswerTerm, Fits, IsCompletion, IsWanted, ask_term}
+use Rattle.widl_steps.specs.AskTerms.{AskKind, OfGet, OfCall, OfUnit, OfNote, OfOwnKeys, OfOwn, OfLook, OfNew, OfChange, AnswerTerm, Fits, IsCompletion, IsWanted, ask_term}
 use Rattle.widl_steps.specs.Tasks.{Throw, Rethrow, Profile}
 use Rattle.widl_convert.specs.declared.outcome.Next.{Next}
 use Rattle.widl_convert.specs.declared.outcome.Next.TheVariants as next
 use Rattle.widl_convert.specs.Frames.{outcome_end}
-use Rattle.widl_value.specs.declared.object.ObjRef.{ObjRef}
-use Rattle.widl_value.specs.declared.object.Shape.{Shape}
-use Rattle.widl_value.specs.declared.object.Shape.TheVariants as shapes
-use Rattle.widl_value.specs.declared.value.Value.{Value}
-use Rattle.widl_value.specs.declared.value.Value.TheVariants as values
 use Rattle.widl_steps.specs.BuiltCalls.{calls_built_today}
 use Rattle.widl_steps.specs.CallRules.{call_rule}
 use Rattle.widl_steps.specs.CallTasks.{CallTalk}
@@ -31,9 +26,10 @@ use Rattle.widl_calls.specs.Frames.{CallLeads}
 use Rattle.widl_calls.specs.Stack.{CallAwaits, CallExpects, CallResumes, call_pending, call_rest, call_waiting}
 use Rattle.widl_calls.specs.Waits.{call_kind_for}
 use Rattle.widl_runs.specs.Asks.{in_world, ways}
-use Rattle.widl_runs.specs.Ends.{JobEnd, Normal, Returned, Thrown, Talked, Seen, answer_by, completion_answer, new_object_in, object_in, plain_in}
+use Rattle.widl_runs.specs.Ends.{JobEnd, Normal, Returned, Thrown, Talked, Seen, answer_by, completion_answer, seen_in}
 use Rattle.widl_runs.specs.Jobs.{Program, Doing}
 use Rattle.widl_runs.specs.Rules.{rule}
+use Rattle.widl_runs.proofs.LiveParts.{shows_look}
 use Rattle.widl_engine.specs.Conversing.{IsNextMove, IsWaiting}
 use Rattle.widl_engine.specs.declared.moves.Move.{Move}
 use Rattle.widl_engine.specs.Frames.{LeadsTo, Wants, list_of, move_of, program_of}
@@ -48,40 +44,16 @@ fits_completion (Thrown v) = tt
 fits_completion (Talked end) = tt
 fits_completion (Seen answer) = tt
 
-plain_shape : (o : ObjRef) (s : Shape) → o.shape ≡ s → (plain_in o s).shape ≡ shapes.Plain
-plain_shape o shapes.Plain is = is
-plain_shape o shapes.Callable is = refl
-plain_shape o (shapes.Platform iface) is = refl
-
-object_shape : (v : Value) → (object_in v).shape ≡ shapes.Plain
-object_shape values.Undefined = refl
-object_shape values.Null = refl
-object_shape (values.Bool b) = refl
-object_shape (values.Num x) = refl
-object_shape (values.Str text) = refl
-object_shape (values.Sym id) = refl
-object_shape (values.Obj o) = plain_shape o o.shape refl
-
-new_shape : (e : JobEnd) → (new_object_in e).shape ≡ shapes.Plain
-new_shape (Normal v) = object_shape v
-new_shape (Returned v) = refl
-new_shape (Thrown v) = refl
-new_shape (Talked end) = refl
-new_shape (Seen answer) = refl
-
 fits : (kind : AskKind) (e : JobEnd) → IsWanted kind (answer_by kind e)
 fits OfGet e = fits_completion e
 fits OfCall e = fits_completion e
-fits OfKind e = tt
 fits OfUnit e = tt
 fits OfNote e = tt
 fits OfOwnKeys e = tt
 fits OfOwn e = tt
-fits OfNewArray e = new_shape e
-fits OfNewObject e = new_shape e
-fits OfNewArrayIterator e = new_shape e
-fits OfCursor e = tt
-fits OfSetCursor e = tt
+fits (OfLook what) e = shows_look what (seen_in e)
+fits (OfNew shape) e = refl
+fits OfChange e = tt
 
 awaits : (state : CallState) (kind : AskKind) (a : AnswerTerm) → call_waiting state ≡ Some kind → IsWanted kind a → CallAwaits state a
 awaits (Begins j) kind a is x = absurd (cc)

@@ -10,8 +10,8 @@ use Rattle.widl_trace.specs.declared.event.Event.{Event}
 use Rattle.widl_trace.specs.declared.event.Event.TheVariants as events
 use Rattle.widl_trace.specs.EventTerms.{event_term}
 use Rattle.widl_dialog.specs.Position.{At}
-use Rattle.widl_steps.specs.AskTerms.{ask_term}
-use Rattle.widl_steps.specs.AskTerms.{answer_term}
+use Rattle.widl_store.specs.Plans.{Plan}
+use Rattle.widl_steps.specs.AskTerms.{answer_term, ask_term, change_term, new_term}
 use Rattle.widl_steps.specs.CallTasks.{Function}
 use Rattle.widl_steps.specs.Operations.{lines_of}
 use Rattle.widl_convert.specs.Frames.{end_of}
@@ -19,7 +19,7 @@ use Rattle.widl_calls.specs.Stack.{call_rest}
 use Rattle.widl_runs.specs.Ends.{JobEnd, Normal, Returned, Thrown, Talked, Seen, answer_by}
 use Rattle.widl_runs.specs.Asks.{in_world, sees}
 use Rattle.widl_runs.specs.Worlds.{function_context, builtin_context}
-use Rattle.widl_runs.specs.Actions.{NewObject, Ordinary, ScriptFunction, ArrayOf, TypeErrorObject, ObjectOf, ArrayIteratorOf, Body, ScriptBody, BuiltinBody, NoBody, Action, Pay, Write, TestDepth, Enter, Leave, FindBody, ReadThis, ReadName, BindName, TakeSymbol, AddObject, FindProperty, PutProperty, DefineProperty, DeleteProperty, FindKeys, FindOwn, FindInner, MoveCursor, Reach, Reply, kind_seen, cursor_seen, keys_seen, own_seen}
+use Rattle.widl_runs.specs.Actions.{ordinary, script_function, type_error, plan_of, Body, ScriptBody, BuiltinBody, NoBody, Action, Pay, Write, TestDepth, Enter, Leave, FindBody, ReadThis, ReadName, BindName, TakeSymbol, AddObject, FindProperty, PutProperty, DefineProperty, DeleteProperty, FindKeys, FindOwn, FindInner, ChangePart, Reach, Reply, sight_seen, keys_seen, own_seen}
 use Rattle.widl_runs.specs.Jobs.{Program, KeyPart, Named, Computed, MemberUse, ForRead, ForCall, ForSet, ForDefine, ForAccessor, ForDelete, RowUse, ForArguments, ForNew, ForItems, Job, RunStatements, RunStatement, Evaluate, EvaluateRow, ReadMember, SetMember, DefineMember, DefineAccessor, DeleteMember, CallValue, ConstructValue, Talk, Asked, Fail, Doing, nothing, value, drops, gives, reaches, not_yet_end}
 use Rattle.widl_runs.specs.Errors.{new_error, made_error}
 use Rattle.widl_runs.specs.Calls.{called, talked, function_in, begins_function, begins_builtin, body, call_line, found_body, new_line, found_constructor}
@@ -43,8 +43,8 @@ use Rattle.widl_engine.specs.declared.jobs.Job as jobs
 use Rattle.widl_engine.specs.declared.jobs.Job.TheVariants as job
 use Rattle.widl_engine.specs.declared.due.Body as bodies
 use Rattle.widl_engine.specs.declared.due.Body.TheVariants as body_code
-use Rattle.widl_engine.specs.declared.due.New.{New}
-use Rattle.widl_engine.specs.declared.due.New.TheVariants as new
+use Rattle.widl_engine.specs.declared.due.NewObject.{NewObject}
+use Rattle.widl_engine.specs.declared.due.NewObject.TheVariants as new
 use Rattle.widl_engine.specs.declared.due.Made.{Made}
 use Rattle.widl_engine.specs.declared.due.Made.TheVariants as made
 use Rattle.widl_engine.specs.declared.due.Then.{Then}
@@ -133,12 +133,10 @@ parameters_of s number = length (map (name_at s) (function_at s number).params)
 abbrev pub after_unit : Tables → units.Unit → Doing
 after_unit s (unit.Statement place) = performs (statement_tree s place)
 after_unit s unit.Symbol = takes_symbol
-after_unit s (unit.Object proto) = adds (Ordinary proto)
-after_unit s (unit.Array vs) = adds (ArrayOf vs)
+after_unit s (unit.Object proto) = adds (ordinary proto)
 after_unit s (unit.Function number) = new_function number (name_at s (function_at s number).name) (parameters_of s number)
 after_unit s unit.Asked = nothing
-after_unit s (unit.Entries entries) = adds (ObjectOf entries)
-after_unit s (unit.ArrayIterator object) = adds (ArrayIteratorOf object)
+after_unit s (unit.New what) = adds (plan_of (new_term what))
 after_unit s (unit.Fail code) = new_error code
 
 -- what a call does after its line; no other line comes before it
@@ -201,13 +199,11 @@ after_charge p s (charge.Line e then) = after_line p s e then
 
 -- 4. What comes after any other action
 
-abbrev pub new_of : Tables → New → NewObject
-new_of s (new.Ordinary proto) = Ordinary proto
-new_of s (new.Function number) = ScriptFunction number (name_at s (function_at s number).name) (parameters_of s number)
-new_of s (new.Array items) = ArrayOf items
-new_of s new.Error = TypeErrorObject
-new_of s (new.Entries entries) = ObjectOf entries
-new_of s (new.ArrayIterator object) = ArrayIteratorOf object
+abbrev pub new_of : Tables → NewObject → Plan
+new_of s (new.Ordinary proto) = ordinary proto
+new_of s (new.Function number) = script_function number (name_at s (function_at s number).name) (parameters_of s number)
+new_of s new.Error = type_error
+new_of s (new.Asked what) = plan_of (new_term what)
 
 abbrev pub act_of : Program → Tables → Due → Action
 act_of p s (due.Depth f this args b) = TestDepth
@@ -228,9 +224,8 @@ act_of p s (due.Define object key prop) = DefineProperty object key prop
 act_of p s (due.Delete object key) = DeleteProperty object key
 act_of p s (due.FindKeys object) = FindKeys object
 act_of p s (due.FindOwn object key) = FindOwn object key
-act_of p s (due.FindKind object) = FindInner object
-act_of p s (due.FindCursor object) = FindInner object
-act_of p s (due.MoveCursor object next turn) = MoveCursor object next turn
+act_of p s (due.Look object what) = FindInner object
+act_of p s (due.Change object change) = ChangePart object (change_term change)
 act_of p s (due.Reach end) = Reach end
 
 abbrev pub after_add : Tables → Made → Reply → Doing
@@ -265,9 +260,8 @@ after p s (due.Define object key prop) = has_defined
 after p s (due.Delete object key) = has_deleted
 after p s (due.FindKeys object) = sees keys_seen
 after p s (due.FindOwn object key) = sees own_seen
-after p s (due.FindKind object) = sees kind_seen
-after p s (due.FindCursor object) = sees cursor_seen
-after p s (due.MoveCursor object next turn) = reached
+after p s (due.Look object what) = sees (sight_seen what)
+after p s (due.Change object change) = reached
 after p s (due.Reach end) = reached
 
 -- 5. What comes after the end of a job

@@ -5,14 +5,12 @@ ghost use Rattle.widl_dialog.specs.Dialog.{End, Steps};
 ghost use Rattle.widl_script_tree.specs.Tables.{Tables as ScriptTables};
 ghost use Rattle.widl_steps.specs.AskTerms.{answer_term, ask_term, kind_of as the_kind_of};
 ghost use Rattle.widl_steps.specs.Records.{flags_in as the_flags_in, keys_in as the_keys_in};
-ghost use Rattle.widl_steps.specs.ArrayFunctions.{cursor_in as the_cursor_in};
-ghost use Rattle.widl_steps.specs.ObjectFunctions.{kind_in as the_kind_in};
 ghost use Rattle.widl_steps.specs.CallTasks.{Function};
 ghost use Rattle.widl_steps.specs.Operations.{lines_of};
 ghost use Rattle.widl_convert.specs.Frames.{end_of};
 ghost use Rattle.widl_calls.specs.Stack.{CallExpects, call_pending, call_rest};
 ghost use Rattle.widl_runs.specs.Asks.{in_world};
-ghost use Rattle.widl_runs.specs.Ends.{JobEnd as Ended, Talked, answer_by, answer_of, completion_answer as the_completion_answer, new_object_in as the_new_object_in, plain_in as the_plain_in, seen_in as the_seen_in};
+ghost use Rattle.widl_runs.specs.Ends.{JobEnd as Ended, Talked, answer_by, answer_of, completion_answer as the_completion_answer, seen_in as the_seen_in, shaped_object as the_shaped_object};
 ghost use Rattle.widl_runs.specs.Jobs.{Asked, Program, Talk};
 ghost use Rattle.widl_runs.specs.Rules.{rule};
 ghost use Rattle.widl_engine.specs.AskKinds.{ask_kind_of};
@@ -20,38 +18,19 @@ ghost use Rattle.widl_engine.specs.Frames.{LeadsTo, back_to, job_end_of, job_of,
 ghost use Rattle.widl_engine.specs.Conversing.{IsNextMove, IsWaiting};
 ghost use Rattle.widl_engine.specs.ReadOver.{IsReadOver};
 
+use crate::asks::kind_of;
 use crate::ends::{Completion, JobEnd};
 use crate::frames::Frame;
 use crate::jobs::{BuiltinCall, Job};
+use crate::looks::sight_in;
 use crate::moves::Move;
-use crate::new_objects::OBJECT_PROTOTYPE;
 use crate::suspended::{AskKind, Suspended};
 use std::alloc::{AllocError, Global};
 use widl_calls::CallAsker;
-use widl_convert::{Answer, Ask, CursorState, Ending, KindName, Next};
+use widl_convert::{Answer, Ask, Ending, Next};
 use widl_script_tree::Script;
 use widl_tables::Tables;
 use widl_value::{Flags, Keys, ObjRef, Shape, Value};
-
-/// The kind of an ask.
-fn kind_of(ask: &Ask) -> AskKind
-    ensures { ask_kind_of result ≡ the_kind_of (ask_term ask.now) }
-{
-    match ask {
-        Ask::Get { .. } => AskKind::Get,
-        Ask::Call { .. } => AskKind::Call,
-        Ask::Kind(_) => AskKind::Kind,
-        Ask::Unit => AskKind::Unit,
-        Ask::Note(_) => AskKind::Note,
-        Ask::OwnKeys(_) => AskKind::OwnKeys,
-        Ask::Own { .. } => AskKind::Own,
-        Ask::NewArray(_) => AskKind::NewArray,
-        Ask::NewObject(_) => AskKind::NewObject,
-        Ask::NewArrayIterator(_) => AskKind::NewArrayIterator,
-        Ask::Cursor(_) => AskKind::Cursor,
-        Ask::SetCursor { .. } => AskKind::SetCursor,
-    }
-}
 
 /// The answer of a read or a call.
 fn completion_answer(end: JobEnd) -> Answer
@@ -79,16 +58,6 @@ fn seen_in(end: JobEnd) -> Answer
     }
 }
 
-/// The kind of an object in an answer.
-fn kind_in(answer: Answer) -> KindName
-    ensures { result ≡ the_kind_in (answer_term answer) }
-{
-    match answer {
-        Answer::Kind(kind) => kind,
-        _ => KindName::Other,
-    }
-}
-
 /// The keys in an answer.
 fn keys_in(alloc: Global, answer: Answer) -> Keys
     ensures { result ≡ the_keys_in (answer_term answer) }
@@ -109,34 +78,13 @@ fn flags_in(answer: Answer) -> Option<Flags>
     }
 }
 
-/// How far an iterator has come, in an answer.
-fn cursor_in(answer: Answer) -> Option<CursorState>
-    ensures { result ≡ the_cursor_in (answer_term answer) }
-{
-    match answer {
-        Answer::Cursor(state) => state,
-        _ => None,
-    }
-}
-
-/// The object, where it can't be called and is no platform object, as no new object is.
-fn plain_in(obj: ObjRef) -> ObjRef
-    ensures { result ≡ the_plain_in obj obj.shape }
-{
-    match obj.shape {
-        Shape::Plain => obj,
-        Shape::Callable => OBJECT_PROTOTYPE,
-        Shape::Platform(_) => OBJECT_PROTOTYPE,
-    }
-}
-
-/// The new object in the end of its making.
-fn new_object_in(end: JobEnd) -> ObjRef
-    ensures { result ≡ the_new_object_in (job_end_of end) }
+/// The new object in the end of its making, which has this shape.
+fn shaped_object(shape: Shape, end: JobEnd) -> ObjRef
+    ensures { result ≡ the_shaped_object shape (job_end_of end) }
 {
     match end {
-        JobEnd::Completed(Completion::Normal(Value::Obj(obj))) => plain_in(obj),
-        _ => OBJECT_PROTOTYPE,
+        JobEnd::Completed(Completion::Normal(Value::Obj(obj))) => ObjRef { id: obj.id, shape },
+        _ => ObjRef { id: 0, shape },
     }
 }
 
@@ -146,14 +94,11 @@ fn answer(alloc: Global, kind: AskKind, end: JobEnd) -> Answer
 {
     match kind {
         AskKind::Get | AskKind::Call => completion_answer(end),
-        AskKind::Kind => Answer::Kind(kind_in(seen_in(end))),
-        AskKind::Unit | AskKind::Note | AskKind::SetCursor => Answer::Done,
+        AskKind::Unit | AskKind::Note | AskKind::Change => Answer::Done,
         AskKind::OwnKeys => Answer::Keys(keys_in(alloc, seen_in(end))),
         AskKind::Own => Answer::Own(flags_in(seen_in(end))),
-        AskKind::NewArray | AskKind::NewObject | AskKind::NewArrayIterator => {
-            Answer::Normal(Value::Obj(new_object_in(end)))
-        }
-        AskKind::Cursor => Answer::Cursor(cursor_in(seen_in(end))),
+        AskKind::Look(what) => sight_in(what, seen_in(end)),
+        AskKind::New(shape) => Answer::Normal(Value::Obj(shaped_object(shape, end))),
     }
 }
 

@@ -4,7 +4,8 @@ ghost use Rattle.std.specs.Prelude.{◌≡◌, ◌<◌, ◌^◌, ◌-◌, IfOk, 
 ghost use Rattle.widl_text.specs.declared.key.Key.TheVariants.{Name};
 ghost use Rattle.widl_store.specs.Effects.{defined};
 ghost use Rattle.widl_store.specs.Objects.{IsLive, all_flags, with_objects};
-ghost use Rattle.widl_runs.specs.Actions.{ArrayOf};
+ghost use Rattle.widl_steps.specs.AskTerms.{NewArray};
+ghost use Rattle.widl_runs.specs.Actions.{plan_of};
 ghost use Rattle.widl_engine.specs.Added.{IsAdded};
 ghost use Rattle.widl_runs.specs.Fitting.{HasPrototypes};
 
@@ -63,7 +64,7 @@ pub(crate) fn add_array(
 ) -> Result<ObjRef, AllocError>
     requires small { length store.old.objects < 2 ^ 32 - 1 }
     requires prototypes { HasPrototypes store.old.objects }
-    ensures { IfOk result (λ o. IsAdded store.old store.new o (ArrayOf items)) }
+    ensures { IfOk result (λ o. IsAdded store.old store.new o (plan_of (NewArray items))) }
 {
     let mut items = items;
     let count = items.len();

@@ -2,9 +2,9 @@
 
 use crate::due::Body;
 use crate::ends::JobEnd;
-use widl_convert::ScriptEntries;
+use widl_steps::New;
 use widl_trace::{Code, Event};
-use widl_value::{ObjRef, Values};
+use widl_value::ObjRef;
 
 /// What a unit is paid for.
 #[derive(Drop)]
@@ -15,16 +15,12 @@ pub enum Unit {
     Symbol,
     /// A new ordinary object with this prototype.
     Object(Option<ObjRef>),
-    /// An array of these items.
-    Array(Values),
     /// The function of this number.
     Function(u32),
     /// What a conversation asks it for.
     Asked,
-    /// An object with these properties.
-    Entries(ScriptEntries),
-    /// An iterator over the elements of this object.
-    ArrayIterator(ObjRef),
+    /// What a conversation asks for, or an array of the script.
+    New(New),
     /// A TypeError with this code.
     Fail(Code),
 }

@@ -1,9 +1,9 @@
 //! Actions that take no unit.
 
 use crate::ends::Completion;
-use widl_convert::ScriptEntries;
 use widl_script_tree::Row;
-use widl_store::{Builtin, Prop, Turn};
+use widl_steps::{Change, Look, New};
+use widl_store::{Builtin, Prop};
 use widl_text::Key;
 use widl_trace::Code;
 use widl_value::{ObjRef, Value, Values};
@@ -21,19 +21,15 @@ pub enum Body {
 
 /// A new object.
 #[derive(Drop)]
-pub enum New {
+pub enum NewObject {
     /// An ordinary object with this prototype.
     Ordinary(Option<ObjRef>),
     /// The function of this number.
     Function(u32),
-    /// An array of these items.
-    Array(Values),
     /// A TypeError.
     Error,
-    /// An ordinary object with these properties.
-    Entries(ScriptEntries),
-    /// An iterator over the elements of this object.
-    ArrayIterator(ObjRef),
+    /// What a conversation asks for, or an array of the script.
+    Asked(New),
 }
 
 /// What a new object is for.
@@ -133,7 +129,7 @@ pub enum Due {
     /// A new object.
     Add {
         /// The object.
-        new: New,
+        new: NewObject,
         /// What it is for.
         then: Made,
     },
@@ -178,18 +174,19 @@ pub enum Due {
         /// The property's key.
         key: Key,
     },
-    /// The kind of an object.
-    FindKind(ObjRef),
-    /// How far an iterator has come.
-    FindCursor(ObjRef),
-    /// An Array Iterator is moved on.
-    MoveCursor {
-        /// The iterator.
+    /// What this look sees of an object.
+    Look {
+        /// The object.
         obj: ObjRef,
-        /// The index of the next element.
-        next: u64,
-        /// How far it has come then.
-        turn: Turn,
+        /// The look.
+        what: Look,
+    },
+    /// The inner part of an object is changed.
+    Change {
+        /// The object.
+        obj: ObjRef,
+        /// The change.
+        change: Change,
     },
     /// An end of the profile, by its number.
     Reach(u8),

@@ -13,6 +13,7 @@ mod at_once;
 mod bindings;
 mod calls;
 mod calls_at_once;
+mod changes;
 mod charges;
 mod contexts;
 mod conversations;

@@ -1,22 +1,23 @@
 //! Looks at objects, done.
 
-ghost use Rattle.std.specs.Prelude.{◌≡◌, ℕ, IfOk, IfSome, IfNone};
-ghost use Rattle.widl_store.specs.Inners.{AnArrayIterator, ArrayIteratorPart, inner_term, kind_of as the_kind_of};
-ghost use Rattle.widl_store.specs.declared.inner.Turn.{Turn as IteratorTurn};
-ghost use Rattle.widl_runs.specs.Actions.{cursor_of as the_cursor_of, kind_of_inner, moved_part};
+ghost use Rattle.std.specs.Prelude.{◌≡◌, IfOk};
+ghost use Rattle.widl_store.specs.Inners.{inner_term};
+ghost use Rattle.widl_steps.specs.ArrayFunctions.{cursor_in as the_cursor_in};
+ghost use Rattle.widl_steps.specs.AskTerms.{SightAnswer, answer_term};
+ghost use Rattle.widl_steps.specs.ObjectFunctions.{kind_in as the_kind_in};
+ghost use Rattle.widl_runs.specs.Looks.{cursor_of as the_cursor_of, kind_of_inner, sight_in as the_sight_in, sight_of as the_sight_of};
 ghost use Rattle.widl_script_tree.specs.Tables.{Tables};
 ghost use Rattle.widl_store.specs.Objects.{IsLive};
-ghost use Rattle.widl_runs.specs.Jobs.{Program, nothing};
-ghost use Rattle.widl_engine.specs.Frames.{move_of};
+ghost use Rattle.widl_runs.specs.Jobs.{Program};
 ghost use Rattle.widl_engine.specs.Place.{Performed};
 
 use crate::contexts::Place;
 use crate::due::Due;
 use crate::ends::JobEnd;
-use crate::moves::{Move, ends};
+use crate::moves::Move;
 use std::alloc::AllocError;
-use widl_convert::{Answer, CursorState, KindName};
-use widl_store::{Inner, Store, Turn};
+use widl_steps::{Answer, CursorState, KindName, Look};
+use widl_store::{Inner, Store};
 use widl_text::Key;
 use widl_value::ObjRef;
 
@@ -73,20 +74,52 @@ fn cursor_of(inner: &Inner) -> Option<CursorState>
     }
 }
 
-/// The kind of an object is found.
-pub(crate) fn find_kind(store: &Store, place: &Place, obj: ObjRef) -> Move
-    requires { IsLive store.now.objects obj }
-    ensures { (p : Program) (s : Tables) → Performed p s (Due.FindKind obj) store.now place.now store.now place.now result }
+/// What a look sees, by the inner part.
+fn sight_of(what: Look, inner: &Inner) -> Answer
+    ensures { answer_term result ≡ SightAnswer (the_sight_of what (inner_term inner.now)) }
 {
-    seen(Answer::Kind(kind_of(store.inner(obj))))
+    match what {
+        Look::Kind => Answer::Kind(kind_of(inner)),
+        Look::Cursor => Answer::Cursor(cursor_of(inner)),
+    }
 }
 
-/// How far an iterator has come is found.
-pub(crate) fn find_cursor(store: &Store, place: &Place, obj: ObjRef) -> Move
+/// An object is looked at.
+pub(crate) fn look(store: &Store, place: &Place, obj: ObjRef, what: Look) -> Move
     requires { IsLive store.now.objects obj }
-    ensures { (p : Program) (s : Tables) → Performed p s (Due.FindCursor obj) store.now place.now store.now place.now result }
+    ensures { (p : Program) (s : Tables) → Performed p s (Due.Look obj what) store.now place.now store.now place.now result }
 {
-    seen(Answer::Cursor(cursor_of(store.inner(obj))))
+    seen(sight_of(what, store.inner(obj)))
+}
+
+/// The kind of an object in an answer.
+fn kind_in(answer: Answer) -> KindName
+    ensures { result ≡ the_kind_in (answer_term answer) }
+{
+    match answer {
+        Answer::Kind(kind) => kind,
+        _ => KindName::Other,
+    }
+}
+
+/// How far an iterator has come, in an answer.
+fn cursor_in(answer: Answer) -> Option<CursorState>
+    ensures { result ≡ the_cursor_in (answer_term answer) }
+{
+    match answer {
+        Answer::Cursor(state) => state,
+        _ => None,
+    }
+}
+
+/// What an answer shows that was asked for by this look.
+pub(crate) fn sight_in(what: Look, answer: Answer) -> Answer
+    ensures { answer_term result ≡ SightAnswer (the_sight_in what (answer_term answer)) }
+{
+    match what {
+        Look::Kind => Answer::Kind(kind_in(answer)),
+        Look::Cursor => Answer::Cursor(cursor_in(answer)),
+    }
 }
 
 /// The own keys of an object are found.
@@ -103,49 +136,4 @@ pub(crate) fn find_own(store: &Store, place: &Place, obj: ObjRef, key: Key) -> M
     ensures { (p : Program) (s : Tables) → Performed p s (Due.FindOwn obj key) store.now place.now store.now place.now result }
 {
     seen(Answer::Own(store.own(obj, &key)))
-}
-
-/// The object of an Array Iterator.
-fn iterated(inner: &Inner) -> Option<ObjRef>
-    ensures moved { IfSome result (λ of. (next : ℕ) (turn : IteratorTurn) → moved_part next turn (inner_term inner.now) ≡ ArrayIteratorPart of next turn) }
-    ensures kind { IfSome result (λ of. the_kind_of (inner_term inner.now) ≡ AnArrayIterator) }
-    ensures still { IfNone result ((next : ℕ) (turn : IteratorTurn) → moved_part next turn (inner_term inner.now) ≡ inner_term inner.now) }
-{
-    match inner {
-        Inner::ArrayIterator { of, .. } => Some(*of),
-        Inner::PairIterator { .. } => None,
-        Inner::Plain => None,
-        Inner::Array => None,
-        Inner::Error => None,
-        Inner::Script(_) => None,
-        Inner::Builtin(_) => None,
-        Inner::Interface { .. } => None,
-        Inner::Platform { .. } => None,
-        Inner::Space { .. } => None,
-        Inner::Promise(_) => None,
-    }
-}
-
-/// The end of a move that has replaced an inner part.
-fn moved(_former: Inner) -> Move
-    ensures { (p : Program) (s : Tables) → move_of p s result ≡ nothing }
-{
-    ends()
-}
-
-/// An Array Iterator is moved on.
-pub(crate) fn move_cursor(
-    store: &mut Store,
-    place: &Place,
-    obj: ObjRef,
-    next: u64,
-    turn: Turn,
-) -> Move
-    requires { IsLive store.old.objects obj }
-    ensures { (p : Program) (s : Tables) → Performed p s (Due.MoveCursor obj next turn) store.old place.now store.new place.now result }
-{
-    match iterated(store.inner(obj)) {
-        None => ends(),
-        Some(of) => moved(store.set_inner(obj, Inner::ArrayIterator { of, next, turn })),
-    }
 }

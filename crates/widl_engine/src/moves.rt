@@ -110,7 +110,7 @@ pub(crate) fn begin(
 
 /// A new object is added.
 #[inline(always)]
-fn adds(new: New, then: Made) -> Move
+fn adds(new: NewObject, then: Made) -> Move
     ensures { result ≡ Move.Acts (Due.Add new then) }
 {
     Move::Acts(Due::Add { new, then })
@@ -124,16 +124,14 @@ fn unit_paid(script: &Script, unit: Unit) -> Result<Move, AllocError>
     match unit {
         Unit::Statement(place) => Ok(statements::performs(script, place)),
         Unit::Symbol => Ok(Move::Acts(Due::TakeSymbol)),
-        Unit::Object(proto) => Ok(adds(New::Ordinary(proto), Made::Value)),
-        Unit::Array(items) => Ok(adds(New::Array(items), Made::Value)),
+        Unit::Object(proto) => Ok(adds(NewObject::Ordinary(proto), Made::Value)),
         Unit::Function(number) => {
             let name = script.function(number).name;
-            Ok(adds(New::Function(number), Made::Bound(name)))
+            Ok(adds(NewObject::Function(number), Made::Bound(name)))
         }
         Unit::Asked => Ok(ends()),
-        Unit::Entries(entries) => Ok(adds(New::Entries(entries), Made::Value)),
-        Unit::ArrayIterator(of) => Ok(adds(New::ArrayIterator(of), Made::Value)),
-        Unit::Fail(code) => Ok(adds(New::Error, Made::Error(code))),
+        Unit::New(new) => Ok(adds(NewObject::Asked(new), Made::Value)),
+        Unit::Fail(code) => Ok(adds(NewObject::Error, Made::Error(code))),
     }
 }
 

@@ -4,7 +4,7 @@ ghost use Rattle.std.specs.Prelude.{◌≡◌, ◌<◌, ◌^◌, ◌-◌, IfOk, 
 ghost use Rattle.widl_script_tree.specs.Tables.{function_at, name_at};
 ghost use Rattle.widl_store.specs.Effects.{define_of, defined, is_fixed};
 ghost use Rattle.widl_store.specs.Objects.{IsLive, own_at, with_objects};
-ghost use Rattle.widl_runs.specs.Actions.{Ordinary, ScriptFunction, TypeErrorObject};
+ghost use Rattle.widl_runs.specs.Actions.{ordinary, script_function, type_error};
 ghost use Rattle.widl_engine.specs.Added.{IsAdded};
 ghost use Rattle.widl_runs.specs.Fitting.{HasPrototypes};
 ghost use Rattle.widl_engine.specs.Frames.{parameters_of};
@@ -38,7 +38,7 @@ const CONFIGURABLE_ALONE: Flags = Flags {
 pub(crate) fn add_ordinary(store: &mut Store, proto: Option<ObjRef>) -> Result<ObjRef, AllocError>
     requires small { length store.old.objects < 2 ^ 32 - 1 }
     requires proto { IfSome proto (IsLive store.old.objects) }
-    ensures { IfOk result (λ o. IsAdded store.old store.new o (Ordinary proto)) }
+    ensures { IfOk result (λ o. IsAdded store.old store.new o (ordinary proto)) }
 {
     store.add(proto, Shape::Plain, Inner::Plain)
 }
@@ -47,7 +47,7 @@ pub(crate) fn add_ordinary(store: &mut Store, proto: Option<ObjRef>) -> Result<O
 pub(crate) fn add_error(store: &mut Store) -> Result<ObjRef, AllocError>
     requires small { length store.old.objects < 2 ^ 32 - 1 }
     requires prototypes { HasPrototypes store.old.objects }
-    ensures { IfOk result (λ o. IsAdded store.old store.new o TypeErrorObject) }
+    ensures { IfOk result (λ o. IsAdded store.old store.new o type_error) }
 {
     store.add(Some(TYPE_ERROR_PROTOTYPE), Shape::Plain, Inner::Error)
 }
@@ -81,7 +81,7 @@ pub(crate) fn add_function(
     requires small { length store.old.objects < 2 ^ 32 - 1 }
     requires prototypes { HasPrototypes store.old.objects }
     requires there { number < length script.now.functions }
-    ensures { IfOk result (λ o. IsAdded store.old store.new o (ScriptFunction number (name_at script.now (function_at script.now number).name) (parameters_of script.now number))) }
+    ensures { IfOk result (λ o. IsAdded store.old store.new o (script_function number (name_at script.now (function_at script.now number).name) (parameters_of script.now number))) }
 {
     let function = script.function(number);
     let count = number_of(function.params.len());

@@ -15,13 +15,13 @@ use crate::acts::{
     Acted, bind_name, deepen, deepen_new, find_body, find_constructor, made, reach, read_name,
     read_this, take_symbol,
 };
-use crate::arrays::add_array;
+use crate::changes::change_part;
 use crate::contexts::Place;
-use crate::due::{Due, Made, New, Then};
+use crate::due::{Due, Made, NewObject, Then};
 use crate::entering::{enter, enter_builtin, leave};
-use crate::looks::{find_cursor, find_keys, find_kind, find_own, move_cursor};
+use crate::looks::{find_keys, find_own, look};
 use crate::moves::Move;
-use crate::new_objects::{add_array_iterator, add_entries};
+use crate::new_objects::add_asked;
 use crate::objects::{add_error, add_function, add_ordinary};
 use crate::properties::{define, delete, find, put};
 use std::alloc::{AllocError, Global};
@@ -36,7 +36,7 @@ fn add_object(
     alloc: Global,
     script: &Script,
     store: &mut Store,
-    new: New,
+    new: NewObject,
 ) -> Result<ObjRef, AllocError>
     requires small { length store.old.objects < 2 ^ 32 - 1 }
     requires prototypes { HasPrototypes store.old.objects }
@@ -44,12 +44,10 @@ fn add_object(
     ensures { IfOk result (λ o. IsAdded store.old store.new o (new_of script.now new)) }
 {
     match new {
-        New::Ordinary(proto) => add_ordinary(store, proto),
-        New::Function(number) => add_function(alloc, script, store, number),
-        New::Array(items) => add_array(alloc, store, items),
-        New::Error => add_error(store),
-        New::Entries(entries) => add_entries(store, entries),
-        New::ArrayIterator(of) => add_array_iterator(store, of),
+        NewObject::Ordinary(proto) => add_ordinary(store, proto),
+        NewObject::Function(number) => add_function(alloc, script, store, number),
+        NewObject::Error => add_error(store),
+        NewObject::Asked(new) => add_asked(alloc, store, new),
     }
 }
 
@@ -59,7 +57,7 @@ fn add(
     script: &Script,
     store: &mut Store,
     place: &Place,
-    new: New,
+    new: NewObject,
     then: Made,
 ) -> Acted
     requires small { length store.old.objects < 2 ^ 32 - 1 }
@@ -243,11 +241,8 @@ pub(crate) fn perform(
         Due::Delete { obj, key } => Acted::Went(delete(store, place, obj, key)),
         Due::FindKeys(obj) => lists_keys(store, place, obj),
         Due::FindOwn { obj, key } => Acted::Went(find_own(store, place, obj, key)),
-        Due::FindKind(obj) => Acted::Went(find_kind(store, place, obj)),
-        Due::FindCursor(obj) => Acted::Went(find_cursor(store, place, obj)),
-        Due::MoveCursor { obj, next, turn } => {
-            Acted::Went(move_cursor(store, place, obj, next, turn))
-        }
+        Due::Look { obj, what } => Acted::Went(look(store, place, obj, what)),
+        Due::Change { obj, change } => Acted::Went(change_part(store, place, obj, change)),
         Due::Reach(end) => reach(store, place, end),
     }
 }

@@ -12,6 +12,7 @@ use crate::jobs::{Job, RowUse};
 use crate::moves::Move;
 use widl_script_tree::laws::rows_open;
 use widl_script_tree::{Row, Script};
+use widl_steps::New;
 use widl_value::Values;
 
 /// All values of a row are there.
@@ -25,7 +26,7 @@ fn row_done(what: RowUse, made: Values) -> Move
             args: made,
         }),
         RowUse::New(f) => Move::Goes(Job::Construct { f, args: made }),
-        RowUse::Items => Move::Pays(Charge::Unit(Unit::Array(made))),
+        RowUse::Items => Move::Pays(Charge::Unit(Unit::New(New::Array(made)))),
     }
 }
 

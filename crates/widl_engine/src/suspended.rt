@@ -5,6 +5,8 @@ ghost use Rattle.widl_calls.specs.Stack.{call_pending};
 ghost use Rattle.widl_engine.specs.AskKinds.{ask_kind_of};
 
 use widl_calls::CallAsker;
+use widl_steps::Look;
+use widl_value::Shape;
 
 /// The kind of an ask.
 #[derive(Clone, Copy)]
@@ -13,8 +15,6 @@ pub enum AskKind {
     Get,
     /// A function is called.
     Call,
-    /// The kind of an object.
-    Kind,
     /// A unit is taken.
     Unit,
     /// An event is told.
@@ -23,16 +23,12 @@ pub enum AskKind {
     OwnKeys,
     /// An own property.
     Own,
-    /// A new array.
-    NewArray,
-    /// A new object.
-    NewObject,
-    /// A new iterator.
-    NewArrayIterator,
-    /// How far an iterator has come.
-    Cursor,
-    /// An iterator is moved on.
-    SetCursor,
+    /// An object is looked at.
+    Look(Look),
+    /// A new object of this shape.
+    New(Shape),
+    /// The inner part of an object is changed.
+    Change,
 }
 
 /// A conversation that waits for the end of the work of an ask, whatever else is done until then.

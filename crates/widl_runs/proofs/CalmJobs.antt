@@ -23,7 +23,7 @@ use Rattle.widl_store.specs.declared.inner.Builtin.TheVariants as builtins
 use Rattle.widl_store.specs.declared.property.Prop.{Prop}
 use Rattle.widl_store.specs.declared.property.Prop.TheVariants as props
 use Rattle.widl_script_tree.specs.Trees.{ExpressionTree, UndefinedT, NullT, ThisT, NewSymbolT, NewObjectT, BoolT, NumberT, TextT, NameT, SymbolT, ObjectOfT, NewArrayT, MemberT, IndexT, CallT, NewT, CallWithT, ExpressionTrees, none, more, MemberTree, NamedT, ComputedT, StatementTree, LetT, DoT, ReturnT, ThrowT, ShowT, SetT, DefineT, DefineAccessorT, DeleteT, TryT, IfT, FunctionT, StepsT, StatementTrees, no_statements, then_more}
-use Rattle.widl_steps.specs.AskTerms.{AskTerm, GetAsk, CallAsk, KindAsk, UnitAsk, NoteAsk, OwnKeysAsk, OwnAsk, NewArrayAsk, NewObjectAsk, NewArrayIteratorAsk, CursorAsk, SetCursorAsk}
+use Rattle.widl_steps.specs.AskTerms.{AskTerm, GetAsk, CallAsk, UnitAsk, NoteAsk, OwnKeysAsk, OwnAsk, LookAsk, NewAsk, ChangeAsk}
 use Rattle.widl_runs.specs.Ends.{JobEnd, Normal, Returned, Thrown, Talked, Seen}
 use Rattle.widl_runs.specs.Actions.{body_in, property_in, put_result_in, define_result_in, delete_result_in, Body, ScriptBody, BuiltinBody, NoBody}
 use Rattle.widl_runs.specs.Jobs.{Program, KeyPart, Named, Computed, MemberUse, ForRead, ForCall, RowUse, ForArguments, ForNew, ForItems, Job, RunStatements, RunStatement, Evaluate, EvaluateRow, ReadMember, SetMember, DefineMember, DefineAccessor, DeleteMember, CallValue, ConstructValue, Talk, Asked, Fail, Doing, value}
@@ -239,16 +239,13 @@ module _ (p : Program) where
   calm_ask : (ask : AskTerm) → IsCalm 2 (asks ask)
   calm_ask (GetAsk o key) = tt
   calm_ask (CallAsk f this args) = (below 2 (CallValue (values.Obj f) this args) refl (omega arith), tt)
-  calm_ask (KindAsk o) = λ r. tt
   calm_ask UnitAsk = tt
   calm_ask (NoteAsk event) = tt
   calm_ask (OwnKeysAsk o) = tt
   calm_ask (OwnAsk o key) = tt
-  calm_ask (NewArrayAsk items) = tt
-  calm_ask (NewObjectAsk entries) = tt
-  calm_ask (NewArrayIteratorAsk o) = tt
-  calm_ask (CursorAsk o) = λ r. tt
-  calm_ask (SetCursorAsk o next turn) = λ r. tt
+  calm_ask (LookAsk o what) = λ r. tt
+  calm_ask (NewAsk new) = tt
+  calm_ask (ChangeAsk o change) = λ r. tt
 
   pub calm : (j : Job) → Calm (ranks p.list) (high j) (low p.list j) (rule p j)
   calm (RunStatements ss) = calm_statements ss
@@ -308,16 +305,13 @@ module _ (p : Program) where
   spend_ask : (ask : AskTerm) → ask_spends ask ≡ true → IsSpending (asks ask)
   spend_ask (GetAsk o key) e = tt
   spend_ask (CallAsk f this args) e = tt
-  spend_ask (KindAsk o) e = absurd (cc)
   spend_ask UnitAsk e = tt
   spend_ask (NoteAsk event) e = tt
   spend_ask (OwnKeysAsk o) e = tt
   spend_ask (OwnAsk o key) e = tt
-  spend_ask (NewArrayAsk items) e = tt
-  spend_ask (NewObjectAsk entries) e = tt
-  spend_ask (NewArrayIteratorAsk o) e = tt
-  spend_ask (CursorAsk o) e = absurd (cc)
-  spend_ask (SetCursorAsk o next turn) e = absurd (cc)
+  spend_ask (LookAsk o what) e = absurd (cc)
+  spend_ask (NewAsk new) e = tt
+  spend_ask (ChangeAsk o change) e = absurd (cc)
 
   pub spend : (j : Job) → spends j ≡ true → IsSpending (rule p j)
   spend (RunStatements ss) e = absurd (cc)

@@ -57,7 +57,8 @@ use Rattle.widl_steps.specs.declared.answer.CursorState.TheVariants as cursors
 use Rattle.widl_steps.specs.declared.hint.Hint.{Hint}
 use Rattle.widl_steps.specs.declared.want.Want.{Want}
 use Rattle.widl_steps.specs.declared.want.Want.TheVariants as wants
-use Rattle.widl_steps.specs.AskTerms.{CursorAsk, GetAsk, OwnKeysAsk}
+use Rattle.widl_steps.specs.declared.ask.Look.TheVariants as looks
+use Rattle.widl_steps.specs.AskTerms.{LookAsk, GetAsk, OwnKeysAsk}
 use Rattle.widl_steps.specs.Built.{built_today, is_built_type}
 use Rattle.widl_steps.specs.Defaults.{default, default_given, defaults_from, literal_value}
 use Rattle.widl_steps.specs.Dictionaries.{members, requires_member, to_dictionary}
@@ -498,7 +499,7 @@ module _ (p : Program) where
   calm_next (values.Num x) = tt
   calm_next (values.Str units) = tt
   calm_next (values.Sym id) = tt
-  calm_next (values.Obj o) = (inl (omega arith), λ b. calm_cursor o (cursor_in (answer_of (CursorAsk o) b)))
+  calm_next (values.Obj o) = (inl (omega arith), λ b. calm_cursor o (cursor_in (answer_of (LookAsk o looks.Cursor) b)))
 
   either : (b : Bool) (d e : CallTalk) → IsCalmCall 2 0 d → IsCalmCall 2 0 e → IsCalmCall 2 0 (if b then d else e)
   either b d e x y = cond_both b d e (IsCalmCall 2 0) (λ i. x) (λ i. y)

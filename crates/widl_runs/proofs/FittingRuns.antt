@@ -10,16 +10,16 @@ use Rattle.widl_steps.specs.CallTasks.{CallTask, Of, Function, Lines}
 use Rattle.widl_runs.specs.Ends.{JobEnd}
 use Rattle.widl_runs.specs.declared.stop.Stop.{Stop}
 use Rattle.widl_runs.specs.Worlds.{World}
-use Rattle.widl_runs.specs.Actions.{Action, Pay, Write, TestDepth, Enter, Leave, FindBody, ReadThis, ReadName, BindName, TakeSymbol, AddObject, FindProperty, PutProperty, DefineProperty, DeleteProperty, FindKeys, FindOwn, FindInner, MoveCursor, Reach, Reply, act}
+use Rattle.widl_runs.specs.Actions.{Action, Pay, Write, TestDepth, Enter, Leave, FindBody, ReadThis, ReadName, BindName, TakeSymbol, AddObject, FindProperty, PutProperty, DefineProperty, DeleteProperty, FindKeys, FindOwn, FindInner, ChangePart, Reach, Reply, act}
 use Rattle.widl_runs.specs.Jobs.{Program, Job, RunStatements, RunStatement, Evaluate, EvaluateRow, ReadMember, SetMember, DefineMember, DefineAccessor, DeleteMember, CallValue, ConstructValue, Talk, Asked, Fail, Doing}
 use Rattle.widl_runs.specs.Rules.{rule}
 use Rattle.widl_runs.specs.Traces.{first_world}
 use Rattle.widl_runs.specs.Fitting.{IsRunnable, Comes, here, said, begun, HasPrototypes, FitsAction, FitsCall, FitsJob, FitsPlace}
 use Rattle.widl_runs.specs.Laws.{ScriptsFit}
-use Rattle.widl_runs.proofs.LiveParts.{Grows, more_reply}
-use Rattle.widl_runs.proofs.LiveJobs.{LiveAction, LiveCall, LiveJob, Safe, safe_bind}
+use Rattle.widl_runs.proofs.LiveParts.{Grows, LiveEnd, more_reply}
+use Rattle.widl_runs.proofs.LiveJobs.{LiveAction, LiveCall, LiveJob, LiveJobEnd, HasShape, Safe, safe_bind}
 use Rattle.widl_runs.proofs.LiveSteps.{safe, safe_whole}
-use Rattle.widl_runs.proofs.LiveWorlds.{LiveWorld, Lives, LivesOn, more_prototypes, lives}
+use Rattle.widl_runs.proofs.LiveWorlds.{LiveWorld, Lives, LivesOn, ShapedDid, more_prototypes, lives, shaped}
 use Rattle.widl_runs.proofs.LiveRealm.{first_live}
 use Rattle.widl_runs.proofs.ObjectCredit.{gives, takes, made_level, moves_made, fair, fair_whole}
 
@@ -34,13 +34,16 @@ module _ (p : Program) (runnable : IsRunnable p.script) where
     owed : Owes gives takes credit d
     room : made_level w + credit ≤ most_made
     live : LiveWorld w
-    holds : (more : List Obj) → Grows w.store.objects more → Safe p more d
+    holds : (more : List Obj) → Grows w.store.objects more → Safe p more (LiveEnd more) d
 
   went_level : (q : Action) (r : Reply) (w v : World) → act p.list q w ≡ Went v r → made_level v + gives q ≤ made_level w + takes q
   went_level q r w v is = subst (λ (did : Did World Reply Stop). MovesLevel made_level (gives q) (takes q) w did) is (moves_made p.list q w)
 
   went_live : (q : Action) (r : Reply) (w v : World) → act p.list q w ≡ Went v r → LiveWorld w → LiveAction p w.store.objects q → Lives w v r
   went_live q r w v is l a = subst (λ (did : Did World Reply Stop). LivesOn w did) is (lives p q w l a)
+
+  went_shape : (q : Action) (r : Reply) (w v : World) → act p.list q w ≡ Went v r → HasShape q r
+  went_shape q r w v is = subst (ShapedDid q) is (shaped p.list q w)
 
   said_fit : (q : Action) (k : Reply → Doing) (r : Reply) (w v : World) → act p.list q w ≡ Went v r → Fit (Say q k) w → Fit (k r) v
   said_fit q k r w v is x =
@@ -51,7 +54,7 @@ module _ (p : Program) (runnable : IsRunnable p.script) where
         owed = x.owed.1 r;
         room = (let few = x.owed.0 in let room = x.room in omega (arith, level, few, room));
         live = on.world;
-        holds = λ more g. (x.holds more (λ o l. g o (on.grows o l))).1 r (more_reply v.store.objects more g r on.reply);
+        holds = λ more g. (x.holds more (λ o l. g o (on.grows o l))).1 r (more_reply v.store.objects more g r on.reply, went_shape q r w v is);
       }
 
   begun_fit : (j : Job) (k : JobEnd → Doing) (w : World) → Fit (Steps j k) w → Fit (bind (rule p j) k) w
@@ -62,7 +65,7 @@ module _ (p : Program) (runnable : IsRunnable p.script) where
     live = x.live;
     holds = λ more g.
         let held = x.holds more g in
-        safe_bind p more (rule p j) k (safe p runnable more (more_prototypes w.store.objects more g x.live.prototypes) j held.0) held.1;
+        safe_bind p more (LiveJobEnd more j) (LiveEnd more) (rule p j) k (safe p runnable more (more_prototypes w.store.objects more g x.live.prototypes) j held.0) held.1;
   }
 
   comes_fit : {e : Doing} {u : World} {d : Doing} {w : World} → Comes p e u d w → Fit d w → Fit e u
@@ -81,7 +84,7 @@ module _ (p : Program) (runnable : IsRunnable p.script) where
   fits_action (ReadName name) w n few room first a = tt
   fits_action (BindName name v) w n few room first a = tt
   fits_action TakeSymbol w n few room first a = omega (arith, few, room)
-  fits_action (AddObject new) w n few room first a = (omega (arith, few, room), first, a.0)
+  fits_action (AddObject plan) w n few room first a = (omega (arith, few, room), first, a.0)
   fits_action (FindProperty object key) w n few room first a = a
   fits_action (PutProperty object key v) w n few room first a = a.0
   fits_action (DefineProperty object key prop) w n few room first a = a.0
@@ -89,7 +92,7 @@ module _ (p : Program) (runnable : IsRunnable p.script) where
   fits_action (FindKeys object) w n few room first a = a
   fits_action (FindOwn object key) w n few room first a = a
   fits_action (FindInner object) w n few room first a = a
-  fits_action (MoveCursor object next turn) w n few room first a = a
+  fits_action (ChangePart object change) w n few room first a = a.0
   fits_action (Reach end) w n few room first a = tt
 
   fits_place : (d : Doing) (w : World) → Fit d w → FitsPlace p d w

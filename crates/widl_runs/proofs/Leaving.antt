@@ -13,7 +13,7 @@ use Rattle.widl_script_tree.specs.Trees.{Text}
 use Rattle.widl_runs.specs.declared.stop.Stop.{Stop}
 use Rattle.widl_runs.specs.declared.stop.Stop.TheVariants as stops
 use Rattle.widl_runs.specs.Worlds.{World, is_local, with_local, with_value}
-use Rattle.widl_runs.specs.Actions.{Action, Pay, Write, TestDepth, Enter, Leave, FindBody, ReadThis, ReadName, BindName, TakeSymbol, AddObject, FindProperty, PutProperty, DefineProperty, DeleteProperty, FindKeys, FindOwn, FindInner, MoveCursor, Reach, Reply, IsDone, event_cost, put_result, define_result, is_put, is_made, with_store, act}
+use Rattle.widl_runs.specs.Actions.{Action, Pay, Write, TestDepth, Enter, Leave, FindBody, ReadThis, ReadName, BindName, TakeSymbol, AddObject, FindProperty, PutProperty, DefineProperty, DeleteProperty, FindKeys, FindOwn, FindInner, ChangePart, Reach, Reply, IsDone, event_cost, put_result, define_result, is_put, is_made, with_store, act}
 use Rattle.widl_runs.specs.Jobs.{Program}
 use Rattle.widl_runs.specs.Rules.{rule}
 use Rattle.widl_runs.proofs.Ranks.{pays, ranks}
@@ -57,7 +57,7 @@ leaves list (DeleteProperty object key) w = made_leaves (is_made (delete_of (own
 leaves list (FindKeys object) w = omega arith
 leaves list (FindOwn object key) w = omega arith
 leaves list (FindInner object) w = omega arith
-leaves list (MoveCursor object next turn) w = omega arith
+leaves list (ChangePart object change) w = omega arith
 leaves list (Reach end) w = tt
 
 pub calming : (p : Program) → Calming (rule p) (act p.list) units_of (ranks p.list)

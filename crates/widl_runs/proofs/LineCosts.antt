@@ -16,7 +16,7 @@ use Rattle.widl_trace.specs.EventTerms.{EventTerm}
 use Rattle.widl_runs.specs.declared.stop.Stop.{Stop}
 use Rattle.widl_runs.specs.declared.stop.Stop.TheVariants as stops
 use Rattle.widl_runs.specs.Worlds.{World, is_local, with_local, with_value}
-use Rattle.widl_runs.specs.Actions.{Action, Pay, Write, TestDepth, Enter, Leave, FindBody, ReadThis, ReadName, BindName, TakeSymbol, AddObject, FindProperty, PutProperty, DefineProperty, DeleteProperty, FindKeys, FindOwn, FindInner, MoveCursor, Reach, Reply, IsDone, event_cost, put_result, define_result, is_put, is_made, with_store, act}
+use Rattle.widl_runs.specs.Actions.{Action, Pay, Write, TestDepth, Enter, Leave, FindBody, ReadThis, ReadName, BindName, TakeSymbol, AddObject, FindProperty, PutProperty, DefineProperty, DeleteProperty, FindKeys, FindOwn, FindInner, ChangePart, Reach, Reply, IsDone, event_cost, put_result, define_result, is_put, is_made, with_store, act}
 use Rattle.widl_runs.specs.Jobs.{Program}
 use Rattle.widl_runs.specs.Rules.{rule}
 use Rattle.widl_runs.specs.Laws.{LinesGrow, LinesArePaid, cost_of_lines}
@@ -72,7 +72,7 @@ module _ (list : DefsTerm) (Kept : World → World → Type 0) (unwritten : (w v
   each_keeps (FindKeys object) w = same_kept w _ refl refl
   each_keeps (FindOwn object key) w = same_kept w _ refl refl
   each_keeps (FindInner object) w = same_kept w _ refl refl
-  each_keeps (MoveCursor object next turn) w = same_kept w _ refl refl
+  each_keeps (ChangePart object change) w = same_kept w _ refl refl
   each_keeps (Reach end) w = tt
 
 abbrev pub lines_of : World → List EventTerm

@@ -1,5 +1,5 @@
 -- For proofs alone. What actions, asks and jobs hold are live references.
-use Rattle.std.proofs.Common.{ℕ, ◌+◌, ◌<◌, ◌^◌, List, [], ◌∷◌, ◌++◌, length}
+use Rattle.std.proofs.Common.{◌≡◌, None, ℕ, ◌+◌, ◌<◌, ◌^◌, List, [], ◌∷◌, ◌++◌, length}
 use Rattle.std.proofs.lemmas.Bool.{cond_both}
 use Rattle.std.specs.Prelude.{bytes_eq, All}
 use Rattle.widl_dialog.specs.Dialog.{End, Say, Steps, bind}
@@ -7,32 +7,30 @@ use Rattle.widl_text.specs.declared.key.Key.{Key}
 use Rattle.widl_value.specs.declared.value.Value.{Value}
 use Rattle.widl_value.specs.declared.value.Value.TheVariants as values
 use Rattle.widl_value.specs.IdlTerms.{IdlTerm}
+use Rattle.widl_store.specs.declared.property.Prop.{Prop}
+use Rattle.widl_store.specs.Inners.{InnerTerm}
 use Rattle.widl_store.specs.Objects.{Obj, IsLive}
 use Rattle.widl_script_tree.specs.Trees.{Text}
-use Rattle.widl_steps.specs.AskTerms.{AskTerm, GetAsk, CallAsk, KindAsk, UnitAsk, NoteAsk, OwnKeysAsk, OwnAsk, NewArrayAsk, NewObjectAsk, NewArrayIteratorAsk, CursorAsk, SetCursorAsk}
+use Rattle.widl_steps.specs.AskTerms.{AskTerm, GetAsk, CallAsk, UnitAsk, NoteAsk, OwnKeysAsk, OwnAsk, LookAsk, NewAsk, NewTerm, ChangeAsk}
 use Rattle.widl_steps.specs.Tasks.{Task, Primitive, Scalar, Convert, SequenceFrom, Turns, Entries, Members, Resolve, Arguments, Default, Defaults, Out, OutItems, OutUnits}
 use Rattle.widl_steps.specs.CallTasks.{CallTask, Of, Function, Lines, NamedValues}
-use Rattle.widl_runs.specs.Ends.{JobEnd}
+use Rattle.widl_runs.specs.Ends.{JobEnd, answer_of}
 use Rattle.widl_runs.specs.Worlds.{Bindings, with_value, bound_parameters}
-use Rattle.widl_runs.specs.Actions.{Action, Pay, Write, TestDepth, Enter, Leave, FindBody, ReadThis, ReadName, BindName, TakeSymbol, AddObject, FindProperty, PutProperty, DefineProperty, DeleteProperty, FindKeys, FindOwn, FindInner, MoveCursor, Reach, Reply, NewObject, Ordinary, ScriptFunction, ArrayOf, TypeErrorObject, ObjectOf, ArrayIteratorOf}
+use Rattle.widl_runs.specs.Actions.{Action, Pay, Write, TestDepth, Enter, Leave, FindBody, ReadThis, ReadName, BindName, TakeSymbol, AddObject, FindProperty, PutProperty, DefineProperty, DeleteProperty, FindKeys, FindOwn, FindInner, ChangePart, Reach, Reply, object_in, part_of, properties_of}
 use Rattle.widl_runs.specs.Jobs.{Program, RowUse, ForArguments, ForNew, ForItems, Job, RunStatements, RunStatement, Evaluate, EvaluateRow, ReadMember, SetMember, DefineMember, DefineAccessor, DeleteMember, CallValue, ConstructValue, Talk, Asked, Fail, Doing}
-use Rattle.widl_runs.specs.Fitting.{AreFew, count_of, HasShortRows, HaveShortRows, HasFunctions, HasFunction, IsPlain, ThrowsPlain, CanBeMade}
-use Rattle.widl_runs.proofs.LiveParts.{LiveTerm, LiveTerms, LiveTermList, LivePart, LiveValue, LiveOption, LiveValues, LiveEnd, LiveProp, LiveBindings, LiveContext, LiveReply}
+use Rattle.widl_runs.specs.Fitting.{AreFew, count_of, HasShortRows, HaveShortRows, HasFunctions, HasFunction, IsPlain, ThrowsPlain, CanBeMade, script_number}
+use Rattle.widl_runs.proofs.LiveParts.{LiveTerm, LiveTerms, LiveTermList, LivePart, LiveValue, LiveOption, LiveValues, LiveEnd, LiveProp, LiveBindings, LiveContext, LiveReply, LiveInner, LiveProps, LiveAnswer, LiveChange}
 
 -- 1. What actions and jobs hold
 
-abbrev pub LiveData : List Obj → List (Key × Value) → Type 0
-LiveData objects [] = Unit {0}
-LiveData objects (e ∷ es) = LiveValue objects e.1 × LiveData objects es
-
 -- what a new object is made of is live
-abbrev pub LiveItems : List Obj → NewObject → Type 0
-LiveItems objects (Ordinary proto) = Unit {0}
-LiveItems objects (ScriptFunction number name count) = Unit {0}
-LiveItems objects (ArrayOf items) = LiveValues objects items
-LiveItems objects TypeErrorObject = Unit {0}
-LiveItems objects (ObjectOf entries) = LiveData objects entries
-LiveItems objects (ArrayIteratorOf o) = IsLive objects o
+abbrev pub LiveItems : List Obj → InnerTerm → List (Key × Prop) → Type 0
+LiveItems objects inner entries = LiveInner objects inner × LiveProps objects entries
+
+-- what a conversation asks for is no function of the script
+pub record LiveNew (objects : List Obj) (new : NewTerm) : Type 0 where
+  pub other : script_number (part_of new) ≡ None
+  pub items : LiveItems objects (part_of new) (properties_of new)
 
 abbrev pub LiveAction : Program → List Obj → Action → Type 0
 LiveAction p objects Pay = Unit {0}
@@ -45,7 +43,7 @@ LiveAction p objects ReadThis = Unit {0}
 LiveAction p objects (ReadName name) = Unit {0}
 LiveAction p objects (BindName name v) = LiveValue objects v
 LiveAction p objects TakeSymbol = Unit {0}
-LiveAction p objects (AddObject new) = CanBeMade p objects new × LiveItems objects new
+LiveAction p objects (AddObject plan) = CanBeMade p objects plan × LiveItems objects plan.inner plan.entries
 LiveAction p objects (FindProperty o key) = IsLive objects o
 LiveAction p objects (PutProperty o key v) = IsLive objects o × LiveValue objects v
 LiveAction p objects (DefineProperty o key prop) = IsLive objects o × LiveProp objects prop
@@ -53,7 +51,7 @@ LiveAction p objects (DeleteProperty o key) = IsLive objects o
 LiveAction p objects (FindKeys o) = IsLive objects o
 LiveAction p objects (FindOwn o key) = IsLive objects o
 LiveAction p objects (FindInner o) = IsLive objects o
-LiveAction p objects (MoveCursor o next turn) = IsLive objects o
+LiveAction p objects (ChangePart o change) = IsLive objects o × LiveChange objects change
 LiveAction p objects (Reach end) = Unit {0}
 
 -- asks, and tasks of conversations
@@ -61,16 +59,13 @@ LiveAction p objects (Reach end) = Unit {0}
 abbrev pub LiveAsk : List Obj → AskTerm → Type 0
 LiveAsk objects (GetAsk o key) = IsLive objects o
 LiveAsk objects (CallAsk f this args) = IsLive objects f × LiveValue objects this × LiveValues objects args × AreFew args
-LiveAsk objects (KindAsk o) = IsLive objects o
 LiveAsk objects UnitAsk = Unit {0}
 LiveAsk objects (NoteAsk event) = Unit {0}
 LiveAsk objects (OwnKeysAsk o) = IsLive objects o
 LiveAsk objects (OwnAsk o key) = IsLive objects o
-LiveAsk objects (NewArrayAsk items) = LiveValues objects items
-LiveAsk objects (NewObjectAsk entries) = LiveData objects entries
-LiveAsk objects (NewArrayIteratorAsk o) = IsLive objects o
-LiveAsk objects (CursorAsk o) = IsLive objects o
-LiveAsk objects (SetCursorAsk o next turn) = IsLive objects o
+LiveAsk objects (LookAsk o what) = IsLive objects o
+LiveAsk objects (NewAsk new) = LiveNew objects new
+LiveAsk objects (ChangeAsk o change) = IsLive objects o × LiveChange objects change
 
 abbrev pub LiveRecord : List Obj → List (List ℕ × IdlTerm) → Type 0
 LiveRecord objects [] = Unit {0}
@@ -126,16 +121,35 @@ LiveJob p objects (Talk task) = LiveCall objects task
 LiveJob p objects (Asked ask) = LiveAsk objects ask
 LiveJob p objects (Fail code) = Unit {0}
 
--- where each reply and each completion of a job is live, so is all that the steps do, and their own completion
-abbrev pub Safe : Program → List Obj → Doing → Type 0
-Safe p objects (End c) = LiveEnd objects c
-Safe p objects (Say q k) = LiveAction p objects q × ((r : Reply) → LiveReply objects r → Safe p objects (k r))
-Safe p objects (Steps j k) = LiveJob p objects j × ((c : JobEnd) → LiveEnd objects c → Safe p objects (k c))
+-- the reply of an action is live, and a new object has its shape
+abbrev pub HasShape : Action → Reply → Type 0
+HasShape (AddObject plan) r = (object_in r).shape ≡ plan.shape
+HasShape _ r = Unit {0}
 
-pub safe_bind : (p : Program) (objects : List Obj) (d : Doing) (k : JobEnd → Doing) → Safe p objects d → ((c : JobEnd) → LiveEnd objects c → Safe p objects (k c)) → Safe p objects (bind d k)
-safe_bind p objects (End c) k x y = y c x
-safe_bind p objects (Say q f) k x y = (x.0, λ r l. safe_bind p objects (f r) k (x.1 r l) y)
-safe_bind p objects (Steps j f) k x y = (x.0, λ c l. safe_bind p objects (f c) k (x.1 c l) y)
+abbrev pub LiveReplyTo : List Obj → Action → Reply → Type 0
+LiveReplyTo objects q r = LiveReply objects r × HasShape q r
+
+-- what a job ends with is live; the end of the work of an ask makes a live answer
+abbrev pub LiveJobEnd : List Obj → Job → JobEnd → Type 0
+LiveJobEnd objects (Asked ask) c = LiveAnswer objects (answer_of ask c)
+LiveJobEnd objects _ c = LiveEnd objects c
+
+-- where each reply and each end of a job is live, so is all that the steps do, and their own end is as it is wanted
+abbrev pub Safe : Program → List Obj → (JobEnd → Type 0) → Doing → Type 0
+Safe p objects Wanted (End c) = Wanted c
+Safe p objects Wanted (Say q k) = LiveAction p objects q × ((r : Reply) → LiveReplyTo objects q r → Safe p objects Wanted (k r))
+Safe p objects Wanted (Steps j k) = LiveJob p objects j × ((c : JobEnd) → LiveJobEnd objects j c → Safe p objects Wanted (k c))
+
+pub safe_bind : (p : Program) (objects : List Obj) (First Wanted : JobEnd → Type 0) (d : Doing) (k : JobEnd → Doing) → Safe p objects First d → ((c : JobEnd) → First c → Safe p objects Wanted (k c)) → Safe p objects Wanted (bind d k)
+safe_bind p objects First Wanted (End c) k x y = y c x
+safe_bind p objects First Wanted (Say q f) k x y = (x.0, λ r l. safe_bind p objects First Wanted (f r) k (x.1 r l) y)
+safe_bind p objects First Wanted (Steps j f) k x y = (x.0, λ c l. safe_bind p objects First Wanted (f c) k (x.1 c l) y)
+
+-- less is wanted of the end
+pub safe_weaker : (p : Program) (objects : List Obj) (First Wanted : JobEnd → Type 0) (d : Doing) → ((c : JobEnd) → First c → Wanted c) → Safe p objects First d → Safe p objects Wanted d
+safe_weaker p objects First Wanted (End c) weaker x = weaker c x
+safe_weaker p objects First Wanted (Say q f) weaker x = (x.0, λ r l. safe_weaker p objects First Wanted (f r) weaker (x.1 r l))
+safe_weaker p objects First Wanted (Steps j f) weaker x = (x.0, λ c l. safe_weaker p objects First Wanted (f c) weaker (x.1 c l))
 
 -- 2. The values of rows, parameters and steps
 

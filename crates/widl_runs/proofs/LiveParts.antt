@@ -16,11 +16,15 @@ use Rattle.widl_store.specs.Inners.{InnerTerm, PlainPart, ArrayPart, ErrorPart, 
 use Rattle.widl_store.specs.Objects.{Obj, IsLive}
 use Rattle.widl_steps.specs.declared.answer.CursorState.{CursorState}
 use Rattle.widl_steps.specs.declared.answer.CursorState.TheVariants as cursors
-use Rattle.widl_steps.specs.AskTerms.{AnswerTerm, BeginAnswer, DoneAnswer, NormalAnswer, ThrownAnswer, KindAnswer, KeysAnswer, OwnAnswer, CursorAnswer}
+use Rattle.widl_steps.specs.declared.ask.Look.{Look}
+use Rattle.widl_steps.specs.declared.ask.Look.TheVariants as looks
+use Rattle.widl_steps.specs.ArrayFunctions.{cursor_in}
+use Rattle.widl_steps.specs.AskTerms.{ChangeTerm, SetCursor, Sight, KindSight, CursorSight, Shows, AnswerTerm, BeginAnswer, DoneAnswer, NormalAnswer, ThrownAnswer, KeysAnswer, OwnAnswer, SightAnswer}
 use Rattle.widl_steps.specs.Tasks.{TaskEnd, Gives, Plain, Picks, Throw, Rethrow, Profile}
 use Rattle.widl_runs.specs.Ends.{JobEnd, Normal, Returned, Thrown, Talked, Seen}
 use Rattle.widl_runs.specs.Worlds.{Bindings, Context}
-use Rattle.widl_runs.specs.Actions.{Reply, value_in, object_in, property_in, put_result_in, inner_in}
+use Rattle.widl_runs.specs.Actions.{Reply, value_in, object_in, property_in, put_result_in, inner_in, changed_part}
+use Rattle.widl_runs.specs.Looks.{cursor_of, sight_of, sight_in}
 
 module _ (objects : List Obj) where
   -- 1. Values
@@ -88,15 +92,18 @@ module _ (objects : List Obj) where
   LiveCursor (cursors.Pairs of kind next) = Unit {0}
   LiveCursor (cursors.Array of next turn) = IsLive objects of
 
+  abbrev pub LiveSight : Sight → Type 0
+  LiveSight (KindSight kind) = Unit {0}
+  LiveSight (CursorSight state) = IfSome state LiveCursor
+
   abbrev pub LiveAnswer : AnswerTerm → Type 0
   LiveAnswer BeginAnswer = Unit {0}
   LiveAnswer DoneAnswer = Unit {0}
   LiveAnswer (NormalAnswer v) = LiveValue v
   LiveAnswer (ThrownAnswer v) = LiveValue v
-  LiveAnswer (KindAnswer kind) = Unit {0}
   LiveAnswer (KeysAnswer keys) = Unit {0}
   LiveAnswer (OwnAnswer flags) = Unit {0}
-  LiveAnswer (CursorAnswer state) = IfSome state LiveCursor
+  LiveAnswer (SightAnswer sight) = LiveSight sight
 
   abbrev pub LiveEnd : JobEnd → Type 0
   LiveEnd (Normal v) = LiveValue v
@@ -171,6 +178,66 @@ module _ (objects : List Obj) where
     pub property : LiveFound (property_in r)
     pub put : LivePut (put_result_in r)
     pub inner : LiveSeen (inner_in r)
+
+  -- 5. Looks: what they see and what answers show
+
+  live_cursor : (inner : InnerTerm) → LiveInner inner → IfSome (cursor_of inner) LiveCursor
+  live_cursor PlainPart l = tt
+  live_cursor ArrayPart l = tt
+  live_cursor ErrorPart l = tt
+  live_cursor (ScriptPart f) l = tt
+  live_cursor (BuiltinPart f) l = tt
+  live_cursor (InterfacePart iface slots) l = tt
+  live_cursor (PlatformPart slots pairs) l = tt
+  live_cursor (SpacePart slots) l = tt
+  live_cursor (PairIteratorPart of kind next) l = tt
+  live_cursor (ArrayIteratorPart of next turn) l = l
+  live_cursor (PromisePart state) l = tt
+
+  pub live_sight : (what : Look) (inner : InnerTerm) → LiveInner inner → LiveSight (sight_of what inner)
+  live_sight looks.Kind inner l = tt
+  live_sight looks.Cursor inner l = live_cursor inner l
+
+  live_cursor_sight : (sight : Sight) → LiveSight sight → IfSome (cursor_in (SightAnswer sight)) LiveCursor
+  live_cursor_sight (KindSight kind) l = tt
+  live_cursor_sight (CursorSight state) l = l
+
+  pub live_cursor_in : (a : AnswerTerm) → LiveAnswer a → IfSome (cursor_in a) LiveCursor
+  live_cursor_in BeginAnswer l = tt
+  live_cursor_in DoneAnswer l = tt
+  live_cursor_in (NormalAnswer v) l = tt
+  live_cursor_in (ThrownAnswer v) l = tt
+  live_cursor_in (KeysAnswer keys) l = tt
+  live_cursor_in (OwnAnswer flags) l = tt
+  live_cursor_in (SightAnswer sight) l = live_cursor_sight sight l
+
+  pub live_sight_in : (what : Look) (a : AnswerTerm) → LiveAnswer a → LiveSight (sight_in what a)
+  live_sight_in looks.Kind a l = tt
+  live_sight_in looks.Cursor a l = live_cursor_in a l
+
+  -- 6. Changes of an inner part
+
+  -- what a change puts into an object is live: an iterator is only moved on
+  abbrev pub LiveChange : ChangeTerm → Type 0
+  LiveChange (SetCursor next turn) = Unit {0}
+
+  pub live_changed_part : (change : ChangeTerm) (inner : InnerTerm) → LiveChange change → LiveInner inner → LiveInner (changed_part change inner)
+  live_changed_part (SetCursor next turn) PlainPart x l = tt
+  live_changed_part (SetCursor next turn) ArrayPart x l = tt
+  live_changed_part (SetCursor next turn) ErrorPart x l = tt
+  live_changed_part (SetCursor next turn) (ScriptPart f) x l = tt
+  live_changed_part (SetCursor next turn) (BuiltinPart f) x l = tt
+  live_changed_part (SetCursor next turn) (InterfacePart iface slots) x l = tt
+  live_changed_part (SetCursor next turn) (PlatformPart slots pairs) x l = tt
+  live_changed_part (SetCursor next turn) (SpacePart slots) x l = tt
+  live_changed_part (SetCursor next turn) (PairIteratorPart of kind n) x l = tt
+  live_changed_part (SetCursor next turn) (ArrayIteratorPart of n last) x l = l
+  live_changed_part (SetCursor next turn) (PromisePart state) x l = tt
+
+-- a sight is of the look that it is asked for
+pub shows_look : (what : Look) (a : AnswerTerm) → Shows what (sight_in what a)
+shows_look looks.Kind a = tt
+shows_look looks.Cursor a = tt
 
 -- what is live among the one objects is live among the others
 abbrev pub Grows : List Obj → List Obj → Type 0

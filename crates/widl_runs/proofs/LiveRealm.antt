@@ -1,6 +1,5 @@
 -- For proofs alone. All that the first store holds is live.
 use Rattle.std.proofs.Common.{◌≡◌, ℕ, ◌+◌, List, [], ◌∷◌, ◌++◌, Option, Some, length, map, refl, sym, ap, ◌∙◌, arith, append_assoc, length-append}
-use Rattle.std.proofs.lemmas.Bool.{cond_both}
 use Rattle.std.specs.Prelude.{slice_get}
 use Rattle.std.specs.Option.{option_map}
 use Rattle.std.proofs.lemmas.List.{map-append, length-map}
@@ -10,18 +9,18 @@ use Rattle.widl_value.specs.declared.object.Shape.{Shape}
 use Rattle.widl_value.specs.declared.object.Shape.TheVariants.{Callable}
 use Rattle.widl_store.specs.declared.property.Prop.{Prop}
 use Rattle.widl_store.specs.Effects.{first_props}
-use Rattle.widl_store.specs.Inners.{InnerTerm, is_array}
 use Rattle.widl_store.specs.Intrinsics.{intrinsics}
-use Rattle.widl_store.specs.Objects.{Obj, IsLive, with_prop, length_key, length_prop, function_object}
+use Rattle.widl_store.specs.Objects.{Obj, IsLive, with_prop, function_object}
 use Rattle.widl_store.specs.Plans.{Plan, tag, with_entries, object_of}
 use Rattle.widl_store.specs.Realm.{operation_function, functions_from, operations_from, namespace_object, namespace_plans, namespaces_from, after, realm_plans, realm_over, realm_of}
 use Rattle.widl_store.proofs.LiveHomes.{homes_live}
 use Rattle.widl_store.proofs.PlanObjects.{intrinsics_are_18}
 use Rattle.widl_store.proofs.RealmSteps.{longer}
+use Rattle.widl_runs.specs.Actions.{ObjectPrototype, FunctionPrototype, ArrayPrototype, TypeErrorPrototype, ArrayIteratorPrototype}
 use Rattle.widl_runs.specs.Fitting.{HasPrototypes}
 use Rattle.widl_runs.specs.Traces.{first_world}
 use Rattle.widl_runs.proofs.LiveParts.{LiveProps, LiveInner, LiveObjects}
-use Rattle.widl_runs.proofs.LiveStores.{last_shape, live_with}
+use Rattle.widl_runs.proofs.LiveStores.{last_shape, live_first, live_with}
 use Rattle.widl_runs.proofs.LiveWorlds.{LiveWorld}
 
 -- 1. Plans
@@ -38,12 +37,9 @@ module _ (all : List Obj) where
   live_entries held [] l x = l
   live_entries held (e ∷ es) l x = live_entries (with_prop held e.0 e.1) es (live_with all held e.0 e.1 l x.0) x.1
 
-  live_first : (inner : InnerTerm) → LiveProps all (first_props inner)
-  live_first inner = cond_both (is_array inner) ((length_key, length_prop 0) ∷ []) [] (LiveProps all) (λ e. (tt, tt)) (λ e. tt)
-
   live_plans : (plans : List Plan) → LivePlans plans → LiveObjects all (map object_of plans)
   live_plans [] l = tt
-  live_plans (plan ∷ plans) l = ((live_entries (first_props plan.inner) plan.entries (live_first plan.inner) l.0.0, l.0.1), live_plans plans l.1)
+  live_plans (plan ∷ plans) l = ((live_entries (first_props plan.inner) plan.entries (live_first all plan.inner) l.0.0, l.0.1), live_plans plans l.1)
 
   plans_append : (plans more : List Plan) → LivePlans plans → LivePlans more → LivePlans (plans ++ more)
   plans_append [] more l x = x
@@ -106,7 +102,11 @@ has_functions more = record { eight = refl; nine = refl; ten = refl; eleven = re
 
 has_prototypes : (more : List Plan) → HasPrototypes (map object_of (intrinsics ++ more))
 unfolding intrinsics
-has_prototypes more = record { object = refl; function = refl; array = refl; error = refl; iterator = refl }
+has_prototypes more ObjectPrototype = refl
+has_prototypes more FunctionPrototype = refl
+has_prototypes more ArrayPrototype = refl
+has_prototypes more TypeErrorPrototype = refl
+has_prototypes more ArrayIteratorPrototype = refl
 
 live_intrinsics : (all : List Obj) → HasFunctions all → LivePlans all intrinsics
 unfolding intrinsics

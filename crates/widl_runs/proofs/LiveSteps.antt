@@ -1,8 +1,8 @@
 -- For proofs alone. The steps of each job hold live references alone, where the job and all replies do.
-use Rattle.std.proofs.Common.{ℕ, ◌+◌, ◌<◌, ◌^◌, length-append, zero, suc, Bool, true, false, List, [], ◌∷◌, Option, Some, None, length, arith, if◌then◌else◌}
+use Rattle.std.proofs.Common.{ℕ, ap, subst, sym, ◌∙◌, ◌+◌, ◌<◌, ◌^◌, length-append, zero, suc, Bool, true, false, List, [], ◌∷◌, Option, Some, None, length, arith, if◌then◌else◌}
 use Rattle.std.proofs.lemmas.Bool.{cond_both}
 use Rattle.std.specs.Prelude.{All, IfSome, slice_index_or}
-use Rattle.std.specs.Option.{option_and_then, option_map_or}
+use Rattle.std.specs.Option.{option_map_or, unwrap_or}
 use Rattle.std.specs.declared.result.Result.{Result}
 use Rattle.std.specs.declared.result.Result.TheVariants as results
 use Rattle.widl_dialog.specs.Dialog.{End, Say, Steps}
@@ -24,20 +24,23 @@ use Rattle.widl_store.specs.declared.inner.Builtin.{Builtin}
 use Rattle.widl_store.specs.declared.inner.Builtin.TheVariants as builtins
 use Rattle.widl_store.specs.declared.property.Prop.{Prop}
 use Rattle.widl_store.specs.declared.property.Prop.TheVariants as props
-use Rattle.widl_store.specs.Inners.{InnerTerm, PlainPart, ArrayPart, ErrorPart, ScriptPart, BuiltinPart, InterfacePart, PlatformPart, SpacePart, PairIteratorPart, ArrayIteratorPart, PromisePart}
+use Rattle.widl_store.specs.Inners.{InnerTerm, PlainPart}
 use Rattle.widl_store.specs.Objects.{Obj, IsLive}
+use Rattle.widl_store.specs.Plans.{Plan}
 use Rattle.widl_script_tree.specs.Trees.{Text, ExpressionTree, UndefinedT, NullT, ThisT, NewSymbolT, NewObjectT, BoolT, NumberT, TextT, NameT, SymbolT, ObjectOfT, NewArrayT, MemberT, IndexT, CallT, NewT, CallWithT, ExpressionTrees, none, more, MemberTree, NamedT, ComputedT, StatementTree, LetT, DoT, ReturnT, ThrowT, ShowT, SetT, DefineT, DefineAccessorT, DeleteT, TryT, IfT, FunctionT, StepsT, StatementTrees, no_statements, then_more, FunctionTree}
 use Rattle.widl_trace.specs.declared.code.Code.{Code}
 use Rattle.widl_trace.specs.declared.code.Code.TheVariants as code
-use Rattle.widl_steps.specs.AskTerms.{AskTerm, GetAsk, CallAsk, KindAsk, UnitAsk, NoteAsk, OwnKeysAsk, OwnAsk, NewArrayAsk, NewObjectAsk, NewArrayIteratorAsk, CursorAsk, SetCursorAsk}
+use Rattle.widl_steps.specs.declared.ask.Look.{Look}
+use Rattle.widl_steps.specs.AskTerms.{AskTerm, GetAsk, CallAsk, UnitAsk, NoteAsk, OwnKeysAsk, OwnAsk, LookAsk, NewAsk, NewTerm, NewArray, ChangeAsk, OfLook, SightAnswer}
 use Rattle.widl_steps.specs.Tasks.{TaskEnd, Gives, Plain, Picks, Throw, Rethrow, Profile}
 use Rattle.widl_steps.specs.BuiltCalls.{calls_built_today}
 use Rattle.widl_steps.specs.CallRules.{call_rule}
 use Rattle.widl_steps.specs.Operations.{lines_of, operation_in}
 use Rattle.widl_steps.specs.StepLines.{Operation, is_target, lines_for}
-use Rattle.widl_runs.specs.Ends.{JobEnd, Normal, Returned, Thrown, Talked, Seen, task_end_in}
+use Rattle.widl_runs.specs.Ends.{JobEnd, Normal, Returned, Thrown, Talked, Seen, answer_by, answer_of, completion_answer, task_end_in}
+use Rattle.widl_runs.specs.Looks.{sight_of}
 use Rattle.widl_runs.specs.Asks.{asks}
-use Rattle.widl_runs.specs.Actions.{Pay, Reply, NewObject, Ordinary, ArrayOf, ObjectOf, ArrayIteratorOf, cursor_of, cursor_seen, inner_in, body_in, property_in, put_result_in, define_result_in, delete_result_in, Body, ScriptBody, BuiltinBody, NoBody, object_prototype}
+use Rattle.widl_runs.specs.Actions.{Pay, Reply, inner_in, body_in, property_in, put_result_in, define_result_in, delete_result_in, Body, ScriptBody, BuiltinBody, NoBody, ObjectPrototype, FunctionPrototype, ArrayPrototype, TypeErrorPrototype, prototype, prototype_of, ordinary, plan_of, sight_seen}
 use Rattle.widl_runs.specs.Jobs.{Program, KeyPart, Named, Computed, MemberUse, ForRead, ForCall, ForSet, ForDefine, ForAccessor, ForDelete, RowUse, ForArguments, ForNew, ForItems, Job, RunStatements, RunStatement, Evaluate, EvaluateRow, ReadMember, SetMember, DefineMember, DefineAccessor, DeleteMember, CallValue, ConstructValue, Talk, Asked, Fail, Doing, value, fails, reaches}
 use Rattle.widl_runs.specs.Calls.{call_result, called, ends_talk, function_in, body, if_callable, callable, call, construct_body, construct}
 use Rattle.widl_runs.specs.Members.{accessor_flags, with_getter, uses, member, key_of, if_key, tested, read_value, put_done, define_done, defines_parts, tests_setter, delete_done}
@@ -46,10 +49,11 @@ use Rattle.widl_runs.specs.Statements.{same_value, caught, performs, run_stateme
 use Rattle.widl_runs.specs.Rules.{rule}
 use Rattle.widl_runs.specs.Traces.{whole}
 use Rattle.widl_runs.specs.Fitting.{AreFew, count_of, HasShortRows, HaveShortRows, HasShortMember, HasShortOption, HasFunctions, HasFunction, ThrowsPlain, HasPlainSteps, IsRunnable, HasPrototypes, CanBeMade}
-use Rattle.widl_runs.proofs.LiveParts.{LiveTaskEnd, LiveAnswer, LiveCursor, LiveInner, LiveSeen, LiveValue, LiveOption, LiveValues, LiveEnd, LiveProp, LiveFound, LivePut, LiveReply}
-use Rattle.widl_runs.proofs.LiveJobs.{LiveItems, LiveUse, LiveAsk, LiveJob, Safe, live_append, live_parameters}
+use Rattle.widl_runs.proofs.LiveParts.{LiveTaskEnd, LiveAnswer, LiveInner, LiveSeen, live_sight, live_sight_in, LiveValue, LiveOption, LiveValues, LiveEnd, LiveProp, LiveFound, LivePut, LiveReply}
+use Rattle.widl_runs.proofs.LiveJobs.{LiveItems, LiveNew, LiveUse, LiveAsk, LiveJob, LiveJobEnd, Safe, safe_weaker, live_append, live_parameters}
+use Rattle.widl_runs.proofs.LiveStores.{live_items}
 use Rattle.widl_runs.proofs.LiveTalks.{safe_call_task}
-use Rattle.widl_runs.proofs.SafeTalks.{live_task_end, safe_in_world}
+use Rattle.widl_runs.proofs.SafeTalks.{live_task_end, live_completion, safe_in_world}
 
 plain_lines : (o : Operation) (ss : StatementTrees) → HasPlainSteps ss → All ThrowsPlain (lines_for o ss)
 plain_lines o no_statements h = λ k d less. absurd (omega (arith, less))
@@ -75,7 +79,7 @@ has_body count (f ∷ fs) (suc number) each = has_body count fs number (λ k d l
 
 module _ (p : Program) (runnable : IsRunnable p.script) (objects : List Obj) (first : HasPrototypes objects) where
   abbrev IsSafe : Doing → Type 0
-  IsSafe d = Safe p objects d
+  IsSafe d = Safe p objects (LiveEnd objects) d
 
   abbrev Live : Value → Type 0
   Live v = LiveValue objects v
@@ -99,8 +103,12 @@ module _ (p : Program) (runnable : IsRunnable p.script) (objects : List Obj) (fi
   safe_reaches : (end : ℕ) → IsSafe (reaches end)
   safe_reaches end = (tt, λ r l. tt)
 
-  safe_adds : (new : NewObject) → CanBeMade p objects new → LiveItems objects new → IsSafe (adds new)
-  safe_adds new can items = ((can, items), λ r l. l.object)
+  safe_adds : (plan : Plan) → CanBeMade p objects plan → LiveItems objects plan.inner plan.entries → IsSafe (adds plan)
+  safe_adds plan can items = ((can, items), λ r l. l.0.object)
+
+  -- what is asked for can be made
+  can_be_new : (new : NewTerm) → LiveNew objects new → CanBeMade p objects (plan_of new)
+  can_be_new new l = (first (prototype_of new), subst (λ (number : Option ℕ). IfSome number (λ n. n < length p.script.functions)) (sym l.other) tt)
 
   live_result : (c : JobEnd) → LiveEnd objects c → LiveEnd objects (call_result c)
   live_result (Normal v) l = tt
@@ -236,17 +244,17 @@ module _ (p : Program) (runnable : IsRunnable p.script) (objects : List Obj) (fi
 
   safe_object : (v : Value) → Live v → IsSafe (object_of v)
   safe_object values.Undefined l = safe_fails code.NotObject
-  safe_object values.Null l = (tt, λ r x. safe_adds (Ordinary None) tt tt)
+  safe_object values.Null l = (tt, λ r x. safe_adds (ordinary None) (tt, tt) (tt, tt))
   safe_object (values.Bool b) l = safe_fails code.NotObject
   safe_object (values.Num x) l = safe_fails code.NotObject
   safe_object (values.Str text) l = safe_fails code.NotObject
   safe_object (values.Sym id) l = safe_fails code.NotObject
-  safe_object (values.Obj o) l = (tt, λ r x. safe_adds (Ordinary (Some o)) l tt)
+  safe_object (values.Obj o) l = (tt, λ r x. safe_adds (ordinary (Some o)) (l, tt) (tt, tt))
 
   safe_done : (what : RowUse) (vs : List Value) → LiveUse objects what → Lives vs → AreFew vs → IsSafe (row_done what vs)
   safe_done (ForArguments f this) vs l ls few = ((l.0, l.1, ls, few), λ c x. x)
   safe_done (ForNew f) vs l ls few = (l, λ c x. x)
-  safe_done ForItems vs l ls few = (tt, λ r x. safe_adds (ArrayOf vs) tt ls)
+  safe_done ForItems vs l ls few = (tt, λ r x. safe_adds (plan_of (NewArray vs)) (first ArrayPrototype, tt) (tt, live_items objects 0 vs ls))
 
   safe_row : (what : RowUse) (vs : List Value) (es : ExpressionTrees) → LiveUse objects what → Lives vs → length vs + count_of es < 2 ^ 32 → HaveShortRows es → IsSafe (evaluate_row what vs es)
   safe_row what vs none l ls few short = safe_done what vs l ls (omega (arith, few))
@@ -279,13 +287,13 @@ module _ (p : Program) (runnable : IsRunnable p.script) (objects : List Obj) (fi
   safe_evaluate : (e : ExpressionTree) → HasShortRows e → IsSafe (evaluate e)
   safe_evaluate UndefinedT short = tt
   safe_evaluate NullT short = tt
-  safe_evaluate ThisT short = (tt, λ r l. l.value)
-  safe_evaluate NewSymbolT short = (tt, λ r l. (tt, λ s m. m.value))
-  safe_evaluate NewObjectT short = (tt, λ r l. safe_adds (Ordinary (Some object_prototype)) first.object tt)
+  safe_evaluate ThisT short = (tt, λ r l. l.0.value)
+  safe_evaluate NewSymbolT short = (tt, λ r l. (tt, λ s m. m.0.value))
+  safe_evaluate NewObjectT short = (tt, λ r l. safe_adds (ordinary (Some (prototype ObjectPrototype))) (first ObjectPrototype, tt) (tt, tt))
   safe_evaluate (BoolT b) short = tt
   safe_evaluate (NumberT x) short = tt
   safe_evaluate (TextT text) short = tt
-  safe_evaluate (NameT name) short = (tt, λ r l. l.value)
+  safe_evaluate (NameT name) short = (tt, λ r l. l.0.value)
   safe_evaluate (SymbolT id) short = tt
   safe_evaluate (ObjectOfT proto) short = (short, λ c x. safe_value _ safe_object c x)
   safe_evaluate (NewArrayT es) short = ((tt, tt, (let few = short.0 in omega (arith, few)), short.1), λ c x. x)
@@ -322,7 +330,7 @@ module _ (p : Program) (runnable : IsRunnable p.script) (objects : List Obj) (fi
   safe_performs (DeleteT m) h = safe_member ForDelete m tt h
   safe_performs (TryT body name handler) h = (h.0, safe_caught name handler h.1)
   safe_performs (IfT left right met unmet) h = (h.0, λ c x. safe_value _ (λ v l. (h.1, λ d y. safe_value _ (λ w m. safe_chooses (same_value v w) met unmet h.2 h.3) d y)) c x)
-  safe_performs (FunctionT number name params body) h = (tt, λ r x. ((h, tt), λ s y. (y.object, λ t z. tt)))
+  safe_performs (FunctionT number name params body) h = (tt, λ r x. (((first FunctionPrototype, h), (tt, (tt, (tt, tt)))), λ s y. (y.0.object, λ t z. tt)))
   safe_performs (StepsT target lines) h = tt
 
   safe_paid : (s : StatementTree) → HasFunction (length p.script.functions) s → IsSafe (Say Pay (λ r. performs s))
@@ -347,40 +355,26 @@ module _ (p : Program) (runnable : IsRunnable p.script) (objects : List Obj) (fi
   safe_statements no_statements h = tt
   safe_statements (then_more s ss) h = (h.0, λ c x. safe_value _ (λ v l. (h.1, λ d y. y)) c x)
 
-  -- a look at an object shows what is live
-  live_cursor : (r : Reply) → LiveReply objects r → LiveAnswer objects (cursor_seen r)
-  live_cursor r l = at (inner_in r) l.inner
-    where
-      of : (inner : InnerTerm) → LiveInner objects inner → IfSome (cursor_of inner) (LiveCursor objects)
-      of PlainPart x = tt
-      of ArrayPart x = tt
-      of ErrorPart x = tt
-      of (ScriptPart f) x = tt
-      of (BuiltinPart f) x = tt
-      of (InterfacePart iface slots) x = tt
-      of (PlatformPart slots pairs) x = tt
-      of (SpacePart slots) x = tt
-      of (PairIteratorPart o kind next) x = tt
-      of (ArrayIteratorPart o next turn) x = x
-      of (PromisePart state) x = tt
+  -- the inner part that a look sees
+  live_seen_part : (inner : Option InnerTerm) → LiveSeen objects inner → LiveInner objects (unwrap_or inner PlainPart)
+  live_seen_part None l = tt
+  live_seen_part (Some inner) l = l
 
-      at : (inner : Option InnerTerm) → LiveSeen objects inner → IfSome (option_and_then cursor_of inner) (LiveCursor objects)
-      at None x = tt
-      at (Some inner) x = of inner x
+  live_look : (what : Look) (r : Reply) → LiveReply objects r → LiveAnswer objects (answer_by (OfLook what) (Seen (sight_seen what r)))
+  live_look what r l =
+      let inner : InnerTerm = unwrap_or (inner_in r) PlainPart in
+      live_sight_in objects what (SightAnswer (sight_of what inner)) (live_sight objects what inner (live_seen_part (inner_in r) l.inner))
 
-  safe_ask : (ask : AskTerm) → LiveAsk objects ask → IsSafe (asks ask)
-  safe_ask (GetAsk o key) l = (tt, λ r x. (l, λ s y. safe_read o (property_in s) l y.property))
-  safe_ask (CallAsk f this args) l = (l, λ c x. x)
-  safe_ask (KindAsk o) l = (l, λ r x. tt)
+  safe_ask : (ask : AskTerm) → LiveAsk objects ask → Safe p objects (λ c. LiveAnswer objects (answer_of ask c)) (asks ask)
+  safe_ask (GetAsk o key) l = (tt, λ r x. (l, λ s y. safe_weaker p objects (LiveEnd objects) (λ c. LiveAnswer objects (completion_answer c)) (read_value o (property_in s)) (live_completion objects) (safe_read o (property_in s) l y.0.property)))
+  safe_ask (CallAsk f this args) l = (l, λ c x. live_completion objects c x)
   safe_ask UnitAsk l = (tt, λ r x. tt)
   safe_ask (NoteAsk event) l = (tt, λ r x. tt)
   safe_ask (OwnKeysAsk o) l = (tt, λ r x. (l, λ s y. tt))
   safe_ask (OwnAsk o key) l = (tt, λ r x. (l, λ s y. tt))
-  safe_ask (NewArrayAsk items) l = (tt, λ r x. safe_adds (ArrayOf items) tt l)
-  safe_ask (NewObjectAsk entries) l = (tt, λ r x. safe_adds (ObjectOf entries) tt l)
-  safe_ask (NewArrayIteratorAsk o) l = (tt, λ r x. safe_adds (ArrayIteratorOf o) tt l)
-  safe_ask (CursorAsk o) l = (l, live_cursor)
-  safe_ask (SetCursorAsk o next turn) l = (l, λ r x. tt)
+  safe_ask (LookAsk o what) l = (l, λ r x. live_look what r x.0)
+  safe_ask (NewAsk new) l = (tt, λ r x. ((can_be_new new l, l.items), λ s y. y.0.object ∙ ap Some y.1))
+  safe_ask (ChangeAsk o change) l = (l, λ r x. tt)
 
   plain_steps : (callee : Callee) (overload : ℕ) → All ThrowsPlain (lines_of p.list p.script callee overload)
   plain_steps callee overload = at (operation_in p.list callee.part overload callee.owner)
@@ -389,21 +383,21 @@ module _ (p : Program) (runnable : IsRunnable p.script) (objects : List Obj) (fi
       at None = λ k d less. absurd (omega (arith, less))
       at (Some o) = plain_lines o p.script.top runnable.steps
 
-  pub safe : (j : Job) → LiveJob p objects j → IsSafe (rule p j)
+  pub safe : (j : Job) → LiveJob p objects j → Safe p objects (LiveJobEnd objects j) (rule p j)
   safe (RunStatements ss) l = safe_statements ss l
   safe (RunStatement s) l = safe_statement s l
   safe (Evaluate e) l = safe_evaluate e l
   safe (EvaluateRow what vs es) l = safe_row what vs es l.0 l.1 l.2 l.3
-  safe (ReadMember of key) l = safe_tested _ (λ o k lo. (lo, λ r x. safe_read o (property_in r) lo x.property)) of key l
-  safe (SetMember of key v) l = safe_tested _ (λ o k lo. ((lo, l.1), λ r x. safe_put o (put_result_in r) lo x.put)) of key l.0
+  safe (ReadMember of key) l = safe_tested _ (λ o k lo. (lo, λ r x. safe_read o (property_in r) lo x.0.property)) of key l
+  safe (SetMember of key v) l = safe_tested _ (λ o k lo. ((lo, l.1), λ r x. safe_put o (put_result_in r) lo x.0.put)) of key l.0
   safe (DefineMember of key v hidden) l = safe_tested _ (λ o k lo. ((lo, l.1), λ r x. safe_defined (define_result_in r))) of key l.0
   safe (DefineAccessor of key getter setter) l = safe_tested _ (λ o k lo. safe_callable _ (λ g lg. safe_setter o k setter g lo l.2 lg) getter l.1) of key l.0
   safe (DeleteMember of key) l = safe_tested _ (λ o k lo. (lo, λ r x. safe_deleted (delete_result_in r))) of key l
   safe (CallValue f this args) l = safe_call f this args l.0 l.1 l.2 l.3
   safe (ConstructValue f args) l = safe_construct f args l
-  safe (Talk task) l = safe_in_world p objects first (call_rule calls_built_today p.list (lines_of p.list p.script) task) (safe_call_task p.list (lines_of p.list p.script) plain_steps objects task l)
+  safe (Talk task) l = safe_in_world p objects (call_rule calls_built_today p.list (lines_of p.list p.script) task) (safe_call_task p.list (lines_of p.list p.script) plain_steps objects task l)
   safe (Asked ask) l = safe_ask ask l
-  safe (Fail why) l = (tt, λ r x. ((tt, tt), λ s y. (tt, λ t z. y.object)))
+  safe (Fail why) l = (tt, λ r x. (((first TypeErrorPrototype, tt), (tt, tt)), λ s y. (tt, λ t z. y.0.object)))
 
   pub safe_whole : IsSafe (whole p)
   safe_whole = (runnable.top, λ c l. (tt, λ r x. l))

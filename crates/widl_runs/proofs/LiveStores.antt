@@ -1,28 +1,24 @@
 -- For proofs alone. Effects on a store keep its references live.
 use Rattle.std.proofs.Common.{◌≡◌, ℕ, zero, suc, ◌+◌, List, [], ◌∷◌, ◌++◌, Option, Some, None, length, map, filter, refl, sym, ap, subst, ◌∙◌}
 use Rattle.std.proofs.lemmas.Bool.{cond_both}
-use Rattle.std.specs.Prelude.{decimal, is_some, slice_get, slice_set}
+use Rattle.std.specs.Prelude.{is_some, slice_get, slice_set}
 use Rattle.std.specs.Map.{lookup}
 use Rattle.std.specs.Option.{option_and_then, option_map, option_map_or}
 use Rattle.widl_text.specs.Index.{index_of}
 use Rattle.widl_text.specs.declared.key.Key.{Key}
-use Rattle.widl_text.specs.declared.key.Key.TheVariants as keys
 use Rattle.widl_value.specs.declared.object.ObjRef.{ObjRef}
-use Rattle.widl_value.specs.declared.object.Shape.TheVariants as shapes
 use Rattle.widl_value.specs.declared.value.Value.{Value}
 use Rattle.widl_store.specs.declared.property.Prop.{Prop}
-use Rattle.widl_store.specs.declared.property.Prop.TheVariants as props
-use Rattle.widl_store.specs.declared.inner.Turn.{Turn}
-use Rattle.widl_store.specs.declared.inner.Turn.TheVariants.{Idle}
-use Rattle.widl_store.specs.Inners.{InnerTerm, PlainPart, ArrayPart, ErrorPart, ScriptPart, BuiltinPart, InterfacePart, PlatformPart, SpacePart, PairIteratorPart, ArrayIteratorPart, PromisePart, is_array}
-use Rattle.widl_store.specs.Objects.{Obj, IsLive, own_at, same_key, prop_at, replaced, with_prop, is_other, without_prop, all_flags, length_key, length_prop}
-use Rattle.widl_store.specs.Effects.{with_props, changed, is_above, raised_from, raised, placed, plain_with, put_in, defined, deleted, new_object, added, with_inner, with_part}
+use Rattle.widl_store.specs.Inners.{InnerTerm, is_array}
+use Rattle.widl_store.specs.Objects.{Obj, IsLive, own_at, same_key, prop_at, replaced, with_prop, is_other, without_prop, length_key, length_prop}
+use Rattle.widl_store.specs.Effects.{with_props, changed, is_above, raised_from, raised, placed, plain_with, put_in, defined, deleted, first_props, new_object, added, with_inner, with_part}
 use Rattle.widl_store.specs.Found.{own_or, first_along, found_at}
-use Rattle.widl_store.specs.Plans.{function_entries}
+use Rattle.widl_store.specs.Plans.{Plan}
 use Rattle.widl_store.proofs.Living.{live_changed, live_inner, live_more}
-use Rattle.widl_runs.specs.Actions.{NewObject, Ordinary, ScriptFunction, ArrayOf, TypeErrorObject, ObjectOf, ArrayIteratorOf, with_properties, with_function, with_items, with_new, with_cursor, moved_part, data_properties, inner_at, new_reference, object_prototype, function_prototype, array_prototype, type_error_prototype, array_iterator_prototype}
-use Rattle.widl_runs.proofs.LiveParts.{Grows, LiveValue, LiveValues, LiveProp, LiveFound, LiveProps, LiveInner, LiveSeen, LiveObject, LiveObjects, more_values, more_props, more_objects}
-use Rattle.widl_runs.proofs.LiveJobs.{LiveData, LiveItems}
+use Rattle.widl_steps.specs.AskTerms.{ChangeTerm}
+use Rattle.widl_runs.specs.Actions.{with_properties, with_new, with_change, changed_part, item_properties, inner_at, new_reference}
+use Rattle.widl_runs.proofs.LiveParts.{Grows, LiveValue, LiveValues, LiveProp, LiveFound, LiveProps, LiveInner, LiveSeen, LiveObject, LiveObjects, LiveChange, live_changed_part, more_inner, more_props, more_objects}
+use Rattle.widl_runs.proofs.LiveJobs.{LiveItems}
 
 -- 1. The properties of one object
 
@@ -151,7 +147,7 @@ kept_properties objects id (e ∷ es) l x =
     let next : List Obj = defined objects id e.0 e.1 in
     kept_then objects next (with_properties next id es) one (kept_properties next id es one.live (more_props objects next one.grows es x.1))
 
--- an iterator is moved on
+-- an inner part is changed
 live_part : (objects os : List Obj) (id : ℕ) (inner : InnerTerm) → LiveObjects objects os → LiveInner objects inner → LiveObjects objects (with_inner os id inner)
 live_part objects os id inner l x = at (slice_get os id) refl
   where
@@ -165,36 +161,17 @@ kept_inner objects id inner l x =
     let grows : Grows objects more = λ r y. live_inner objects id inner r y in
     record { grows = grows; live = more_objects objects more grows more (live_part objects objects id inner l x) }
 
-live_moved : (objects : List Obj) (next : ℕ) (turn : Turn) (inner : InnerTerm) → LiveInner objects inner → LiveInner objects (moved_part next turn inner)
-live_moved objects next turn PlainPart l = tt
-live_moved objects next turn ArrayPart l = tt
-live_moved objects next turn ErrorPart l = tt
-live_moved objects next turn (ScriptPart f) l = tt
-live_moved objects next turn (BuiltinPart f) l = tt
-live_moved objects next turn (InterfacePart iface slots) l = tt
-live_moved objects next turn (PlatformPart slots pairs) l = tt
-live_moved objects next turn (SpacePart slots) l = tt
-live_moved objects next turn (PairIteratorPart of kind n) l = tt
-live_moved objects next turn (ArrayIteratorPart of n last) l = l
-live_moved objects next turn (PromisePart state) l = tt
-
-pub kept_moved : (objects : List Obj) (o : ObjRef) (next : ℕ) (turn : Turn) → LiveObjects objects objects → Kept objects (with_cursor objects o next turn)
-kept_moved objects o next turn l = at (inner_at objects o) (live_inner_at objects objects o l)
+pub kept_changed : (objects : List Obj) (o : ObjRef) (change : ChangeTerm) → LiveObjects objects objects → LiveChange objects change → Kept objects (with_change objects o change)
+kept_changed objects o change l y = at (inner_at objects o) (live_inner_at objects objects o l)
   where
-    at : (inner : Option InnerTerm) → LiveSeen objects inner → Kept objects (option_map_or (λ x. with_inner objects o.id (moved_part next turn x)) inner objects)
+    at : (inner : Option InnerTerm) → LiveSeen objects inner → Kept objects (option_map_or (λ x. with_inner objects o.id (changed_part change x)) inner objects)
     at None x = record { grows = λ r y. y; live = l }
-    at (Some inner) x = kept_inner objects o.id (moved_part next turn inner) l (live_moved objects next turn inner x)
+    at (Some inner) x = kept_inner objects o.id (changed_part change inner) l (live_changed_part objects change inner y x)
 
-live_data : (objects : List Obj) (entries : List (Key × Value)) → LiveData objects entries → LiveProps objects (data_properties entries)
-live_data objects [] l = tt
-live_data objects (e ∷ es) l = (l.0, live_data objects es l.1)
-
-kept_items : (objects : List Obj) (id index : ℕ) (items : List Value) → LiveObjects objects objects → LiveValues objects items → Kept objects (with_items objects id index items)
-kept_items objects id index [] l x = record { grows = λ o y. y; live = l }
-kept_items objects id index (v ∷ vs) l x =
-    let one = kept_defined objects id (keys.Name (decimal index)) (props.Plain v all_flags) l x.0 in
-    let next : List Obj = defined objects id (keys.Name (decimal index)) (props.Plain v all_flags) in
-    kept_then objects next (with_items next id (index + 1) vs) one (kept_items next id (index + 1) vs one.live (more_values objects next one.grows vs x.1))
+-- the items of an array, and the properties of an object
+pub live_items : (objects : List Obj) (index : ℕ) (items : List Value) → LiveValues objects items → LiveProps objects (item_properties index items)
+live_items objects index [] l = tt
+live_items objects index (v ∷ vs) l = (l.0, live_items objects (index + 1) vs l.1)
 
 -- an object that is added, and its reference
 pub record Made (objects more : List Obj) (o : ObjRef) : Type 0 where
@@ -218,19 +195,13 @@ made_object objects o r id shape bare l =
 made_then : (objects more last : List Obj) (o : ObjRef) → Made objects more o → Kept more last → Made objects last o
 made_then objects more last o x y = record { kept = kept_then objects more last x.kept y; live = y.grows o x.live }
 
-pub made_new : (objects : List Obj) (new : NewObject) → LiveObjects objects objects → LiveItems objects new → Made objects (with_new objects new) (new_reference (length objects) new)
-made_new objects (Ordinary proto) l items = made_object objects (new_object proto shapes.Plain PlainPart) (new_reference (length objects) (Ordinary proto)) refl refl (λ more g. (tt, tt)) l
-made_new objects (ScriptFunction number name count) l items =
-    let more : List Obj = added objects (Some function_prototype) shapes.Callable (ScriptPart number) in
-    let one = made_object objects (new_object (Some function_prototype) shapes.Callable (ScriptPart number)) (new_reference (length objects) (ScriptFunction number name count)) refl refl (λ us g. (tt, tt)) l in
-    made_then objects more (with_function more (length objects) name count) (new_reference (length objects) (ScriptFunction number name count)) one (kept_properties more (length objects) (function_entries count name) one.kept.live (tt, (tt, tt)))
-made_new objects (ArrayOf vs) l items =
-    let more : List Obj = added objects (Some array_prototype) shapes.Plain ArrayPart in
-    let one = made_object objects (new_object (Some array_prototype) shapes.Plain ArrayPart) (new_reference (length objects) (ArrayOf vs)) refl refl (λ us g. ((tt, tt), tt)) l in
-    made_then objects more (with_items more (length objects) 0 vs) (new_reference (length objects) (ArrayOf vs)) one (kept_items more (length objects) 0 vs one.kept.live (more_values objects more one.kept.grows vs items))
-made_new objects TypeErrorObject l items = made_object objects (new_object (Some type_error_prototype) shapes.Plain ErrorPart) (new_reference (length objects) TypeErrorObject) refl refl (λ more g. (tt, tt)) l
-made_new objects (ObjectOf entries) l items =
-    let more : List Obj = added objects (Some object_prototype) shapes.Plain PlainPart in
-    let one = made_object objects (new_object (Some object_prototype) shapes.Plain PlainPart) (new_reference (length objects) (ObjectOf entries)) refl refl (λ us g. (tt, tt)) l in
-    made_then objects more (with_properties more (length objects) (data_properties entries)) (new_reference (length objects) (ObjectOf entries)) one (kept_properties more (length objects) (data_properties entries) one.kept.live (more_props objects more one.kept.grows (data_properties entries) (live_data objects entries items)))
-made_new objects (ArrayIteratorOf o) l items = made_object objects (new_object (Some array_iterator_prototype) shapes.Plain (ArrayIteratorPart o 0 Idle)) (new_reference (length objects) (ArrayIteratorOf o)) refl refl (λ more g. (tt, g o items)) l
+-- the first properties of a new object: the length of an array
+pub live_first : (objects : List Obj) (inner : InnerTerm) → LiveProps objects (first_props inner)
+live_first objects inner = cond_both (is_array inner) ((length_key, length_prop 0) ∷ []) [] (LiveProps objects) (λ e. (tt, tt)) (λ e. tt)
+
+pub made_new : (objects : List Obj) (plan : Plan) → LiveObjects objects objects → LiveItems objects plan.inner plan.entries → Made objects (with_new objects plan) (new_reference (length objects) plan)
+made_new objects plan l items =
+    let more : List Obj = added objects plan.proto plan.shape plan.inner in
+    let o : ObjRef = new_reference (length objects) plan in
+    let one = made_object objects (new_object plan.proto plan.shape plan.inner) o refl refl (λ us g. (live_first us plan.inner, more_inner objects us g plan.inner items.0)) l in
+    made_then objects more (with_new objects plan) o one (kept_properties more (length objects) plan.entries one.kept.live (more_props objects more one.kept.grows plan.entries items.1))

@@ -1,5 +1,5 @@
 -- For proofs alone. Conversations hold live references alone, where their tasks and all answers do.
-use Rattle.std.proofs.Common.{ℕ, zero, suc, ℤ, ◌^◌, Bool, true, false, List, [], ◌∷◌, ◌++◌, Option, Some, None, length, arith, if◌then◌else◌}
+use Rattle.std.proofs.Common.{refl, ℕ, zero, suc, ℤ, ◌^◌, Bool, true, false, List, [], ◌∷◌, ◌++◌, Option, Some, None, length, arith, if◌then◌else◌}
 use Rattle.std.proofs.lemmas.Bool.{cond_both}
 use Rattle.std.specs.Prelude.{◌&&◌, All, IfSome, bytes_eq, codes, decimal, nat_abs, nat_eq, nat_le, nat_lt, slice_get, take}
 use Rattle.std.specs.Map.{lookup}
@@ -55,7 +55,7 @@ use Rattle.widl_steps.specs.declared.hint.Hint.{Hint}
 use Rattle.widl_steps.specs.declared.hint.Hint.TheVariants.{PrefersNumber, PrefersString}
 use Rattle.widl_steps.specs.declared.want.Want.{Want}
 use Rattle.widl_steps.specs.declared.want.Want.TheVariants as wants
-use Rattle.widl_steps.specs.AskTerms.{GetAsk, CallAsk, AnswerTerm, BeginAnswer, DoneAnswer, NormalAnswer, ThrownAnswer, KindAnswer, KeysAnswer, OwnAnswer, CursorAnswer}
+use Rattle.widl_steps.specs.AskTerms.{GetAsk, CallAsk, AnswerTerm, BeginAnswer, DoneAnswer, NormalAnswer, ThrownAnswer, KeysAnswer, OwnAnswer, SightAnswer}
 use Rattle.widl_steps.specs.Built.{built_today, is_built_type}
 use Rattle.widl_steps.specs.Defaults.{default, defaults_from, enumeration_among, literal_value, null_of, value_of_text}
 use Rattle.widl_steps.specs.Dictionaries.{member_given, member_value, members, requires_member, to_dictionary, undefined_member, with_value}
@@ -70,7 +70,7 @@ use Rattle.widl_steps.specs.Scalars.{convert, convert_plain, enumeration_result,
 use Rattle.widl_steps.specs.Sequences.{element, element_of, element_within, found_iterator_method, sequence_from, to_sequence, told_done, turn_given, turns, with_next}
 use Rattle.widl_steps.specs.Tasks.{Task, Primitive, Scalar, Convert, SequenceFrom, Turns, Entries, Members, Resolve, Arguments, Default, Defaults, Out, OutItems, OutUnits, Container, ArrayOf, ObjectOf, TaskEnd, Gives, Plain, Picks, Throw, Rethrow, Profile, Talk as TaskTalk}
 use Rattle.widl_steps.specs.Unions.{member_from, member_picked, member_probed, to_member, to_union, without_iterator}
-use Rattle.widl_steps.specs.Words.{fails, gives, normal, not_built, number, object, returns, text}
+use Rattle.widl_steps.specs.Words.{fails, gives, normal, not_built, number, returns, text}
 use Rattle.widl_steps.specs.ArrayFunctions.{array_iterator_next, array_values, by_cursor, by_turn, cursor_in, element_read, ends_iterator, given_in_turn, iterator_result, length_read, read_in_turn, with_length}
 use Rattle.widl_steps.specs.BuiltCalls.{calls_built_today, is_built_function}
 use Rattle.widl_steps.specs.CallRules.{call_rule, function, intrinsic}
@@ -80,9 +80,11 @@ use Rattle.widl_steps.specs.ObjectFunctions.{by_kind, joined, kind_in, kind_tag,
 use Rattle.widl_steps.specs.Operations.{StepsOf, chosen, owned_operation, returns_promise, steps_of}
 use Rattle.widl_steps.specs.StepLines.{args_of_lines, argument_value, line, lines, named_values, return_line}
 use Rattle.widl_runs.specs.Fitting.{ThrowsPlain}
-use Rattle.widl_runs.proofs.LiveParts.{LiveValue, LiveValues, LiveTerm, LiveTerms, LiveEntries, LiveMembers, LivePart, LiveTermList, LiveTaskEnd, LiveAnswer}
-use Rattle.widl_runs.proofs.LiveJobs.{LiveData, LiveMade, LiveRecord, LiveNamed, LiveTask, LiveCall, live_append, live_plain}
-use Rattle.widl_runs.proofs.SafeTalks.{SafeTalk, safe_rename, live_cursor_in, safe_normal, safe_object, safe_object_or, safe_callable_or, safe_method_or, safe_given, safe_returned, safe_number, safe_text, safe_if}
+use Rattle.widl_runs.specs.Actions.{data_properties}
+use Rattle.widl_runs.proofs.LiveParts.{LiveValue, LiveValues, LiveTerm, LiveTerms, LiveEntries, LiveMembers, LivePart, LiveTermList, LiveTaskEnd, LiveAnswer, LiveCursor, LiveProps, live_cursor_in}
+use Rattle.widl_runs.proofs.LiveJobs.{LiveMade, LiveRecord, LiveNamed, LiveTask, LiveCall, live_append, live_plain}
+use Rattle.widl_runs.proofs.LiveStores.{live_items}
+use Rattle.widl_runs.proofs.SafeTalks.{SafeTalk, safe_rename, safe_normal, safe_object, safe_object_or, safe_callable_or, safe_method_or, safe_given, safe_returned, safe_number, safe_text, safe_if}
 
 -- 1. Conversions
 
@@ -385,14 +387,14 @@ module _ (list : DefsTerm) (objects : List Obj) where
   safe_items container no_values made l ls = (ls, λ r lr. lr)
   safe_items container (more_values w left) made l ls = (l.0, λ r lr. safe_returned objects LiveT _ (λ v lv. ((l.1, live_append objects made v ls lv), λ s x. x)) r lr)
 
-  live_properties : (names : List (List ℕ)) (made : List Value) → LiveValues objects made → LiveData objects (properties names made)
+  live_properties : (names : List (List ℕ)) (made : List Value) → LiveValues objects made → LiveProps objects (data_properties (properties names made))
   live_properties [] made l = tt
   live_properties (name ∷ names) [] l = tt
   live_properties (name ∷ names) (v ∷ made) l = (l.0, live_properties names made l.1)
 
   safe_container : (container : Container) (made : List Value) → LiveValues objects made → Conv (out_units 0 container made)
-  safe_container ArrayOf made l = (l, safe_normal objects LiveT (returns {Job = Task}) (λ v lv. lv))
-  safe_container (ObjectOf names) made l = (live_properties names made l, safe_normal objects LiveT (returns {Job = Task}) (λ v lv. lv))
+  safe_container ArrayOf made l = (record { other = refl; items = (tt, live_items objects 0 made l) }, safe_normal objects LiveT (returns {Job = Task}) (λ v lv. lv))
+  safe_container (ObjectOf names) made l = (record { other = refl; items = (tt, live_properties names made l) }, safe_normal objects LiveT (returns {Job = Task}) (λ v lv. lv))
 
   safe_out_units : (left : ℕ) (container : Container) (made : List Value) → LiveValues objects made → Conv (out_units left container made)
   safe_out_units zero container made l = safe_container container made l
@@ -649,36 +651,35 @@ module _ (list : DefsTerm) (steps : StepsOf) (plain : (callee : Callee) (overloa
   safe_values (values.Num x) l = tt
   safe_values (values.Str units) l = tt
   safe_values (values.Sym id) l = tt
-  safe_values (values.Obj o) l = (l, safe_normal objects LiveC (returns {Job = CallTask}) (λ v lv. lv))
+  safe_values (values.Obj o) l = (record { other = refl; items = (l, tt) }, safe_normal objects LiveC (returns {Job = CallTask}) (λ v lv. lv))
 
   -- what a turn of an iterator does: the iterator and the object whose elements it gives are live
   module _ (iterator of : ObjRef) (next : ℕ) (li : IsLive objects iterator) (lo : IsLive objects of) where
     safe_ended : (d : CallTalk) → IsCall d → IsCall (ends_iterator iterator next d)
-    safe_ended d x = (li, λ a la. x)
+    safe_ended d x = ((li, tt), λ a la. x)
 
     safe_read : (k : Value → CallTalk) → ((v : Value) → LiveValue objects v → IsCall (k v)) → (a : AnswerTerm) → LiveAnswer objects a → IsCall (read_in_turn iterator next k a)
     safe_read k each BeginAnswer l = each values.Undefined tt
     safe_read k each DoneAnswer l = each values.Undefined tt
     safe_read k each (NormalAnswer v) l = each v l
-    safe_read k each (ThrownAnswer v) l = (li, λ a la. l)
-    safe_read k each (KindAnswer kind) l = each values.Undefined tt
+    safe_read k each (ThrownAnswer v) l = ((li, tt), λ a la. l)
     safe_read k each (KeysAnswer all) l = each values.Undefined tt
     safe_read k each (OwnAnswer flags) l = each values.Undefined tt
-    safe_read k each (CursorAnswer state) l = each values.Undefined tt
+    safe_read k each (SightAnswer sight) l = each values.Undefined tt
 
     safe_given_in : (k : TaskEnd → CallTalk) → ((r : TaskEnd) → LiveTaskEnd objects r → IsCall (k r)) → (r : TaskEnd) → LiveTaskEnd objects r → IsCall (given_in_turn iterator next k r)
     safe_given_in k each (Gives w) l = each (Gives w) l
     safe_given_in k each (Plain v) l = each (Plain v) l
     safe_given_in k each (Picks overload ws) l = each (Picks overload ws) l
-    safe_given_in k each (Throw why) l = (li, λ a la. l)
-    safe_given_in k each (Rethrow v) l = (li, λ a la. l)
+    safe_given_in k each (Throw why) l = ((li, tt), λ a la. l)
+    safe_given_in k each (Rethrow v) l = ((li, tt), λ a la. l)
     safe_given_in k each (Profile end) l = each (Profile end) l
 
     safe_result_object : (v : Value) (b : Bool) → LiveValue objects v → IsCall (iterator_result v b)
-    safe_result_object v b l = ((l, (tt, tt)), safe_normal objects LiveC (returns {Job = CallTask}) (λ w lw. lw))
+    safe_result_object v b l = (record { other = refl; items = (tt, (l, (tt, tt))) }, safe_normal objects LiveC (returns {Job = CallTask}) (λ w lw. lw))
 
     safe_element_read : (v : Value) → LiveValue objects v → IsCall (element_read iterator next v)
-    safe_element_read v l = (li, λ a la. safe_result_object v false l)
+    safe_element_read v l = ((li, tt), λ a la. safe_result_object v false l)
 
     safe_with_length : (count : ℕ) → IsCall (with_length iterator of next count)
     safe_with_length count =
@@ -690,11 +691,11 @@ module _ (list : DefsTerm) (steps : StepsOf) (plain : (callee : Callee) (overloa
         (l, safe_given_in (number (λ x. with_length iterator of next (length_of x))) (safe_number objects LiveC (λ x. with_length iterator of next (length_of x)) (λ x. safe_with_length (length_of x))))
 
     safe_turn : (turn : Turn) → IsCall (by_turn iterator of next turn)
-    safe_turn Idle = (li, λ a la. (lo, safe_read (length_read iterator of next) safe_length_read))
+    safe_turn Idle = ((li, tt), λ a la. (lo, safe_read (length_read iterator of next) safe_length_read))
     safe_turn Running = tt
     safe_turn Ended = safe_result_object values.Undefined true tt
 
-  safe_cursor : (iterator : ObjRef) (state : Option CursorState) → IsLive objects iterator → LiveAnswer objects (CursorAnswer state) → IsCall (by_cursor iterator state)
+  safe_cursor : (iterator : ObjRef) (state : Option CursorState) → IsLive objects iterator → IfSome state (LiveCursor objects) → IsCall (by_cursor iterator state)
   safe_cursor iterator None li l = tt
   safe_cursor iterator (Some (cursors.Pairs of kind next)) li l = tt
   safe_cursor iterator (Some (cursors.Array of next turn)) li l = safe_turn iterator of next li l turn

@@ -30,12 +30,12 @@ use Rattle.widl_script_tree.specs.Trees.{Text}
 use Rattle.widl_runs.specs.declared.stop.Stop.{Stop}
 use Rattle.widl_runs.specs.declared.stop.Stop.TheVariants as stops
 use Rattle.widl_runs.specs.Worlds.{Bindings, Context, World, value_of, with_value, value_or_undefined, is_local, local_value, with_local, owner_named, owner_object, global_value, named_value, this_value, outer_contexts}
-use Rattle.widl_runs.specs.Actions.{Action, Pay, Write, TestDepth, Enter, Leave, FindBody, ReadThis, ReadName, BindName, TakeSymbol, AddObject, FindProperty, PutProperty, DefineProperty, DeleteProperty, FindKeys, FindOwn, FindInner, MoveCursor, Reach, Reply, IsDone, IsValue, IsObject, IsProperty, IsPut, IsDefined, IsDeleted, AreKeys, IsInner, own_keys_of, inner_at, with_cursor, event_cost, put_result, define_result, is_put, is_made, with_store, with_new, new_reference, act}
+use Rattle.widl_runs.specs.Actions.{Action, Pay, Write, TestDepth, Enter, Leave, FindBody, ReadThis, ReadName, BindName, TakeSymbol, AddObject, FindProperty, PutProperty, DefineProperty, DeleteProperty, FindKeys, FindOwn, FindInner, ChangePart, Reach, Reply, IsDone, IsValue, IsObject, IsProperty, IsPut, IsDefined, IsDeleted, AreKeys, IsInner, own_keys_of, inner_at, with_change, event_cost, put_result, define_result, is_put, is_made, with_store, with_new, new_reference, act, ObjectPrototype, prototype}
 use Rattle.widl_runs.specs.Jobs.{Program}
 use Rattle.widl_runs.specs.Fitting.{HasPrototypes}
 use Rattle.widl_runs.proofs.LiveParts.{Grows, LiveValue, LiveFound, LiveSeen, LiveObjects, LiveBindings, LiveContexts, LivePut, LiveReply, more_bindings, more_contexts, more_put}
-use Rattle.widl_runs.proofs.LiveJobs.{LiveAction, live_bound}
-use Rattle.widl_runs.proofs.LiveStores.{live_found, live_own_at, live_inner_at, Kept, kept_defined, kept_put, kept_deleted, kept_moved, made_new}
+use Rattle.widl_runs.proofs.LiveJobs.{LiveAction, HasShape, live_bound}
+use Rattle.widl_runs.proofs.LiveStores.{live_found, live_own_at, live_inner_at, Kept, kept_defined, kept_put, kept_deleted, kept_changed, made_new}
 
 -- all that a world holds is live
 pub record LiveWorld (w : World) : Type 0 where
@@ -59,25 +59,25 @@ LivesOn w (Stops s) = Unit {0}
 
 module _ (objects : List Obj) (first : HasPrototypes objects) where
   live_done : LiveReply objects IsDone
-  live_done = record { value = tt; object = first.object; property = tt; put = tt; inner = tt }
+  live_done = record { value = tt; object = first ObjectPrototype; property = tt; put = tt; inner = tt }
 
   live_value : (v : Value) → LiveValue objects v → LiveReply objects (IsValue v)
-  live_value v l = record { value = l; object = first.object; property = tt; put = tt; inner = tt }
+  live_value v l = record { value = l; object = first ObjectPrototype; property = tt; put = tt; inner = tt }
 
   live_object : (o : ObjRef) → IsLive objects o → LiveReply objects (IsObject o)
   live_object o l = record { value = tt; object = l; property = tt; put = tt; inner = tt }
 
   live_property : (found : Option Prop) → LiveFound objects found → LiveReply objects (IsProperty found)
-  live_property found l = record { value = tt; object = first.object; property = l; put = tt; inner = tt }
+  live_property found l = record { value = tt; object = first ObjectPrototype; property = l; put = tt; inner = tt }
 
   live_put : (answer : Result Put PutFault) → LivePut objects answer → LiveReply objects (IsPut answer)
-  live_put answer l = record { value = tt; object = first.object; property = tt; put = l; inner = tt }
+  live_put answer l = record { value = tt; object = first ObjectPrototype; property = tt; put = l; inner = tt }
 
   live_seen : (inner : Option InnerTerm) → LiveSeen objects inner → LiveReply objects (IsInner inner)
-  live_seen inner l = record { value = tt; object = first.object; property = tt; put = tt; inner = l }
+  live_seen inner l = record { value = tt; object = first ObjectPrototype; property = tt; put = tt; inner = l }
 
   live_keys : (keys : List Key) → LiveReply objects (AreKeys keys)
-  live_keys keys = record { value = tt; object = first.object; property = tt; put = tt; inner = tt }
+  live_keys keys = record { value = tt; object = first ObjectPrototype; property = tt; put = tt; inner = tt }
 
 -- 2. Names
 
@@ -160,13 +160,7 @@ bound_lives false w name v l x = record {
 }
 
 pub more_prototypes : (objects more : List Obj) → Grows objects more → HasPrototypes objects → HasPrototypes more
-more_prototypes objects more grows first = record {
-  object = grows _ first.object;
-  function = grows _ first.function;
-  array = grows _ first.array;
-  error = grows _ first.error;
-  iterator = grows _ first.iterator;
-}
+more_prototypes objects more grows first = λ p. grows (prototype p) (first p)
 
 stored : (w : World) (more : List Obj) → LiveWorld w → Kept w.store.objects more → LiveWorld (with_store w more)
 stored w more l kept = record {
@@ -224,7 +218,7 @@ lives p Leave w l a = record {
 lives p (FindBody object) w l a = record {
   grows = same_grows w.store.objects;
   world = l;
-  reply = record { value = tt; object = l.prototypes.object; property = tt; put = tt; inner = tt };
+  reply = record { value = tt; object = l.prototypes ObjectPrototype; property = tt; put = tt; inner = tt };
 }
 lives p ReadThis w l a = record {
   grows = same_grows w.store.objects;
@@ -242,11 +236,11 @@ lives p TakeSymbol w l a = record {
   world = record { prototypes = l.prototypes; objects = l.objects; homes = l.homes; globals = l.globals; contexts = l.contexts };
   reply = live_value w.store.objects l.prototypes (values.Sym w.next_symbol) tt;
 }
-lives p (AddObject new) w l a =
-    let made = made_new w.store.objects new l.objects a.1 in
-    let more : List Obj = with_new w.store.objects new in
+lives p (AddObject plan) w l a =
+    let made = made_new w.store.objects plan l.objects a.1 in
+    let more : List Obj = with_new w.store.objects plan in
     let world = stored w more l made.kept in
-    record { grows = made.kept.grows; world = world; reply = live_object more world.prototypes (new_reference (length w.store.objects) new) made.live }
+    record { grows = made.kept.grows; world = world; reply = live_object more world.prototypes (new_reference (length w.store.objects) plan) made.live }
 lives p (FindProperty object key) w l a = record {
   grows = same_grows w.store.objects;
   world = l;
@@ -258,10 +252,10 @@ lives p (PutProperty object key v) w l a =
     put_lives (is_put answer) w (put_in os object.id key v) answer l (kept_put os object.id key v l.objects a.1) (live_put_of (is_fixed os object.id key) os (found_at os object.id key) v (live_found os os object.id key l.objects) a.1)
 lives p (DefineProperty object key prop) w l a =
     let os : List Obj = w.store.objects in
-    made_lives (is_made (define_result os object key)) w (defined os object.id key prop) (IsDefined (define_result os object key)) l (kept_defined os object.id key prop l.objects a.1) (record { each = λ objects first. record { value = tt; object = first.object; property = tt; put = tt; inner = tt } })
+    made_lives (is_made (define_result os object key)) w (defined os object.id key prop) (IsDefined (define_result os object key)) l (kept_defined os object.id key prop l.objects a.1) (record { each = λ objects first. record { value = tt; object = first ObjectPrototype; property = tt; put = tt; inner = tt } })
 lives p (DeleteProperty object key) w l a =
     let os : List Obj = w.store.objects in
-    made_lives (is_made (delete_of (own_at os object.id key))) w (deleted os object.id key) (IsDeleted (delete_of (own_at os object.id key))) l (kept_deleted os object.id key l.objects) (record { each = λ objects first. record { value = tt; object = first.object; property = tt; put = tt; inner = tt } })
+    made_lives (is_made (delete_of (own_at os object.id key))) w (deleted os object.id key) (IsDeleted (delete_of (own_at os object.id key))) l (kept_deleted os object.id key l.objects) (record { each = λ objects first. record { value = tt; object = first ObjectPrototype; property = tt; put = tt; inner = tt } })
 lives p (FindKeys o) w l a = record {
   grows = same_grows w.store.objects;
   world = l;
@@ -277,9 +271,41 @@ lives p (FindInner o) w l a = record {
   world = l;
   reply = live_seen w.store.objects l.prototypes (inner_at w.store.objects o) (live_inner_at w.store.objects w.store.objects o l.objects);
 }
-lives p (MoveCursor o next turn) w l a =
-    let kept = kept_moved w.store.objects o next turn l.objects in
-    let more : List Obj = with_cursor w.store.objects o next turn in
+lives p (ChangePart o change) w l a =
+    let kept = kept_changed w.store.objects o change l.objects a.1 in
+    let more : List Obj = with_change w.store.objects o change in
     let world = stored w more l kept in
     record { grows = kept.grows; world = world; reply = live_done more world.prototypes }
 lives p (Reach end) w l a = tt
+
+-- 5. A new object has the shape that it is added with
+
+abbrev pub ShapedDid : Action → Did World Reply Stop → Type 0
+ShapedDid q (Went v r) = HasShape q r
+ShapedDid q (Stops s) = Unit {0}
+
+shaped_each : (q : Action) (did : Did World Reply Stop) → ((r : Reply) → HasShape q r) → ShapedDid q did
+shaped_each q (Went v r) each = each r
+shaped_each q (Stops s) each = tt
+
+pub shaped : (list : DefsTerm) (q : Action) (w : World) → ShapedDid q (act list q w)
+shaped list Pay w = shaped_each Pay (act list Pay w) (λ r. tt)
+shaped list (Write event) w = shaped_each (Write event) (act list (Write event) w) (λ r. tt)
+shaped list TestDepth w = shaped_each TestDepth (act list TestDepth w) (λ r. tt)
+shaped list (Enter context) w = shaped_each (Enter context) (act list (Enter context) w) (λ r. tt)
+shaped list Leave w = shaped_each Leave (act list Leave w) (λ r. tt)
+shaped list (FindBody object) w = shaped_each (FindBody object) (act list (FindBody object) w) (λ r. tt)
+shaped list ReadThis w = shaped_each ReadThis (act list ReadThis w) (λ r. tt)
+shaped list (ReadName name) w = shaped_each (ReadName name) (act list (ReadName name) w) (λ r. tt)
+shaped list (BindName name v) w = shaped_each (BindName name v) (act list (BindName name v) w) (λ r. tt)
+shaped list TakeSymbol w = shaped_each TakeSymbol (act list TakeSymbol w) (λ r. tt)
+shaped list (AddObject plan) w = refl
+shaped list (FindProperty object key) w = shaped_each (FindProperty object key) (act list (FindProperty object key) w) (λ r. tt)
+shaped list (PutProperty object key v) w = shaped_each (PutProperty object key v) (act list (PutProperty object key v) w) (λ r. tt)
+shaped list (DefineProperty object key prop) w = shaped_each (DefineProperty object key prop) (act list (DefineProperty object key prop) w) (λ r. tt)
+shaped list (DeleteProperty object key) w = shaped_each (DeleteProperty object key) (act list (DeleteProperty object key) w) (λ r. tt)
+shaped list (FindKeys object) w = shaped_each (FindKeys object) (act list (FindKeys object) w) (λ r. tt)
+shaped list (FindOwn object key) w = shaped_each (FindOwn object key) (act list (FindOwn object key) w) (λ r. tt)
+shaped list (FindInner object) w = shaped_each (FindInner object) (act list (FindInner object) w) (λ r. tt)
+shaped list (ChangePart object change) w = shaped_each (ChangePart object change) (act list (ChangePart object change) w) (λ r. tt)
+shaped list (Reach end) w = shaped_each (Reach end) (act list (Reach end) w) (λ r. tt)

@@ -21,7 +21,7 @@ use Rattle.widl_store.specs.declared.inner.Builtin.TheVariants as builtins
 use Rattle.widl_store.specs.declared.property.Prop.{Prop}
 use Rattle.widl_store.specs.declared.property.Prop.TheVariants as props
 use Rattle.widl_script_tree.specs.Trees.{Text, ExpressionTree, UndefinedT, NullT, ThisT, NewSymbolT, NewObjectT, BoolT, NumberT, TextT, NameT, SymbolT, ObjectOfT, NewArrayT, MemberT, IndexT, CallT, NewT, CallWithT, ExpressionTrees, none, more, MemberTree, NamedT, ComputedT, StatementTree, LetT, DoT, ReturnT, ThrowT, ShowT, SetT, DefineT, DefineAccessorT, DeleteT, TryT, IfT, FunctionT, StepsT, StatementTrees, no_statements, then_more}
-use Rattle.widl_steps.specs.AskTerms.{AskTerm, GetAsk, CallAsk, KindAsk, UnitAsk, NoteAsk, OwnKeysAsk, OwnAsk, NewArrayAsk, NewObjectAsk, NewArrayIteratorAsk, CursorAsk, SetCursorAsk}
+use Rattle.widl_steps.specs.AskTerms.{AskTerm, GetAsk, CallAsk, UnitAsk, NoteAsk, OwnKeysAsk, OwnAsk, LookAsk, NewAsk, NewArray, ChangeAsk, ChangeTerm}
 use Rattle.widl_steps.specs.Tasks.{TaskEnd, Gives, Plain, Picks, Throw, Rethrow, Profile}
 use Rattle.widl_steps.specs.BuiltCalls.{calls_built_today}
 use Rattle.widl_steps.specs.CallRules.{call_rule}
@@ -29,14 +29,14 @@ use Rattle.widl_steps.specs.CallTasks.{CallTalk}
 use Rattle.widl_steps.specs.Operations.{lines_of}
 use Rattle.widl_runs.specs.Ends.{JobEnd, Normal, Returned, Thrown, Talked, Seen, answer_of, task_end_in}
 use Rattle.widl_runs.specs.Asks.{asks, in_world}
-use Rattle.widl_runs.specs.Actions.{Action, Pay, Write, TestDepth, Enter, Leave, FindBody, ReadThis, ReadName, BindName, TakeSymbol, AddObject, FindProperty, PutProperty, DefineProperty, DeleteProperty, FindKeys, FindOwn, FindInner, MoveCursor, Reach, Reply, body_in, property_in, put_result_in, define_result_in, delete_result_in, Body, ScriptBody, BuiltinBody, NoBody}
+use Rattle.widl_runs.specs.Actions.{Action, Pay, Write, TestDepth, Enter, Leave, FindBody, ReadThis, ReadName, BindName, TakeSymbol, AddObject, FindProperty, PutProperty, DefineProperty, DeleteProperty, FindKeys, FindOwn, FindInner, ChangePart, Reach, Reply, body_in, property_in, put_result_in, define_result_in, delete_result_in, Body, ScriptBody, BuiltinBody, NoBody}
 use Rattle.widl_runs.specs.Jobs.{Program, KeyPart, Named, Computed, MemberUse, ForRead, ForCall, RowUse, ForArguments, ForNew, ForItems, Job, RunStatements, RunStatement, Evaluate, EvaluateRow, ReadMember, SetMember, DefineMember, DefineAccessor, DeleteMember, CallValue, ConstructValue, Talk, Asked, Fail, Doing, value}
 use Rattle.widl_runs.specs.Calls.{if_callable, callable, call, construct_body, construct}
 use Rattle.widl_runs.specs.Members.{uses, member, key_of, if_key, tested, read_value, put_done, define_done, defines_parts, tests_setter, delete_done}
 use Rattle.widl_runs.specs.Expressions.{object_of, row_done, evaluate_row, call_tree, evaluate}
 use Rattle.widl_runs.specs.Statements.{run_statement, run_statements}
 use Rattle.widl_runs.specs.Rules.{rule}
-use Rattle.std.specs.Prelude.{nat_lt, slice_get, slice_set, decimal}
+use Rattle.std.specs.Prelude.{nat_lt, slice_get, slice_set}
 use Rattle.std.specs.Option.{option_map_or}
 use Rattle.std.proofs.lemmas.Bool.{ltb-false}
 use Rattle.std.proofs.lemmas.List.Sums.{sum_by-append}
@@ -44,19 +44,17 @@ use Rattle.std.proofs.lemmas.List.{length-set, length-append, length-map}
 use Rattle.widl_dialog.specs.Credit.{MovesLevel, Owes, Balanced}
 use Rattle.widl_dialog.specs.Runs.{Did, Went, Stops, Finish, Ended, Halted}
 use Rattle.widl_dialog.proofs.Crediting.{more_credit, level_kept, none_rises}
-use Rattle.widl_text.specs.declared.key.Key.TheVariants as keys
 use Rattle.widl_text.specs.Limits.{most_open_calls}
 use Rattle.widl_idl.specs.DefinitionTerms.{DefsTerm}
-use Rattle.widl_store.specs.declared.inner.Turn.{Turn}
-use Rattle.widl_store.specs.Inners.{InnerTerm, PlainPart, ArrayPart, ScriptPart}
-use Rattle.widl_store.specs.Objects.{Obj, all_flags, own_at, prop_at, without_prop}
-use Rattle.widl_store.specs.Plans.{function_entries}
+use Rattle.widl_store.specs.Inners.{InnerTerm}
+use Rattle.widl_store.specs.Objects.{Obj, own_at, prop_at, without_prop}
+use Rattle.widl_store.specs.Plans.{Plan}
 use Rattle.widl_store.specs.Effects.{with_props, placed, plain_with, put_in, defined, delete_of, deleted, added, with_part, with_inner}
 use Rattle.widl_script_tree.specs.Trees.{ScriptTree}
 use Rattle.widl_runs.specs.declared.stop.Stop.{Stop}
 use Rattle.widl_runs.specs.declared.stop.Stop.TheVariants as stops
 use Rattle.widl_runs.specs.Worlds.{World, is_local, with_local, with_value}
-use Rattle.widl_runs.specs.Actions.{IsDone, NewObject, Ordinary, ScriptFunction, ArrayOf, TypeErrorObject, ObjectOf, ArrayIteratorOf, inner_at, moved_part, data_properties, event_cost, put_result, define_result, is_put, is_made, with_store, act, with_items, with_properties, with_function, with_new, object_prototype, function_prototype, array_prototype}
+use Rattle.widl_runs.specs.Actions.{IsDone, inner_at, changed_part, event_cost, put_result, define_result, is_put, is_made, with_store, act, with_properties, with_new, ObjectPrototype, prototype, ordinary, plan_of}
 use Rattle.widl_runs.specs.Jobs.{ForSet, ForDefine, ForAccessor, ForDelete, reaches}
 use Rattle.widl_runs.specs.Calls.{called, ends_talk, body}
 use Rattle.widl_runs.specs.Members.{with_getter}
@@ -109,32 +107,20 @@ put_length objects id key v = changed_length objects id (λ o. placed o key (pla
 deleted_length : (objects : List Obj) (id : ℕ) (key : Key) → length (deleted objects id key) ≡ length objects
 deleted_length objects id key = changed_length objects id (λ o. without_prop o.props key) (slice_get objects id)
 
-items_length : (objects : List Obj) (id index : ℕ) (items : List Value) → length (with_items objects id index items) ≡ length objects
-items_length objects id index [] = refl
-items_length objects id index (item ∷ items) = items_length (defined objects id (keys.Name (decimal index)) (props.Plain item all_flags)) id (index + 1) items ∙ defined_length objects id (keys.Name (decimal index)) (props.Plain item all_flags)
-
 properties_length : (objects : List Obj) (id : ℕ) (entries : List (Key × Prop)) → length (with_properties objects id entries) ≡ length objects
 properties_length objects id [] = refl
 properties_length objects id (entry ∷ entries) = properties_length (defined objects id entry.0 entry.1) id entries ∙ defined_length objects id entry.0 entry.1
 
-function_length : (objects : List Obj) (id : ℕ) (name : Text) (params : ℕ) → length (with_function objects id name params) ≡ length objects
-function_length objects id name params = properties_length objects id (function_entries params name)
-
-new_length : (objects : List Obj) (new : NewObject) → length (with_new objects new) ≡ length objects + 1
-new_length objects (Ordinary proto) = length-append objects _
-new_length objects (ScriptFunction number name params) = function_length (added objects (Some function_prototype) shapes.Callable (ScriptPart number)) (length objects) name params ∙ length-append objects _
-new_length objects (ArrayOf items) = items_length (added objects (Some array_prototype) shapes.Plain ArrayPart) (length objects) 0 items ∙ length-append objects _
-new_length objects TypeErrorObject = length-append objects _
-new_length objects (ObjectOf entries) = properties_length (added objects (Some object_prototype) shapes.Plain PlainPart) (length objects) (data_properties entries) ∙ length-append objects _
-new_length objects (ArrayIteratorOf object) = length-append objects _
+new_length : (objects : List Obj) (plan : Plan) → length (with_new objects plan) ≡ length objects + 1
+new_length objects plan = properties_length (added objects plan.proto plan.shape plan.inner) (length objects) plan.entries ∙ length-append objects _
 
 inner_length : (objects : List Obj) (id : ℕ) (inner : InnerTerm) (o : Option Obj) → length (option_map_or (λ x. slice_set objects id (with_part x inner)) o objects) ≡ length objects
 inner_length objects id inner None = refl
 inner_length objects id inner (Some o) = length-set objects id (with_part o inner)
 
-moved_length : (objects : List Obj) (object : ObjRef) (next : ℕ) (turn : Turn) (inner : Option InnerTerm) → length (option_map_or (λ x. with_inner objects object.id (moved_part next turn x)) inner objects) ≡ length objects
-moved_length objects object next turn None = refl
-moved_length objects object next turn (Some inner) = inner_length objects object.id (moved_part next turn inner) (slice_get objects object.id)
+part_length : (objects : List Obj) (object : ObjRef) (change : ChangeTerm) (inner : Option InnerTerm) → length (option_map_or (λ x. with_inner objects object.id (changed_part change x)) inner objects) ≡ length objects
+part_length objects object change None = refl
+part_length objects object change (Some inner) = inner_length objects object.id (changed_part change inner) (slice_get objects object.id)
 
 pay_counts : (b : Bool) (w : World) → nat_lt w.units 1 ≡ b → Counted Pay w (if b then Stops stops.Budget else Went (record w { units = w.units - 1 }) IsDone)
 pay_counts true w test = tt
@@ -176,7 +162,7 @@ counts list (DeleteProperty object key) w = made_counts (is_made (delete_of (own
 counts list (FindKeys object) w = record { objects = omega arith; symbols = omega arith; units = omega arith }
 counts list (FindOwn object key) w = record { objects = omega arith; symbols = omega arith; units = omega arith }
 counts list (FindInner object) w = record { objects = omega arith; symbols = omega arith; units = omega arith }
-counts list (MoveCursor object next turn) w = let e = moved_length w.store.objects object next turn (inner_at w.store.objects object) in record { objects = omega (arith, e); symbols = omega arith; units = omega arith }
+counts list (ChangePart object change) w = let e = part_length w.store.objects object change (inner_at w.store.objects object) in record { objects = omega (arith, e); symbols = omega arith; units = omega arith }
 counts list (Reach end) w = tt
 
 -- the objects with the units that are left, and both with the symbols
@@ -220,7 +206,7 @@ fair_reaches : (end : ℕ) → IsFair 0 (reaches end)
 fair_reaches end = (omega arith, λ r. tt)
 
 -- an object that was paid for
-fair_adds : (new : NewObject) → IsFair 1 (adds new)
+fair_adds : (plan : Plan) → IsFair 1 (adds plan)
 fair_adds new = (omega arith, λ r. tt)
 
 fair_called : (c : JobEnd) → IsFair 0 (called c)
@@ -344,17 +330,17 @@ fair_member what (ComputedT of key) = λ c. fair_value _ (λ v d. fair_value _ (
 
 fair_object : (v : Value) → IsFair 0 (object_of v)
 fair_object values.Undefined = λ r. tt
-fair_object values.Null = (omega arith, λ r. fair_adds (Ordinary None))
+fair_object values.Null = (omega arith, λ r. fair_adds (ordinary None))
 fair_object (values.Bool b) = λ r. tt
 fair_object (values.Num x) = λ r. tt
 fair_object (values.Str text) = λ r. tt
 fair_object (values.Sym id) = λ r. tt
-fair_object (values.Obj o) = (omega arith, λ r. fair_adds (Ordinary (Some o)))
+fair_object (values.Obj o) = (omega arith, λ r. fair_adds (ordinary (Some o)))
 
 fair_done : (what : RowUse) (vs : List Value) → IsFair 0 (row_done what vs)
 fair_done (ForArguments f this) vs = λ r. tt
 fair_done (ForNew f) vs = λ r. tt
-fair_done ForItems vs = (omega arith, λ r. fair_adds (ArrayOf vs))
+fair_done ForItems vs = (omega arith, λ r. fair_adds (plan_of (NewArray vs)))
 
 fair_row : (what : RowUse) (vs : List Value) (es : ExpressionTrees) → IsFair 0 (evaluate_row what vs es)
 fair_row what vs none = fair_done what vs
@@ -370,7 +356,7 @@ fair_evaluate UndefinedT = tt
 fair_evaluate NullT = tt
 fair_evaluate ThisT = (omega arith, λ r. tt)
 fair_evaluate NewSymbolT = (omega arith, λ r. (omega arith, λ a. tt))
-fair_evaluate NewObjectT = (omega arith, λ r. fair_adds (Ordinary (Some object_prototype)))
+fair_evaluate NewObjectT = (omega arith, λ r. fair_adds (ordinary (Some (prototype ObjectPrototype))))
 fair_evaluate (BoolT b) = tt
 fair_evaluate (NumberT x) = tt
 fair_evaluate (TextT text) = tt
@@ -435,16 +421,13 @@ fair_statements (then_more s ss) = λ c. fair_value _ (λ v r. tt) c
 fair_ask : (ask : AskTerm) → IsFair 0 (asks ask)
 fair_ask (GetAsk o key) = (omega arith, λ r. (omega arith, λ a. fair_read o (property_in a)))
 fair_ask (CallAsk f this args) = λ c. tt
-fair_ask (KindAsk o) = (omega arith, λ r. tt)
 fair_ask UnitAsk = (omega arith, λ r. tt)
 fair_ask (NoteAsk event) = (omega arith, λ r. tt)
 fair_ask (OwnKeysAsk o) = (omega arith, λ r. (omega arith, λ a. tt))
 fair_ask (OwnAsk o key) = (omega arith, λ r. (omega arith, λ a. tt))
-fair_ask (NewArrayAsk items) = (omega arith, λ r. fair_adds (ArrayOf items))
-fair_ask (NewObjectAsk entries) = (omega arith, λ r. fair_adds (ObjectOf entries))
-fair_ask (NewArrayIteratorAsk o) = (omega arith, λ r. fair_adds (ArrayIteratorOf o))
-fair_ask (CursorAsk o) = (omega arith, λ r. tt)
-fair_ask (SetCursorAsk o next turn) = (omega arith, λ r. tt)
+fair_ask (LookAsk o what) = (omega arith, λ r. tt)
+fair_ask (NewAsk new) = (omega arith, λ r. fair_adds (plan_of new))
+fair_ask (ChangeAsk o change) = (omega arith, λ r. tt)
 
 pub fair : (p : Program) (j : Job) → IsFair 0 (rule p j)
 fair p (RunStatements ss) = fair_statements ss

@@ -9,10 +9,10 @@ use Rattle.widl_value.specs.IdlTerms.{IdlTerm, IdlTerms, EntryTerms, MemberTerms
 use Rattle.widl_script_tree.specs.Trees.{ExpressionTree, UndefinedT, NullT, ThisT, NewSymbolT, NewObjectT, BoolT, NumberT, TextT, NameT, SymbolT, ObjectOfT, NewArrayT, MemberT, IndexT, CallT, NewT, CallWithT, ExpressionTrees, none, more, StatementTrees, no_statements, then_more}
 use Rattle.widl_steps.specs.declared.want.Want.{Want}
 use Rattle.widl_steps.specs.declared.want.Want.TheVariants as wants
-use Rattle.widl_steps.specs.AskTerms.{AskTerm, GetAsk, CallAsk, KindAsk, UnitAsk, NoteAsk, OwnKeysAsk, OwnAsk, NewArrayAsk, NewObjectAsk, NewArrayIteratorAsk, CursorAsk, SetCursorAsk}
+use Rattle.widl_steps.specs.AskTerms.{AskTerm, GetAsk, CallAsk, UnitAsk, NoteAsk, OwnKeysAsk, OwnAsk, LookAsk, NewAsk, ChangeAsk}
 use Rattle.widl_steps.specs.Tasks.{Task, Primitive, Scalar, Convert, SequenceFrom, Turns, Entries, Members, Resolve, Arguments, Default, Defaults, Out, OutItems, OutUnits}
 use Rattle.widl_steps.specs.CallTasks.{CallTask, Of, Function, Lines}
-use Rattle.widl_runs.specs.Actions.{Action, Pay, Write, TestDepth, Enter, Leave, FindBody, ReadThis, ReadName, BindName, TakeSymbol, AddObject, FindProperty, PutProperty, DefineProperty, DeleteProperty, FindKeys, FindOwn, FindInner, MoveCursor, Reach}
+use Rattle.widl_runs.specs.Actions.{Action, Pay, Write, TestDepth, Enter, Leave, FindBody, ReadThis, ReadName, BindName, TakeSymbol, AddObject, FindProperty, PutProperty, DefineProperty, DeleteProperty, FindKeys, FindOwn, FindInner, ChangePart, Reach}
 use Rattle.widl_runs.specs.Jobs.{Job, RunStatements, RunStatement, Evaluate, EvaluateRow, ReadMember, SetMember, DefineMember, DefineAccessor, DeleteMember, CallValue, ConstructValue, Talk, Asked, Fail}
 
 abbrev mutual
@@ -63,7 +63,7 @@ pays (DeleteProperty object key) = false
 pays (FindKeys object) = false
 pays (FindOwn object key) = false
 pays (FindInner object) = false
-pays (MoveCursor object next turn) = false
+pays (ChangePart object change) = false
 pays (Reach end) = true
 
 -- 1. Conversations. The first rank counts what a task has of tasks that have more than one, the second one what is left of it.
@@ -135,7 +135,7 @@ call_low list (Of t) = task_low list t
 call_low list (Function f what this args construct) = 0
 call_low list (Lines t named ls) = 4
 
--- an object becomes a primitive value by asks that pay, and so does each ask but these three
+-- an object becomes a primitive value by asks that pay, and so does each ask but a look and a change
 abbrev pub is_object : Value → Bool
 is_object (values.Obj o) = true
 is_object _ = false
@@ -147,16 +147,13 @@ talk_spends _ = false
 abbrev pub ask_spends : AskTerm → Bool
 ask_spends (GetAsk o key) = true
 ask_spends (CallAsk f this args) = true
-ask_spends (KindAsk o) = false
 ask_spends UnitAsk = true
 ask_spends (NoteAsk event) = true
 ask_spends (OwnKeysAsk o) = true
 ask_spends (OwnAsk o key) = true
-ask_spends (NewArrayAsk items) = true
-ask_spends (NewObjectAsk entries) = true
-ask_spends (NewArrayIteratorAsk o) = true
-ask_spends (CursorAsk o) = false
-ask_spends (SetCursorAsk o next turn) = false
+ask_spends (LookAsk o what) = false
+ask_spends (NewAsk new) = true
+ask_spends (ChangeAsk o change) = false
 
 -- 2. Jobs. Conversations stand above all that a script does: a job comes to one only after the line of a call.
 

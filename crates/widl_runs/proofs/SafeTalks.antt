@@ -13,14 +13,12 @@ use Rattle.widl_value.specs.IdlTerms.{IdlTerm}
 use Rattle.widl_store.specs.Objects.{IsLive, Obj}
 use Rattle.widl_trace.specs.declared.code.Code.{Code}
 use Rattle.widl_trace.specs.declared.code.Code.TheVariants as code
-use Rattle.widl_steps.specs.AskTerms.{AnswerTerm, BeginAnswer, DoneAnswer, NormalAnswer, ThrownAnswer, KindAnswer, KeysAnswer, OwnAnswer, CursorAnswer, AskKind, OfGet, OfCall, OfKind, OfUnit, OfNote, OfOwnKeys, OfOwn, OfNewArray, OfNewObject, OfNewArrayIterator, OfCursor, OfSetCursor, kind_of}
+use Rattle.widl_steps.specs.AskTerms.{AnswerTerm, BeginAnswer, DoneAnswer, NormalAnswer, ThrownAnswer, KeysAnswer, OwnAnswer, SightAnswer}
 use Rattle.widl_steps.specs.Tasks.{TalkOf, TaskEnd, Gives, Plain, Picks, Throw, Rethrow, Profile, Talk as TaskTalk}
 use Rattle.widl_steps.specs.Words.{callable_or, fails, given, if_callable, method_or, normal, number, object, object_or, returned, text}
-use Rattle.widl_steps.specs.ArrayFunctions.{cursor_in}
 use Rattle.widl_steps.specs.CallTasks.{CallTalk, Of}
 use Rattle.widl_runs.specs.Asks.{in_world}
-use Rattle.widl_runs.specs.Ends.{JobEnd, Normal, Returned, Thrown, Talked, Seen, answer_by, answer_of, completion_answer, new_object_in, object_in, plain_in, seen_in, task_end_in}
-use Rattle.widl_runs.specs.Fitting.{HasPrototypes}
+use Rattle.widl_runs.specs.Ends.{JobEnd, Normal, Returned, Thrown, Talked, Seen, answer_of, completion_answer, task_end_in}
 use Rattle.widl_runs.specs.Jobs.{Program}
 use Rattle.widl_runs.proofs.LiveParts.{LiveValue, LiveTerm, LiveTaskEnd, LiveAnswer, LiveEnd}
 use Rattle.widl_runs.proofs.LiveJobs.{LiveAsk, LiveTask, LiveCall, Safe}
@@ -55,64 +53,11 @@ module _ (objects : List Obj) where
   live_completion (Talked end) l = tt
   live_completion (Seen answer) l = tt
 
-  pub live_seen_in : (c : JobEnd) → LiveEnd objects c → LiveAnswer objects (seen_in c)
-  live_seen_in (Normal v) l = tt
-  live_seen_in (Returned v) l = tt
-  live_seen_in (Thrown v) l = tt
-  live_seen_in (Talked end) l = tt
-  live_seen_in (Seen answer) l = l
-
-  pub live_cursor_in : (a : AnswerTerm) → LiveAnswer objects a → LiveAnswer objects (CursorAnswer (cursor_in a))
-  live_cursor_in BeginAnswer l = tt
-  live_cursor_in DoneAnswer l = tt
-  live_cursor_in (NormalAnswer v) l = tt
-  live_cursor_in (ThrownAnswer v) l = tt
-  live_cursor_in (KindAnswer kind) l = tt
-  live_cursor_in (KeysAnswer keys) l = tt
-  live_cursor_in (OwnAnswer flags) l = tt
-  live_cursor_in (CursorAnswer state) l = l
-
-  module _ (first : HasPrototypes objects) where
-    pub live_plain_in : (o : ObjRef) (s : Shape) → IsLive objects o → IsLive objects (plain_in o s)
-    live_plain_in o shapes.Plain l = l
-    live_plain_in o shapes.Callable l = first.object
-    live_plain_in o (shapes.Platform iface) l = first.object
-
-    pub live_object_in : (v : Value) → LiveValue objects v → IsLive objects (object_in v)
-    live_object_in values.Undefined l = first.object
-    live_object_in values.Null l = first.object
-    live_object_in (values.Bool b) l = first.object
-    live_object_in (values.Num x) l = first.object
-    live_object_in (values.Str text) l = first.object
-    live_object_in (values.Sym id) l = first.object
-    live_object_in (values.Obj o) l = live_plain_in o o.shape l
-
-    pub live_new : (c : JobEnd) → LiveEnd objects c → IsLive objects (new_object_in c)
-    live_new (Normal v) l = live_object_in v l
-    live_new (Returned v) l = first.object
-    live_new (Thrown v) l = first.object
-    live_new (Talked end) l = first.object
-    live_new (Seen answer) l = first.object
-
-    pub live_answer : (kind : AskKind) (c : JobEnd) → LiveEnd objects c → LiveAnswer objects (answer_by kind c)
-    live_answer OfGet c l = live_completion c l
-    live_answer OfCall c l = live_completion c l
-    live_answer OfKind c l = tt
-    live_answer OfUnit c l = tt
-    live_answer OfNote c l = tt
-    live_answer OfOwnKeys c l = tt
-    live_answer OfOwn c l = tt
-    live_answer OfNewArray c l = live_new c l
-    live_answer OfNewObject c l = live_new c l
-    live_answer OfNewArrayIterator c l = live_new c l
-    live_answer OfCursor c l = live_cursor_in (seen_in c) (live_seen_in c l)
-    live_answer OfSetCursor c l = tt
-
 -- a safe conversation is safe in the world
-pub safe_in_world : (p : Program) (objects : List Obj) (first : HasPrototypes objects) (d : CallTalk) → SafeTalk objects (LiveCall objects) d → Safe p objects (in_world d)
-safe_in_world p objects first (End r) x = x
-safe_in_world p objects first (Say ask k) x = (x.0, λ c l. let a : AnswerTerm = answer_of ask c in safe_in_world p objects first (k a) (x.1 a (live_answer objects first (kind_of ask) c l)))
-safe_in_world p objects first (Steps t k) x = (x.0, λ c l. safe_in_world p objects first (k (task_end_in c)) (x.1 (task_end_in c) (live_task_end objects c l)))
+pub safe_in_world : (p : Program) (objects : List Obj) (d : CallTalk) → SafeTalk objects (LiveCall objects) d → Safe p objects (LiveEnd objects) (in_world d)
+safe_in_world p objects (End r) x = x
+safe_in_world p objects (Say ask k) x = (x.0, λ c l. let a : AnswerTerm = answer_of ask c in safe_in_world p objects (k a) (x.1 a l))
+safe_in_world p objects (Steps t k) x = (x.0, λ c l. safe_in_world p objects (k (task_end_in c)) (x.1 (task_end_in c) (live_task_end objects c l)))
 
 -- 3. Words, for all sets of tasks
 
@@ -125,10 +70,9 @@ module _ {J : Type 0} (objects : List Obj) (Live : J → Type 0) where
   safe_normal k each DoneAnswer l = each values.Undefined tt
   safe_normal k each (NormalAnswer v) l = each v l
   safe_normal k each (ThrownAnswer v) l = l
-  safe_normal k each (KindAnswer kind) l = each values.Undefined tt
   safe_normal k each (KeysAnswer keys) l = each values.Undefined tt
   safe_normal k each (OwnAnswer flags) l = each values.Undefined tt
-  safe_normal k each (CursorAnswer state) l = each values.Undefined tt
+  safe_normal k each (SightAnswer sight) l = each values.Undefined tt
 
   pub safe_object : (why : Code) (k : ObjRef → TalkOf J) → ((o : ObjRef) → IsLive objects o → IsSafe (k o)) → (v : Value) → LiveValue objects v → IsSafe (object why k v)
   safe_object why k each values.Undefined l = tt

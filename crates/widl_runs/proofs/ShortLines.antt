@@ -17,7 +17,7 @@ use Rattle.widl_runs.specs.Ends.{JobEnd}
 use Rattle.widl_runs.specs.declared.stop.Stop.{Stop}
 use Rattle.widl_runs.specs.declared.stop.Stop.TheVariants as stops
 use Rattle.widl_runs.specs.Worlds.{World}
-use Rattle.widl_runs.specs.Actions.{Action, Pay, Write, TestDepth, Enter, Leave, FindBody, ReadThis, ReadName, BindName, TakeSymbol, AddObject, FindProperty, PutProperty, DefineProperty, DeleteProperty, FindKeys, FindOwn, FindInner, MoveCursor, Reach, Reply, IsDone, event_cost, paid, act}
+use Rattle.widl_runs.specs.Actions.{Action, Pay, Write, TestDepth, Enter, Leave, FindBody, ReadThis, ReadName, BindName, TakeSymbol, AddObject, FindProperty, PutProperty, DefineProperty, DeleteProperty, FindKeys, FindOwn, FindInner, ChangePart, Reach, Reply, IsDone, event_cost, paid, act}
 use Rattle.widl_runs.specs.Jobs.{Program, Doing}
 use Rattle.widl_runs.specs.Rules.{rule}
 use Rattle.widl_runs.specs.Traces.{whole, first_world, stop_events, Ending, ending_of, IsTrace}
@@ -62,7 +62,7 @@ short_grows list (DeleteProperty object key) w = adds_lines list (DeleteProperty
 short_grows list (FindKeys object) w = adds_lines list (FindKeys object) w
 short_grows list (FindOwn object key) w = adds_lines list (FindOwn object key) w
 short_grows list (FindInner object) w = adds_lines list (FindInner object) w
-short_grows list (MoveCursor object next turn) w = adds_lines list (MoveCursor object next turn) w
+short_grows list (ChangePart object change) w = adds_lines list (ChangePart object change) w
 short_grows list (Reach end) w = adds_lines list (Reach end) w
 short_grows list TestDepth w = adds_lines list TestDepth w
 
@@ -113,7 +113,7 @@ module _ (p : Program) where
   said_real n (FindKeys object) k w v f all go x = did_real n (act p.list (FindKeys object) w) k w v f go x
   said_real n (FindOwn object key) k w v f all go x = did_real n (act p.list (FindOwn object key) w) k w v f go x
   said_real n (FindInner object) k w v f all go x = did_real n (act p.list (FindInner object) w) k w v f go x
-  said_real n (MoveCursor object next turn) k w v f all go x = did_real n (act p.list (MoveCursor object next turn) w) k w v f go x
+  said_real n (ChangePart object change) k w v f all go x = did_real n (act p.list (ChangePart object change) w) k w v f go x
   said_real n (Reach end) k w v f all go x = did_real n (act p.list (Reach end) w) k w v f go x
   said_real n TestDepth k w v f all go x = did_real n (act p.list TestDepth w) k w v f go x
 

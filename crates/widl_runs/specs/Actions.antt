@@ -1,7 +1,7 @@
 -- Actions: the smallest things that a step of a script does to a world, or sees of it. A run is stopped here and nowhere else.
 -- Source: ECMA-262, the internal methods of objects and the operations on environment records; units, lines and stops are this program's own.
 use Rattle.std.specs.Prelude.{ℕ, ◌+◌, ◌-◌, nat_lt, Bool, true, false, if◌then◌else◌, decimal, List, [], ◌∷◌, ◌++◌, length, map, filter, Option, None, Some, option_map, slice_get}
-use Rattle.std.specs.Option.{option_and_then, option_map_or}
+use Rattle.std.specs.Option.{option_map_or, unwrap_or}
 use Rattle.std.specs.declared.result.Result.{Result}
 use Rattle.std.specs.declared.result.Result.TheVariants as results
 use Rattle.widl_dialog.specs.Runs.{Did, Went, Stops}
@@ -20,43 +20,25 @@ use Rattle.widl_store.specs.declared.effects.Put.TheVariants as puts
 use Rattle.widl_store.specs.declared.effects.PutFault.{PutFault}
 use Rattle.widl_store.specs.declared.inner.Builtin.{Builtin}
 use Rattle.widl_store.specs.declared.inner.Builtin.TheVariants as builtins
-use Rattle.widl_store.specs.declared.inner.Turn.{Turn}
 use Rattle.widl_store.specs.declared.inner.Turn.TheVariants.{Idle}
 use Rattle.widl_store.specs.declared.property.Prop.{Prop}
 use Rattle.widl_store.specs.declared.property.Prop.TheVariants as props
-use Rattle.widl_store.specs.Inners.{InnerTerm, PlainPart, ArrayPart, ErrorPart, ScriptPart, BuiltinPart, InterfacePart, PairIteratorPart, ArrayIteratorPart, PromisePart}
-use Rattle.widl_store.specs.Objects.{Obj, with_objects, all_flags, flags_of, own_at, plain_object, function_object}
+use Rattle.widl_store.specs.Inners.{InnerTerm, PlainPart, ArrayPart, ErrorPart, ScriptPart, BuiltinPart, InterfacePart, ArrayIteratorPart}
+use Rattle.widl_store.specs.Objects.{Obj, with_objects, all_flags, flags_of, own_at, plain_object}
 use Rattle.widl_store.specs.OwnKeys.{is_index, is_name, is_symbol, number_of, keys_at}
 use Rattle.widl_store.specs.Found.{found_at}
-use Rattle.widl_store.specs.Plans.{function_entries}
+use Rattle.widl_store.specs.Plans.{Plan, function_entries}
 use Rattle.widl_store.specs.Effects.{is_fixed, put_of, put_in, define_of, defined, delete_of, deleted, added, with_inner}
 use Rattle.widl_script_tree.specs.Trees.{Text}
 use Rattle.widl_trace.specs.EventTerms.{EventTerm}
 use Rattle.widl_sink.specs.Lines.{line_cost}
 use Rattle.widl_trace.specs.EventLines.{line_of}
-use Rattle.widl_steps.specs.declared.answer.CursorState.{CursorState}
-use Rattle.widl_steps.specs.declared.answer.CursorState.TheVariants as cursors
-use Rattle.widl_steps.specs.declared.answer.KindName.{KindName}
-use Rattle.widl_steps.specs.declared.answer.KindName.TheVariants as kinds
-use Rattle.widl_steps.specs.AskTerms.{AnswerTerm, KindAnswer, KeysAnswer, OwnAnswer, CursorAnswer}
+use Rattle.widl_steps.specs.declared.ask.Look.{Look}
+use Rattle.widl_steps.specs.AskTerms.{NewTerm, NewArray, NewObject, NewArrayIterator, ChangeTerm, SetCursor, AnswerTerm, KeysAnswer, OwnAnswer, SightAnswer, shape_of}
 use Rattle.widl_runs.specs.declared.stop.Stop.{Stop}
 use Rattle.widl_runs.specs.declared.stop.Stop.TheVariants as stops
+use Rattle.widl_runs.specs.Looks.{sight_of}
 use Rattle.widl_runs.specs.Worlds.{Context, World, named_value, bound_world, this_value, outer_contexts}
-
--- what a script can make
-pub data NewObject : Type 0 where
-  -- an ordinary object with this prototype
-  Ordinary : Option ObjRef → NewObject
-  -- the function of this number, with its name and how many parameters it has
-  ScriptFunction : ℕ → Text → ℕ → NewObject
-  -- an array of these items
-  ArrayOf : List Value → NewObject
-  -- a TypeError
-  TypeErrorObject : NewObject
-  -- an ordinary object with these properties
-  ObjectOf : List (Key × Value) → NewObject
-  -- an iterator over the elements of this object
-  ArrayIteratorOf : ObjRef → NewObject
 
 -- what a call of an object does
 pub data Body : Type 0 where
@@ -81,7 +63,7 @@ pub data Action : Type 0 where
   BindName : Text → Value → Action
   -- the next symbol, and new objects
   TakeSymbol : Action
-  AddObject : NewObject → Action
+  AddObject : Plan → Action
   -- properties
   FindProperty : ObjRef → Key → Action
   PutProperty : ObjRef → Key → Value → Action
@@ -90,9 +72,9 @@ pub data Action : Type 0 where
   -- the own keys of an object, and an own property of it
   FindKeys : ObjRef → Action
   FindOwn : ObjRef → Key → Action
-  -- the inner part of an object; an iterator over an array is moved on
+  -- the inner part of an object, and a change of it
   FindInner : ObjRef → Action
-  MoveCursor : ObjRef → ℕ → Turn → Action
+  ChangePart : ObjRef → ChangeTerm → Action
   -- an end of the profile, by its number
   Reach : ℕ → Action
 
@@ -146,59 +128,75 @@ abbrev pub inner_in : Reply → Option InnerTerm
 inner_in (IsInner inner) = inner
 inner_in _ = None
 
--- 2. New objects
+-- 2. New objects, each as a plan: its prototype, its shape, its inner part, and the properties that are defined one after another
 
--- the numbers that the initial store gives to Object.prototype, Function.prototype, Array.prototype, TypeError.prototype and
--- %ArrayIteratorPrototype%
-abbrev pub object_prototype : ObjRef
-object_prototype = plain_object 0
+-- Object.prototype, Function.prototype, Array.prototype, TypeError.prototype and %ArrayIteratorPrototype%, with the numbers that the initial
+-- store gives them
+pub data Prototype : Type 0 where
+  ObjectPrototype : Prototype
+  FunctionPrototype : Prototype
+  ArrayPrototype : Prototype
+  TypeErrorPrototype : Prototype
+  ArrayIteratorPrototype : Prototype
 
-abbrev pub function_prototype : ObjRef
-function_prototype = plain_object 1
+abbrev pub prototype : Prototype → ObjRef
+prototype ObjectPrototype = plain_object 0
+prototype FunctionPrototype = plain_object 1
+prototype ArrayPrototype = plain_object 2
+prototype TypeErrorPrototype = plain_object 4
+prototype ArrayIteratorPrototype = plain_object 7
 
-abbrev pub array_prototype : ObjRef
-array_prototype = plain_object 2
+-- an ordinary object with this prototype
+abbrev pub ordinary : Option ObjRef → Plan
+ordinary proto = record { proto = proto; shape = shapes.Plain; inner = PlainPart; entries = [] }
 
-abbrev pub type_error_prototype : ObjRef
-type_error_prototype = plain_object 4
+-- the function of this number, with its name and how many parameters it has: its properties are its length, then its name (ECMA-262,
+-- SetFunctionLength and SetFunctionName)
+abbrev pub script_function : ℕ → Text → ℕ → Plan
+script_function number name count = record { proto = Some (prototype FunctionPrototype); shape = shapes.Callable; inner = ScriptPart number; entries = function_entries count name }
 
-abbrev pub array_iterator_prototype : ObjRef
-array_iterator_prototype = plain_object 7
+abbrev pub type_error : Plan
+type_error = record { proto = Some (prototype TypeErrorPrototype); shape = shapes.Plain; inner = ErrorPart; entries = [] }
+
+-- the items, from this index on, as properties with all flags (ECMA-262, CreateArrayFromList)
+abbrev pub item_properties : ℕ → List Value → List (Key × Prop)
+item_properties index [] = []
+item_properties index (item ∷ items) = (keys.Name (decimal index), props.Plain item all_flags) ∷ item_properties (index + 1) items
+
+-- properties with all flags (ECMA-262, CreateDataProperty)
+abbrev pub data_properties : List (Key × Value) → List (Key × Prop)
+data_properties entries = map (λ (entry : Key × Value). (entry.0, props.Plain entry.1 all_flags)) entries
+
+-- what conversations ask for, and the arrays of a script: the prototype, the inner part, the properties
+abbrev pub prototype_of : NewTerm → Prototype
+prototype_of (NewArray items) = ArrayPrototype
+prototype_of (NewObject entries) = ObjectPrototype
+prototype_of (NewArrayIterator object) = ArrayIteratorPrototype
+
+abbrev pub part_of : NewTerm → InnerTerm
+part_of (NewArray items) = ArrayPart
+part_of (NewObject entries) = PlainPart
+part_of (NewArrayIterator object) = ArrayIteratorPart object 0 Idle
+
+abbrev pub properties_of : NewTerm → List (Key × Prop)
+properties_of (NewArray items) = item_properties 0 items
+properties_of (NewObject entries) = data_properties entries
+properties_of (NewArrayIterator object) = []
+
+abbrev pub plan_of : NewTerm → Plan
+plan_of new = record { proto = Some (prototype (prototype_of new)); shape = shape_of new; inner = part_of new; entries = properties_of new }
 
 -- with these properties, defined one after another
 abbrev pub with_properties : List Obj → ℕ → List (Key × Prop) → List Obj
 with_properties objects id [] = objects
 with_properties objects id (entry ∷ entries) = with_properties (defined objects id entry.0 entry.1) id entries
 
--- with the properties of a new function: its length, then its name (ECMA-262, SetFunctionLength and SetFunctionName)
-abbrev pub with_function : List Obj → ℕ → Text → ℕ → List Obj
-with_function objects id name count = with_properties objects id (function_entries count name)
-
--- with the items, from this index on, as properties with all flags (ECMA-262, CreateArrayFromList)
-abbrev pub with_items : List Obj → ℕ → ℕ → List Value → List Obj
-with_items objects id index [] = objects
-with_items objects id index (item ∷ items) = with_items (defined objects id (keys.Name (decimal index)) (props.Plain item all_flags)) id (index + 1) items
-
--- properties with all flags (ECMA-262, CreateDataProperty)
-abbrev pub data_properties : List (Key × Value) → List (Key × Prop)
-data_properties entries = map (λ (entry : Key × Value). (entry.0, props.Plain entry.1 all_flags)) entries
-
 -- the objects with a new one, whose number is the next
-abbrev pub with_new : List Obj → NewObject → List Obj
-with_new objects (Ordinary proto) = added objects proto shapes.Plain PlainPart
-with_new objects (ScriptFunction number name count) = with_function (added objects (Some function_prototype) shapes.Callable (ScriptPart number)) (length objects) name count
-with_new objects (ArrayOf items) = with_items (added objects (Some array_prototype) shapes.Plain ArrayPart) (length objects) 0 items
-with_new objects TypeErrorObject = added objects (Some type_error_prototype) shapes.Plain ErrorPart
-with_new objects (ObjectOf entries) = with_properties (added objects (Some object_prototype) shapes.Plain PlainPart) (length objects) (data_properties entries)
-with_new objects (ArrayIteratorOf object) = added objects (Some array_iterator_prototype) shapes.Plain (ArrayIteratorPart object 0 Idle)
+abbrev pub with_new : List Obj → Plan → List Obj
+with_new objects plan = with_properties (added objects plan.proto plan.shape plan.inner) (length objects) plan.entries
 
-abbrev pub new_reference : ℕ → NewObject → ObjRef
-new_reference id (Ordinary proto) = plain_object id
-new_reference id (ScriptFunction number name count) = function_object id
-new_reference id (ArrayOf items) = plain_object id
-new_reference id TypeErrorObject = plain_object id
-new_reference id (ObjectOf entries) = plain_object id
-new_reference id (ArrayIteratorOf object) = plain_object id
+abbrev pub new_reference : ℕ → Plan → ObjRef
+new_reference id plan = record { id = id; shape = plan.shape }
 
 -- 3. What is seen of an object
 
@@ -242,29 +240,9 @@ by_index (key ∷ keys) = with_index key (by_index keys)
 abbrev pub own_keys_of : List Key → List Key
 own_keys_of keys = by_index (filter is_index keys) ++ (filter is_name keys ++ filter is_symbol keys)
 
--- the kind of an object: functions of a script, built-in functions and interface objects are functions (ECMA-262, the built-in tags of
--- Object.prototype.toString)
-abbrev pub kind_of_inner : InnerTerm → KindName
-kind_of_inner ArrayPart = kinds.Array
-kind_of_inner ErrorPart = kinds.Error
-kind_of_inner (ScriptPart number) = kinds.Function
-kind_of_inner (BuiltinPart function) = kinds.Function
-kind_of_inner (InterfacePart iface slots) = kinds.Function
-kind_of_inner (PromisePart state) = kinds.Promise
-kind_of_inner _ = kinds.Other
-
--- how far an iterator has come; any other object is none
-abbrev pub cursor_of : InnerTerm → Option CursorState
-cursor_of (PairIteratorPart of kind next) = Some (cursors.Pairs of kind next)
-cursor_of (ArrayIteratorPart of next turn) = Some (cursors.Array of next turn)
-cursor_of _ = None
-
--- what a look at an object shows
-abbrev pub kind_seen : Reply → AnswerTerm
-kind_seen r = KindAnswer (option_map_or kind_of_inner (inner_in r) kinds.Other)
-
-abbrev pub cursor_seen : Reply → AnswerTerm
-cursor_seen r = CursorAnswer (option_and_then cursor_of (inner_in r))
+-- what a look shows; where there is no object, what a plain one shows
+abbrev pub sight_seen : Look → Reply → AnswerTerm
+sight_seen what r = SightAnswer (sight_of what (unwrap_or (inner_in r) PlainPart))
 
 abbrev pub keys_seen : Reply → AnswerTerm
 keys_seen r = KeysAnswer (keys_in r)
@@ -272,13 +250,13 @@ keys_seen r = KeysAnswer (keys_in r)
 abbrev pub own_seen : Reply → AnswerTerm
 own_seen r = OwnAnswer (option_map flags_of (property_in r))
 
--- the objects with an iterator over an array moved on; iterators over pairs aren't moved yet
-abbrev pub moved_part : ℕ → Turn → InnerTerm → InnerTerm
-moved_part next turn (ArrayIteratorPart of _ _) = ArrayIteratorPart of next turn
-moved_part next turn inner = inner
+-- an inner part that is changed: an iterator over an array is moved on; iterators over pairs aren't moved yet
+abbrev pub changed_part : ChangeTerm → InnerTerm → InnerTerm
+changed_part (SetCursor next turn) (ArrayIteratorPart of _ _) = ArrayIteratorPart of next turn
+changed_part (SetCursor next turn) inner = inner
 
-abbrev pub with_cursor : List Obj → ObjRef → ℕ → Turn → List Obj
-with_cursor objects object next turn = option_map_or (λ inner. with_inner objects object.id (moved_part next turn inner)) (inner_at objects object) objects
+abbrev pub with_change : List Obj → ObjRef → ChangeTerm → List Obj
+with_change objects object change = option_map_or (λ inner. with_inner objects object.id (changed_part change inner)) (inner_at objects object) objects
 
 -- 4. What an action does
 
@@ -304,7 +282,7 @@ act list ReadThis w = Went w (IsValue (this_value w.contexts))
 act list (ReadName name) w = Went w (IsValue (named_value list w name))
 act list (BindName name value) w = Went (bound_world w name value) IsDone
 act list TakeSymbol w = Went (record w { next_symbol = w.next_symbol + 1 }) (IsValue (values.Sym w.next_symbol))
-act list (AddObject new) w = Went (with_store w (with_new w.store.objects new)) (IsObject (new_reference (length w.store.objects) new))
+act list (AddObject plan) w = Went (with_store w (with_new w.store.objects plan)) (IsObject (new_reference (length w.store.objects) plan))
 act list (FindProperty object key) w = Went w (IsProperty (found_at w.store.objects object.id key))
 act list (PutProperty object key value) w =
     let answer = put_result w.store.objects object key value in
@@ -318,5 +296,5 @@ act list (DeleteProperty object key) w =
 act list (FindKeys object) w = Went w (AreKeys (own_keys_of (keys_at w.store.objects object.id)))
 act list (FindOwn object key) w = Went w (IsProperty (own_at w.store.objects object.id key))
 act list (FindInner object) w = Went w (IsInner (inner_at w.store.objects object))
-act list (MoveCursor object next turn) w = Went (with_store w (with_cursor w.store.objects object next turn)) IsDone
+act list (ChangePart object change) w = Went (with_store w (with_change w.store.objects object change)) IsDone
 act list (Reach end) w = Stops (stops.Profile end)

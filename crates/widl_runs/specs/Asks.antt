@@ -7,11 +7,11 @@ use Rattle.widl_dialog.specs.Dialog.{End, Say, Steps}
 use Rattle.widl_dialog.specs.Lift.{Ways, lift}
 use Rattle.widl_value.specs.declared.value.Value.TheVariants as values
 use Rattle.widl_trace.specs.EventTerms.{GetEvent, KeysEvent, OwnEvent}
-use Rattle.widl_steps.specs.AskTerms.{AskTerm, GetAsk, CallAsk, KindAsk, UnitAsk, NoteAsk, OwnKeysAsk, OwnAsk, NewArrayAsk, NewObjectAsk, NewArrayIteratorAsk, CursorAsk, SetCursorAsk, AnswerTerm}
+use Rattle.widl_steps.specs.AskTerms.{AskTerm, GetAsk, CallAsk, UnitAsk, NoteAsk, OwnKeysAsk, OwnAsk, LookAsk, NewAsk, ChangeAsk, AnswerTerm}
 use Rattle.widl_steps.specs.Tasks.{TaskEnd}
 use Rattle.widl_steps.specs.CallTasks.{CallTask, CallTalk}
 use Rattle.widl_runs.specs.Ends.{JobEnd, Talked, Seen, answer_of, task_end_in}
-use Rattle.widl_runs.specs.Actions.{Pay, Write, FindInner, FindKeys, FindOwn, MoveCursor, ArrayOf, ObjectOf, ArrayIteratorOf, Reply, kind_seen, keys_seen, own_seen, cursor_seen}
+use Rattle.widl_runs.specs.Actions.{Pay, Write, FindInner, FindKeys, FindOwn, ChangePart, Reply, keys_seen, own_seen, sight_seen, plan_of}
 use Rattle.widl_runs.specs.Jobs.{Job, Talk, Asked, CallValue, Doing, nothing}
 use Rattle.widl_runs.specs.Expressions.{adds}
 use Rattle.widl_runs.specs.Members.{reads}
@@ -27,10 +27,6 @@ abbrev pub asks : AskTerm → Doing
 asks (GetAsk o key) = Say (Write (GetEvent o key)) (λ r. reads o key)
 -- A function is called, as by a script.
 asks (CallAsk f this args) = Steps (CallValue (values.Obj f) this args) End
--- The kind of an object, and how far an iterator has come; an iterator is moved on: they cost nothing.
-asks (KindAsk o) = Say (FindInner o) (sees kind_seen)
-asks (CursorAsk o) = Say (FindInner o) (sees cursor_seen)
-asks (SetCursorAsk o next turn) = Say (MoveCursor o next turn) (λ r. nothing)
 -- One unit.
 asks UnitAsk = Say Pay (λ r. nothing)
 -- The line of an event.
@@ -38,10 +34,11 @@ asks (NoteAsk event) = Say (Write event) (λ r. nothing)
 -- The own keys of an object, and the flags of an own property: the line, then a look.
 asks (OwnKeysAsk o) = Say (Write (KeysEvent o)) (λ r. Say (FindKeys o) (sees keys_seen))
 asks (OwnAsk o key) = Say (Write (OwnEvent o key)) (λ r. Say (FindOwn o key) (sees own_seen))
--- An array, an object or an iterator: one unit, then the object, whole.
-asks (NewArrayAsk items) = Say Pay (λ r. adds (ArrayOf items))
-asks (NewObjectAsk entries) = Say Pay (λ r. adds (ObjectOf entries))
-asks (NewArrayIteratorAsk o) = Say Pay (λ r. adds (ArrayIteratorOf o))
+-- An object is looked at, or its inner part is changed: that costs nothing.
+asks (LookAsk o what) = Say (FindInner o) (sees (sight_seen what))
+asks (ChangeAsk o change) = Say (ChangePart o change) (λ r. nothing)
+-- A new object: one unit, then the object, whole.
+asks (NewAsk new) = Say Pay (λ r. adds (plan_of new))
 
 -- 2. A conversation in the world
 

@@ -6,7 +6,7 @@ use Rattle.widl_value.specs.declared.value.Value.TheVariants as values
 use Rattle.widl_trace.specs.declared.code.Code.{Code}
 use Rattle.widl_trace.specs.EventTerms.{ErrorEvent}
 use Rattle.widl_runs.specs.Ends.{Thrown}
-use Rattle.widl_runs.specs.Actions.{Pay, Write, AddObject, TypeErrorObject, Reply, object_in}
+use Rattle.widl_runs.specs.Actions.{Pay, Write, AddObject, type_error, Reply, object_in}
 use Rattle.widl_runs.specs.Jobs.{Doing}
 
 -- the object is thrown
@@ -21,7 +21,7 @@ abbrev pub made_error : Code → Reply → Doing
 made_error code r = error_line code (object_in r)
 
 abbrev pub new_error : Code → Doing
-new_error code = Say (AddObject TypeErrorObject) (made_error code)
+new_error code = Say (AddObject type_error) (made_error code)
 
 -- One unit, a new object whose prototype is TypeError.prototype, its line; then the object is thrown.
 abbrev pub fail : Code → Doing

@@ -4,10 +4,12 @@ use Rattle.std.specs.Prelude.{List, [], ◌∷◌, ◌++◌, None, Some}
 use Rattle.widl_dialog.specs.Dialog.{End, Say, Steps}
 use Rattle.widl_value.specs.declared.value.Value.{Value}
 use Rattle.widl_value.specs.declared.value.Value.TheVariants as values
+use Rattle.widl_store.specs.Plans.{Plan}
 use Rattle.widl_script_tree.specs.Trees.{ExpressionTree, UndefinedT, NullT, ThisT, NewSymbolT, NewObjectT, BoolT, NumberT, TextT, NameT, SymbolT, ObjectOfT, NewArrayT, MemberT, IndexT, CallT, NewT, CallWithT, ExpressionTrees, none, more, NamedT, ComputedT}
 use Rattle.widl_trace.specs.declared.code.Code.TheVariants as code
+use Rattle.widl_steps.specs.AskTerms.{NewArray}
 use Rattle.widl_runs.specs.Ends.{Normal}
-use Rattle.widl_runs.specs.Actions.{Pay, ReadThis, ReadName, TakeSymbol, AddObject, NewObject, Ordinary, ArrayOf, Reply, object_in, object_prototype}
+use Rattle.widl_runs.specs.Actions.{Pay, ReadThis, ReadName, TakeSymbol, AddObject, Reply, object_in, ObjectPrototype, prototype, ordinary, plan_of}
 use Rattle.widl_runs.specs.Jobs.{RowUse, ForArguments, ForNew, ForItems, ForRead, ForCall, Evaluate, EvaluateRow, CallValue, ConstructValue, Doing, value, gives, fails}
 use Rattle.widl_runs.specs.Members.{member, calls_with}
 
@@ -16,16 +18,16 @@ use Rattle.widl_runs.specs.Members.{member, calls_with}
 abbrev pub gives_object : Reply → Doing
 gives_object r = End (Normal (values.Obj (object_in r)))
 
-abbrev pub adds : NewObject → Doing
-adds new = Say (AddObject new) gives_object
+abbrev pub adds : Plan → Doing
+adds plan = Say (AddObject plan) gives_object
 
 abbrev pub takes_symbol : Doing
 takes_symbol = Say TakeSymbol gives
 
 -- the value is the prototype: an Object or null, and any other throws a TypeError
 abbrev pub object_of : Value → Doing
-object_of values.Null = Say Pay (λ r. adds (Ordinary None))
-object_of (values.Obj proto) = Say Pay (λ r. adds (Ordinary (Some proto)))
+object_of values.Null = Say Pay (λ r. adds (ordinary None))
+object_of (values.Obj proto) = Say Pay (λ r. adds (ordinary (Some proto)))
 object_of _ = fails code.NotObject
 
 -- 2. Rows: each expression in turn, and then what the values are for. The items of an array take no unit.
@@ -33,7 +35,7 @@ object_of _ = fails code.NotObject
 abbrev pub row_done : RowUse → List Value → Doing
 row_done (ForArguments f this) vs = Steps (CallValue f this vs) End
 row_done (ForNew f) vs = Steps (ConstructValue f vs) End
-row_done ForItems vs = Say Pay (λ r. adds (ArrayOf vs))
+row_done ForItems vs = Say Pay (λ r. adds (plan_of (NewArray vs)))
 
 abbrev pub next_in_row : RowUse → List Value → ExpressionTrees → Value → Doing
 next_in_row what vs es v = Steps (EvaluateRow what (vs ++ v ∷ []) es) End
@@ -79,7 +81,7 @@ evaluate ThisT = Say ReadThis gives
 -- `symbol()`: a unit, then the next symbol.
 evaluate NewSymbolT = Say Pay (λ r. takes_symbol)
 -- `object()`: a unit, then a new object whose prototype is Object.prototype.
-evaluate NewObjectT = Say Pay (λ r. adds (Ordinary (Some object_prototype)))
+evaluate NewObjectT = Say Pay (λ r. adds (ordinary (Some (prototype ObjectPrototype))))
 -- `object(E)`: the prototype is evaluated and tested, then as before.
 evaluate (ObjectOfT proto) = Steps (Evaluate proto) (value object_of)
 -- `array(E, ..)`: the items, then a unit, then the array.

@@ -1,19 +1,21 @@
 -- What each place fits that a run comes to: the objects that its action names are there, there is room for what it adds, and a call has few
 -- arguments.
 -- Source: this program's own.
-use Rattle.std.specs.Prelude.{◌≡◌, ℕ, ◌+◌, ◌<◌, ◌^◌, ◌-◌, Option, List, length, All, IfSome}
+use Rattle.std.specs.Prelude.{◌≡◌, ℕ, ◌+◌, ◌<◌, ◌^◌, ◌-◌, Option, None, Some, List, length, All, IfSome}
 use Rattle.widl_dialog.specs.Dialog.{Say, Steps, bind}
 use Rattle.widl_dialog.specs.Runs.{Went}
 use Rattle.widl_value.specs.declared.value.Value.{Value}
 use Rattle.widl_value.specs.declared.value.Value.TheVariants as values
+use Rattle.widl_store.specs.Inners.{InnerTerm, ScriptPart}
 use Rattle.widl_store.specs.Objects.{Obj, IsLive}
+use Rattle.widl_store.specs.Plans.{Plan}
 use Rattle.widl_script_tree.specs.declared.steps.StepLine.{StepLine}
 use Rattle.widl_script_tree.specs.declared.steps.StepLine.TheVariants as steps
 use Rattle.widl_script_tree.specs.Trees.{ExpressionTree, UndefinedT, NullT, ThisT, NewSymbolT, NewObjectT, BoolT, NumberT, TextT, NameT, SymbolT, ObjectOfT, NewArrayT, MemberT, IndexT, CallT, NewT, CallWithT, ExpressionTrees, none, more, MemberTree, NamedT, ComputedT, StatementTree, LetT, DoT, ReturnT, ThrowT, ShowT, SetT, DefineT, DefineAccessorT, DeleteT, TryT, IfT, FunctionT, StepsT, StatementTrees, no_statements, then_more, ScriptTree}
 use Rattle.widl_steps.specs.CallTasks.{CallTask, Function}
 use Rattle.widl_runs.specs.Ends.{JobEnd}
 use Rattle.widl_runs.specs.Worlds.{World}
-use Rattle.widl_runs.specs.Actions.{NewObject, Ordinary, ScriptFunction, ArrayOf, TypeErrorObject, ObjectOf, ArrayIteratorOf, Action, FindBody, TakeSymbol, AddObject, FindProperty, PutProperty, DefineProperty, DeleteProperty, FindKeys, FindOwn, FindInner, MoveCursor, Reply, act, object_prototype, function_prototype, array_prototype, type_error_prototype, array_iterator_prototype}
+use Rattle.widl_runs.specs.Actions.{Action, FindBody, TakeSymbol, AddObject, FindProperty, PutProperty, DefineProperty, DeleteProperty, FindKeys, FindOwn, FindInner, ChangePart, Reply, act, Prototype, prototype}
 use Rattle.widl_runs.specs.Jobs.{Program, Job, Talk, Doing}
 use Rattle.widl_runs.specs.Rules.{rule}
 
@@ -110,26 +112,22 @@ pub data Comes (p : Program) (e : Doing) (u : World) : Doing → World → Type 
 -- 3. What fits there
 
 -- the prototypes of what a script makes are there
-pub record HasPrototypes (objects : List Obj) : Type 0 where
-  pub object : IsLive objects object_prototype
-  pub function : IsLive objects function_prototype
-  pub array : IsLive objects array_prototype
-  pub error : IsLive objects type_error_prototype
-  pub iterator : IsLive objects array_iterator_prototype
+abbrev pub HasPrototypes : List Obj → Type 0
+HasPrototypes objects = (p : Prototype) → IsLive objects (prototype p)
+
+-- the number of a function of a script
+abbrev pub script_number : InnerTerm → Option ℕ
+script_number (ScriptPart number) = Some number
+script_number _ = None
 
 -- the prototype of a new object is there, and a new function is one of the script
-abbrev pub CanBeMade : Program → List Obj → NewObject → Type 0
-CanBeMade p objects (Ordinary proto) = IfSome proto (IsLive objects)
-CanBeMade p objects (ScriptFunction number name count) = number < length p.script.functions
-CanBeMade p objects (ArrayOf items) = Unit {0}
-CanBeMade p objects TypeErrorObject = Unit {0}
-CanBeMade p objects (ObjectOf entries) = Unit {0}
-CanBeMade p objects (ArrayIteratorOf object) = Unit {0}
+abbrev pub CanBeMade : Program → List Obj → Plan → Type 0
+CanBeMade p objects plan = IfSome plan.proto (IsLive objects) × IfSome (script_number plan.inner) (λ number. number < length p.script.functions)
 
 abbrev pub FitsAction : Program → Action → World → Type 0
 FitsAction p (FindBody object) w = IsLive w.store.objects object
 FitsAction p TakeSymbol w = w.next_symbol < 2 ^ 32 - 1
-FitsAction p (AddObject new) w = (length w.store.objects < 2 ^ 32 - 1) × HasPrototypes w.store.objects × CanBeMade p w.store.objects new
+FitsAction p (AddObject plan) w = (length w.store.objects < 2 ^ 32 - 1) × HasPrototypes w.store.objects × CanBeMade p w.store.objects plan
 FitsAction p (FindProperty object key) w = IsLive w.store.objects object
 FitsAction p (PutProperty object key v) w = IsLive w.store.objects object
 FitsAction p (DefineProperty object key prop) w = IsLive w.store.objects object
@@ -137,7 +135,7 @@ FitsAction p (DeleteProperty object key) w = IsLive w.store.objects object
 FitsAction p (FindKeys object) w = IsLive w.store.objects object
 FitsAction p (FindOwn object key) w = IsLive w.store.objects object
 FitsAction p (FindInner object) w = IsLive w.store.objects object
-FitsAction p (MoveCursor object next turn) w = IsLive w.store.objects object
+FitsAction p (ChangePart object change) w = IsLive w.store.objects object
 FitsAction p _ w = Unit {0}
 
 -- the call of a function that isn't written in the script has few arguments

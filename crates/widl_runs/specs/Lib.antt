@@ -1,3 +1,4 @@
+pub mod Looks
 pub mod Ends
 pub mod Worlds
 pub mod Actions

@@ -9,7 +9,7 @@ use Rattle.widl_value.specs.declared.value.Value.TheVariants as values
 use Rattle.widl_script_tree.specs.Trees.{Text, ExpressionTree, StatementTree, LetT, DoT, ReturnT, ThrowT, ShowT, SetT, DefineT, DefineAccessorT, DeleteT, TryT, IfT, FunctionT, StepsT, StatementTrees, no_statements, then_more}
 use Rattle.widl_trace.specs.EventTerms.{ShowEvent}
 use Rattle.widl_runs.specs.Ends.{JobEnd, Returned, Thrown}
-use Rattle.widl_runs.specs.Actions.{Pay, Write, BindName, AddObject, ScriptFunction, Reply, object_in}
+use Rattle.widl_runs.specs.Actions.{Pay, Write, BindName, AddObject, Reply, script_function, object_in}
 use Rattle.widl_runs.specs.Jobs.{RunStatements, RunStatement, Evaluate, ForSet, ForDefine, ForAccessor, ForDelete, Doing, nothing, value, drops}
 use Rattle.widl_runs.specs.Members.{member}
 
@@ -82,7 +82,7 @@ abbrev pub binds_object : Text → Reply → Doing
 binds_object name r = binds name (values.Obj (object_in r))
 
 abbrev pub new_function : ℕ → Text → ℕ → Doing
-new_function number name count = Say (AddObject (ScriptFunction number name count)) (binds_object name)
+new_function number name count = Say (AddObject (script_function number name count)) (binds_object name)
 
 -- what a statement does after its unit
 abbrev pub performs : StatementTree → Doing

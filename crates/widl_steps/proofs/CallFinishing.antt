@@ -11,7 +11,6 @@ use Rattle.widl_text.specs.declared.key.Key.TheVariants as keys
 use Rattle.widl_idl.specs.declared.callee.Callee.{Callee}
 use Rattle.widl_idl.specs.declared.callee.Owner.{Owner}
 use Rattle.widl_idl.specs.declared.callee.Owner.TheVariants as owners
-use Rattle.widl_idl.specs.declared.literal.Literal.{Literal}
 use Rattle.widl_idl.specs.DefinitionTerms.{DefsTerm}
 use Rattle.widl_idl.specs.Terms.{TypeTerm, AnyType, UndefinedType, BooleanType, IntegerType, StringType, EnumerationType, InterfaceType, CallbackFunctionType, CallbackInterfaceType, DictionaryType, ObjectType, SequenceType, RecordType, PromiseType, NullableType, UnionType}
 use Rattle.widl_value.specs.declared.object.ObjRef.{ObjRef}
@@ -33,7 +32,8 @@ use Rattle.widl_steps.specs.declared.answer.CursorState.{CursorState}
 use Rattle.widl_steps.specs.declared.answer.CursorState.TheVariants as cursors
 use Rattle.widl_steps.specs.declared.answer.KindName.TheVariants as kinds
 use Rattle.widl_steps.specs.declared.want.Want.TheVariants as wants
-use Rattle.widl_steps.specs.AskTerms.{AskTerm, GetAsk, UnitAsk, KindAsk, NewArrayIteratorAsk, CursorAsk, SetCursorAsk, AnswerTerm, BeginAnswer, DoneAnswer, NormalAnswer, ThrownAnswer, KindAnswer, KeysAnswer, OwnAnswer, CursorAnswer, Fits}
+use Rattle.widl_steps.specs.declared.ask.Look.TheVariants as looks
+use Rattle.widl_steps.specs.AskTerms.{AskTerm, GetAsk, UnitAsk, LookAsk, NewAsk, NewArrayIterator, ChangeAsk, SetCursor, AnswerTerm, BeginAnswer, DoneAnswer, NormalAnswer, ThrownAnswer, SightAnswer, KeysAnswer, OwnAnswer, KindSight, CursorSight, Fits}
 use Rattle.widl_steps.specs.Laws.{AsksAreTalked, ChainsEnd}
 use Rattle.widl_steps.specs.Rules.{rule}
 use Rattle.widl_steps.specs.Tasks.{Task, Convert, Scalar, Resolve, Default, Out, TaskEnd, Gives, Plain, Picks, Throw, Rethrow, Profile}
@@ -150,8 +150,8 @@ module _ (built : BuiltCalls) (list : DefsTerm) (blocks : StepsOf) (chains_end :
   fine_tagged : (tag : List ℕ) → Is (tagged tag)
   fine_tagged tag = fine_if tasks (nat_le (length (codes "[object " ++ tag ++ codes "]")) most_joined_units) _ _ (an_end _) (an_end _)
 
-  fine_kind : (o : ObjRef) → Is (Say (KindAsk o) by_kind)
-  fine_kind o = fine_say tasks Fits (KindAsk o) by_kind (KindAnswer kinds.Other) tt (λ a f. fine_tagged (kind_tag (kind_in a)))
+  fine_kind : (o : ObjRef) → Is (Say (LookAsk o looks.Kind) by_kind)
+  fine_kind o = fine_say tasks Fits (LookAsk o looks.Kind) by_kind (SightAnswer (KindSight kinds.Other)) tt (λ a f. fine_tagged (kind_tag (kind_in a)))
 
   fine_tag : (o : ObjRef) (v : Value) → Is (with_tag o v)
   fine_tag o (values.Str tag) = fine_tagged tag
@@ -192,7 +192,7 @@ module _ (built : BuiltCalls) (list : DefsTerm) (blocks : StepsOf) (chains_end :
   fine_values : (v : Value) → Is (array_values v)
   fine_values values.Undefined = an_end _
   fine_values values.Null = an_end _
-  fine_values (values.Obj o) = fine_new (NewArrayIteratorAsk o) refl
+  fine_values (values.Obj o) = fine_new (NewAsk (NewArrayIterator o)) refl
   fine_values (values.Bool b) = an_end _
   fine_values (values.Num n) = an_end _
   fine_values (values.Str units) = an_end _
@@ -201,18 +201,17 @@ module _ (built : BuiltCalls) (list : DefsTerm) (blocks : StepsOf) (chains_end :
   fine_iterator_result : (v : Value) (is_done : Bool) → Is (iterator_result v is_done)
   fine_iterator_result v is_done = fine_new _ refl
 
-  fine_set : (iterator : ObjRef) (next : ℕ) (turn : Turn) (d : CallTalk) → Is d → Is (Say (SetCursorAsk iterator next turn) (done d))
-  fine_set iterator next turn d x = fine_say tasks Fits (SetCursorAsk iterator next turn) (done d) DoneAnswer tt (λ a f. x)
+  fine_set : (iterator : ObjRef) (next : ℕ) (turn : Turn) (d : CallTalk) → Is d → Is (Say (ChangeAsk iterator (SetCursor next turn)) (done d))
+  fine_set iterator next turn d x = fine_say tasks Fits (ChangeAsk iterator (SetCursor next turn)) (done d) DoneAnswer tt (λ a f. x)
 
   fine_read : (iterator : ObjRef) (next : ℕ) (k : Value → CallTalk) → ((v : Value) → Is (k v)) → (a : AnswerTerm) → Is (read_in_turn iterator next k a)
   fine_read iterator next k all (ThrownAnswer v) = fine_set iterator next Ended _ (an_end _)
   fine_read iterator next k all (NormalAnswer v) = all v
   fine_read iterator next k all BeginAnswer = all _
   fine_read iterator next k all DoneAnswer = all _
-  fine_read iterator next k all (KindAnswer kind) = all _
+  fine_read iterator next k all (SightAnswer sight) = all _
   fine_read iterator next k all (KeysAnswer names) = all _
   fine_read iterator next k all (OwnAnswer flags) = all _
-  fine_read iterator next k all (CursorAnswer state) = all _
 
   fine_get_in_turn : (iterator of : ObjRef) (next : ℕ) (name : List ℕ) (k : Value → CallTalk) → ((v : Value) → Is (k v)) → Is (Say (GetAsk of (keys.Name name)) (read_in_turn iterator next k))
   fine_get_in_turn iterator of next name k all = fine_say tasks Fits (GetAsk of (keys.Name name)) (read_in_turn iterator next k) (NormalAnswer values.Undefined) tt (λ a f. fine_read iterator next k all a)
@@ -245,7 +244,7 @@ module _ (built : BuiltCalls) (list : DefsTerm) (blocks : StepsOf) (chains_end :
   fine_cursor iterator (Some (cursors.Pairs of kind next)) = an_end _
 
   fine_next : (v : Value) → Is (array_iterator_next v)
-  fine_next v = fine_object tasks _ _ (λ iterator. fine_say tasks Fits (CursorAsk iterator) _ (CursorAnswer None) tt (λ a f. fine_cursor iterator (cursor_in a))) v
+  fine_next v = fine_object tasks _ _ (λ iterator. fine_say tasks Fits (LookAsk iterator looks.Cursor) _ (SightAnswer (CursorSight None)) tt (λ a f. fine_cursor iterator (cursor_in a))) v
 
   fine_intrinsic : (n : ℕ) (this : Value) → Is (intrinsic n this)
   fine_intrinsic n this =

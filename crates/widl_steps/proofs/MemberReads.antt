@@ -12,7 +12,7 @@ use Rattle.widl_value.specs.declared.object.ObjRef.{ObjRef}
 use Rattle.widl_value.specs.declared.value.Value.{Value}
 use Rattle.widl_value.specs.declared.value.Value.TheVariants as values
 use Rattle.widl_value.specs.IdlTerms.{IdlTerm}
-use Rattle.widl_steps.specs.AskTerms.{AnswerTerm, GetAsk, BeginAnswer, DoneAnswer, NormalAnswer, ThrownAnswer, KindAnswer, KeysAnswer, OwnAnswer, CursorAnswer, Fits}
+use Rattle.widl_steps.specs.AskTerms.{AnswerTerm, GetAsk, BeginAnswer, DoneAnswer, NormalAnswer, ThrownAnswer, SightAnswer, KeysAnswer, OwnAnswer, Fits}
 use Rattle.widl_steps.specs.Built.{Built}
 use Rattle.widl_steps.specs.ContainerLaws.{IsMemberTalk, converted, defaulted, left_out, ReadsInOrder, MembersAreReadInOrder}
 use Rattle.widl_trace.specs.declared.code.Code.TheVariants as code
@@ -94,10 +94,9 @@ module _ (built : Built) (list : DefsTerm) where
     of_answer p (ThrownAnswer v) talk fits x = absurd (not_given (Rethrow v) talk w (λ u h. absurd (cc)) x)
     of_answer p BeginAnswer talk fits x = absurd fits
     of_answer p DoneAnswer talk fits x = absurd fits
-    of_answer p (KindAnswer kind) talk fits x = absurd fits
+    of_answer p (SightAnswer sight) talk fits x = absurd fits
     of_answer p (KeysAnswer names) talk fits x = absurd fits
     of_answer p (OwnAnswer flags) talk fits x = absurd fits
-    of_answer p (CursorAnswer state) talk fits x = absurd fits
 
   module _ (n : ℕ) (o : ObjRef) (w : IdlTerm) (is_built : built.to_type (DictionaryType n) ≡ true) where
     -- where dictionaries are built, the steps are those of the members

@@ -10,7 +10,7 @@ use Rattle.widl_idl.specs.DefinitionTerms.{DefsTerm}
 use Rattle.widl_idl.specs.Terms.{AnyType}
 use Rattle.widl_value.specs.declared.value.Value.{Value}
 use Rattle.widl_value.specs.IdlTerms.{IdlTerm, IdlTerms, no_values, more_values, UndefinedValue, NullValue, MissingValue, BooleanValue, IntegerValue, StringValue, EnumerationValue, ObjectValue, AnyValue, SequenceValue, RecordValue, DictionaryValue, PromiseValue}
-use Rattle.widl_steps.specs.AskTerms.{AskTerm, AnswerTerm, UnitAsk, BeginAnswer, DoneAnswer, NormalAnswer, ThrownAnswer, KindAnswer, KeysAnswer, OwnAnswer, CursorAnswer, Fits}
+use Rattle.widl_steps.specs.AskTerms.{AskTerm, AnswerTerm, UnitAsk, BeginAnswer, DoneAnswer, NormalAnswer, ThrownAnswer, SightAnswer, KeysAnswer, OwnAnswer, Fits}
 use Rattle.widl_steps.specs.Built.{Built}
 use Rattle.widl_steps.specs.Laws.{Said, IsTalk}
 use Rattle.widl_steps.specs.ResultLaws.{AreConverted, HaveNoContainer, IsNoContainer, ItemsComeFirst, UnitsAreAllThatIsSaid, item_count, own_asks}
@@ -50,20 +50,18 @@ module _ (built : Built) (list : DefsTerm) where
   made_at_once f (ThrownAnswer v) talk n x = no_more f _ talk n x
   made_at_once f BeginAnswer talk n x = no_more f _ talk n x
   made_at_once f DoneAnswer talk n x = no_more f _ talk n x
-  made_at_once f (KindAnswer kind) talk n x = no_more f _ talk n x
+  made_at_once f (SightAnswer sight) talk n x = no_more f _ talk n x
   made_at_once f (KeysAnswer names) talk n x = no_more f _ talk n x
   made_at_once f (OwnAnswer flags) talk n x = no_more f _ talk n x
-  made_at_once f (CursorAnswer state) talk n x = no_more f _ talk n x
 
   is_done : (a : AnswerTerm) → Fits UnitAsk a → a ≡ DoneAnswer
   is_done DoneAnswer fits = refl
   is_done BeginAnswer fits = absurd fits
   is_done (NormalAnswer v) fits = absurd fits
   is_done (ThrownAnswer v) fits = absurd fits
-  is_done (KindAnswer kind) fits = absurd fits
+  is_done (SightAnswer sight) fits = absurd fits
   is_done (KeysAnswer names) fits = absurd fits
   is_done (OwnAnswer flags) fits = absurd fits
-  is_done (CursorAnswer state) fits = absurd fits
 
   of_units : (n : ℕ) (container : Container) (made : List Value) (talk : Said) (v : Value) → Given (out_units n container made) talk v → (a : AnswerTerm) × (talk ≡ own_asks n container made a)
   of_units zero container made talk v (zero, x) = absurd x

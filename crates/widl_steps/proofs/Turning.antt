@@ -15,7 +15,7 @@ use Rattle.widl_value.specs.declared.value.Value.TheVariants as values
 use Rattle.widl_value.specs.IdlTerms.{IdlTerm, SequenceValue, packed_values}
 use Rattle.widl_scalar.specs.Primitives.{truth_of}
 use Rattle.widl_trace.specs.declared.code.Code.TheVariants as code
-use Rattle.widl_steps.specs.AskTerms.{AskTerm, AnswerTerm, GetAsk, CallAsk, BeginAnswer, DoneAnswer, NormalAnswer, ThrownAnswer, KindAnswer, KeysAnswer, OwnAnswer, CursorAnswer, Fits}
+use Rattle.widl_steps.specs.AskTerms.{AskTerm, AnswerTerm, GetAsk, CallAsk, BeginAnswer, DoneAnswer, NormalAnswer, ThrownAnswer, SightAnswer, KeysAnswer, OwnAnswer, Fits}
 use Rattle.widl_steps.specs.Built.{Built}
 use Rattle.widl_steps.specs.ContainerLaws.{AreTurns, SequencesTakeTurns}
 use Rattle.widl_steps.specs.Laws.{Said}
@@ -87,10 +87,9 @@ module _ (built : Built) (list : DefsTerm) (t : TypeTerm) (iterator next : ObjRe
     of_value turn d (ThrownAnswer v) talk not_done below fits x = absurd (never (Rethrow v) talk (λ u h. absurd (cc)) x)
     of_value turn d BeginAnswer talk not_done below fits x = absurd fits
     of_value turn d DoneAnswer talk not_done below fits x = absurd fits
-    of_value turn d (KindAnswer kind) talk not_done below fits x = absurd fits
+    of_value turn d (SightAnswer sight) talk not_done below fits x = absurd fits
     of_value turn d (KeysAnswer names) talk not_done below fits x = absurd fits
     of_value turn d (OwnAnswer flags) talk not_done below fits x = absurd fits
-    of_value turn d (CursorAnswer state) talk not_done below fits x = absurd fits
 
     -- the sequence, or one more element
     of_done : (turn : ObjRef) (d : Value) (b : Bool) (talk : Said) → truth_of d ≡ b → length talk ≤ n
@@ -113,10 +112,9 @@ module _ (built : Built) (list : DefsTerm) (t : TypeTerm) (iterator next : ObjRe
     of_done_answer turn (ThrownAnswer v) talk below fits x = absurd (never (Rethrow v) talk (λ u h. absurd (cc)) x)
     of_done_answer turn BeginAnswer talk below fits x = absurd fits
     of_done_answer turn DoneAnswer talk below fits x = absurd fits
-    of_done_answer turn (KindAnswer kind) talk below fits x = absurd fits
+    of_done_answer turn (SightAnswer sight) talk below fits x = absurd fits
     of_done_answer turn (KeysAnswer names) talk below fits x = absurd fits
     of_done_answer turn (OwnAnswer flags) talk below fits x = absurd fits
-    of_done_answer turn (CursorAnswer state) talk below fits x = absurd fits
 
     of_turn : (turn : ObjRef) (talk : Said) → length talk ≤ n → Given (Say (GetAsk turn (keys.Name (codes "done"))) (normal (told_done t iterator next made turn))) talk → Turned made (called (NormalAnswer (values.Obj turn)) ∷ talk)
     of_turn turn talk below (zero, x) = absurd x
@@ -138,10 +136,9 @@ module _ (built : Built) (list : DefsTerm) (t : TypeTerm) (iterator next : ObjRe
     of_answer (ThrownAnswer v) talk below fits x = absurd (never (Rethrow v) talk (λ u h. absurd (cc)) x)
     of_answer BeginAnswer talk below fits x = absurd fits
     of_answer DoneAnswer talk below fits x = absurd fits
-    of_answer (KindAnswer kind) talk below fits x = absurd fits
+    of_answer (SightAnswer sight) talk below fits x = absurd fits
     of_answer (KeysAnswer names) talk below fits x = absurd fits
     of_answer (OwnAnswer flags) talk below fits x = absurd fits
-    of_answer (CursorAnswer state) talk below fits x = absurd fits
 
   turned : (n : ℕ) → Again n
   turned n made talk below (zero, x) = absurd x

@@ -21,7 +21,7 @@ use Rattle.widl_tables.specs.declared.pick.Pick.{Pick}
 use Rattle.widl_tables.specs.declared.pick.Pick.TheVariants.{Entry, Probe, Refuse}
 use Rattle.widl_tables.specs.Picks.{pick_member_of}
 use Rattle.widl_tables.specs.Tests.{is_null_or_undefined}
-use Rattle.widl_steps.specs.AskTerms.{AnswerTerm, BeginAnswer, DoneAnswer, NormalAnswer, ThrownAnswer, KindAnswer, KeysAnswer, OwnAnswer, CursorAnswer, GetAsk, Fits}
+use Rattle.widl_steps.specs.AskTerms.{AnswerTerm, BeginAnswer, DoneAnswer, NormalAnswer, ThrownAnswer, SightAnswer, KeysAnswer, OwnAnswer, GetAsk, Fits}
 use Rattle.widl_steps.specs.Built.{Built}
 use Rattle.widl_steps.specs.Laws.{Said}
 use Rattle.widl_steps.specs.Rules.{rule}
@@ -144,10 +144,9 @@ module _ (built : Built) (list : DefsTerm) (w : IdlTerm) where
     answered (ThrownAnswer v) talk fits x = absurd (not_given (Rethrow v) talk (λ h. absurd (cc)) x)
     answered BeginAnswer talk fits x = absurd fits
     answered DoneAnswer talk fits x = absurd fits
-    answered (KindAnswer kind) talk fits x = absurd fits
+    answered (SightAnswer sight) talk fits x = absurd fits
     answered (KeysAnswer names) talk fits x = absurd fits
     answered (OwnAnswer flags) talk fits x = absurd fits
-    answered (CursorAnswer state) talk fits x = absurd fits
 
   -- 3. The whole
 

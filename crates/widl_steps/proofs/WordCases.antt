@@ -9,7 +9,7 @@ use Rattle.widl_value.specs.declared.value.Value.{Value}
 use Rattle.widl_value.specs.declared.value.Value.TheVariants as values
 use Rattle.widl_value.specs.IdlTerms.{IdlTerm, UndefinedValue, NullValue, MissingValue, BooleanValue, IntegerValue, StringValue, EnumerationValue, ObjectValue, AnyValue, SequenceValue, RecordValue, DictionaryValue, PromiseValue}
 use Rattle.widl_trace.specs.declared.code.Code.{Code}
-use Rattle.widl_steps.specs.AskTerms.{AnswerTerm, BeginAnswer, DoneAnswer, NormalAnswer, ThrownAnswer, KindAnswer, KeysAnswer, OwnAnswer, CursorAnswer}
+use Rattle.widl_steps.specs.AskTerms.{AnswerTerm, BeginAnswer, DoneAnswer, NormalAnswer, ThrownAnswer, SightAnswer, KeysAnswer, OwnAnswer}
 use Rattle.widl_steps.specs.Records.{named}
 use Rattle.widl_steps.specs.Tasks.{TaskEnd, Gives, Plain, Picks, Throw, Rethrow, Profile, Talk, TalkOf}
 use Rattle.widl_steps.specs.Words.{normal, object, object_or, if_callable, callable_or, method_or, given, returned, number, text}
@@ -24,10 +24,9 @@ module _ {Job : Type 0} (Holds : TalkOf Job → Type 0) (an_end : (r : TaskEnd) 
   of_normal k all (ThrownAnswer v) = an_end (Rethrow v)
   of_normal k all BeginAnswer = all values.Undefined
   of_normal k all DoneAnswer = all values.Undefined
-  of_normal k all (KindAnswer kind) = all values.Undefined
+  of_normal k all (SightAnswer sight) = all values.Undefined
   of_normal k all (KeysAnswer names) = all values.Undefined
   of_normal k all (OwnAnswer flags) = all values.Undefined
-  of_normal k all (CursorAnswer state) = all values.Undefined
 
   pub of_object : (c : Code) (k : ObjRef → TalkOf Job) → ((o : ObjRef) → Holds (k o)) → (v : Value) → Holds (object c k v)
   of_object c k all values.Undefined = an_end _

@@ -14,7 +14,8 @@ use Rattle.widl_trace.specs.declared.code.Code.TheVariants as code
 use Rattle.widl_steps.specs.declared.answer.CursorState.{CursorState}
 use Rattle.widl_steps.specs.declared.answer.CursorState.TheVariants as cursors
 use Rattle.widl_steps.specs.declared.want.Want.TheVariants as wants
-use Rattle.widl_steps.specs.AskTerms.{GetAsk, NewObjectAsk, NewArrayIteratorAsk, CursorAsk, SetCursorAsk, AnswerTerm, ThrownAnswer, CursorAnswer}
+use Rattle.widl_steps.specs.declared.ask.Look.TheVariants as looks
+use Rattle.widl_steps.specs.AskTerms.{GetAsk, NewAsk, NewObject, NewArrayIterator, LookAsk, ChangeAsk, SetCursor, AnswerTerm, ThrownAnswer, CursorSight, SightAnswer}
 use Rattle.widl_steps.specs.Tasks.{Scalar, TaskEnd, Throw, Rethrow}
 use Rattle.widl_steps.specs.Words.{returns, fails, primitive_this, done, normal, object, number}
 use Rattle.widl_steps.specs.CallTasks.{Of, CallTalk}
@@ -24,17 +25,17 @@ use Rattle.widl_steps.specs.CallTasks.{Of, CallTalk}
 abbrev pub array_values : Value → CallTalk
 array_values values.Undefined = fails code.This
 array_values values.Null = fails code.This
-array_values (values.Obj o) = Say (NewArrayIteratorAsk o) (normal returns)
+array_values (values.Obj o) = Say (NewAsk (NewArrayIterator o)) (normal returns)
 array_values _ = primitive_this
 
 -- 2. %ArrayIteratorPrototype%.next
 
 abbrev pub iterator_result : Value → Bool → CallTalk
-iterator_result v is_done = Say (NewObjectAsk ((keys.Name (codes "value"), v) ∷ (keys.Name (codes "done"), values.Bool is_done) ∷ [])) (normal returns)
+iterator_result v is_done = Say (NewAsk (NewObject ((keys.Name (codes "value"), v) ∷ (keys.Name (codes "done"), values.Bool is_done) ∷ []))) (normal returns)
 
 -- What throws in a turn ends the iterator first: its steps are those of a generator, which is completed by an exception.
 abbrev pub ends_iterator : ObjRef → ℕ → CallTalk → CallTalk
-ends_iterator iterator next d = Say (SetCursorAsk iterator next Ended) (done d)
+ends_iterator iterator next d = Say (ChangeAsk iterator (SetCursor next Ended)) (done d)
 
 abbrev pub read_in_turn : ObjRef → ℕ → (Value → CallTalk) → AnswerTerm → CallTalk
 read_in_turn iterator next k (ThrownAnswer v) = ends_iterator iterator next (End (Rethrow v))
@@ -46,7 +47,7 @@ given_in_turn iterator next k (Rethrow v) = ends_iterator iterator next (End (Re
 given_in_turn iterator next k e = k e
 
 abbrev pub element_read : ObjRef → ℕ → Value → CallTalk
-element_read iterator next v = Say (SetCursorAsk iterator (next + 1) Idle) (done (iterator_result v false))
+element_read iterator next v = Say (ChangeAsk iterator (SetCursor (next + 1) Idle)) (done (iterator_result v false))
 
 -- The key is the index as a Number's text: its decimal digits. At the end of the array, or past it, the iterator is ended.
 abbrev pub with_length : ObjRef → ObjRef → ℕ → ℕ → CallTalk
@@ -60,7 +61,7 @@ length_read iterator of next v = Steps (Of (Scalar wants.Length v)) (given_in_tu
 
 -- a turn, for the element of this index
 abbrev pub turn : ObjRef → ObjRef → ℕ → CallTalk
-turn iterator of next = Say (SetCursorAsk iterator next Running) (done (Say (GetAsk of (keys.Name (codes "length"))) (read_in_turn iterator next (length_read iterator of next))))
+turn iterator of next = Say (ChangeAsk iterator (SetCursor next Running)) (done (Say (GetAsk of (keys.Name (codes "length"))) (read_in_turn iterator next (length_read iterator of next))))
 
 abbrev pub by_turn : ObjRef → ObjRef → ℕ → Turn → CallTalk
 by_turn iterator of next Idle = turn iterator of next
@@ -69,7 +70,7 @@ by_turn iterator of next Ended = iterator_result values.Undefined true
 
 -- no other answer fits
 abbrev pub cursor_in : AnswerTerm → Option CursorState
-cursor_in (CursorAnswer state) = state
+cursor_in (SightAnswer (CursorSight state)) = state
 cursor_in _ = None
 
 abbrev pub by_cursor : ObjRef → Option CursorState → CallTalk
@@ -78,7 +79,7 @@ by_cursor iterator (Some (cursors.Pairs of kind next)) = fails code.This
 by_cursor iterator None = fails code.This
 
 abbrev pub array_iterator_next : Value → CallTalk
-array_iterator_next = object code.This (λ iterator. Say (CursorAsk iterator) (λ a. by_cursor iterator (cursor_in a)))
+array_iterator_next = object code.This (λ iterator. Say (LookAsk iterator looks.Cursor) (λ a. by_cursor iterator (cursor_in a)))
 
 -- 3. %IteratorPrototype%[@@iterator]
 

@@ -9,7 +9,8 @@ use Rattle.widl_value.specs.declared.value.Value.TheVariants as values
 use Rattle.widl_trace.specs.declared.code.Code.TheVariants as code
 use Rattle.widl_steps.specs.declared.answer.KindName.{KindName}
 use Rattle.widl_steps.specs.declared.answer.KindName.TheVariants as kinds
-use Rattle.widl_steps.specs.AskTerms.{GetAsk, KindAsk, AnswerTerm, KindAnswer}
+use Rattle.widl_steps.specs.declared.ask.Look.TheVariants as looks
+use Rattle.widl_steps.specs.AskTerms.{GetAsk, LookAsk, AnswerTerm, KindSight, SightAnswer}
 use Rattle.widl_steps.specs.Tasks.{Profile}
 use Rattle.widl_steps.specs.Words.{returns, fails, normal, primitive_this}
 use Rattle.widl_steps.specs.CallTasks.{CallTalk}
@@ -43,7 +44,7 @@ tagged tag = joined (codes "[object " ++ tag ++ codes "]")
 
 -- no other answer fits
 abbrev pub kind_in : AnswerTerm → KindName
-kind_in (KindAnswer kind) = kind
+kind_in (SightAnswer (KindSight kind)) = kind
 kind_in _ = kinds.Other
 
 abbrev pub by_kind : AnswerTerm → CallTalk
@@ -52,7 +53,7 @@ by_kind a = tagged (kind_tag (kind_in a))
 -- a tag that is no text gives way to that of the object's kind, which is asked for only then
 abbrev pub with_tag : ObjRef → Value → CallTalk
 with_tag o (values.Str tag) = tagged tag
-with_tag o _ = Say (KindAsk o) by_kind
+with_tag o _ = Say (LookAsk o looks.Kind) by_kind
 
 abbrev pub object_to_string : Value → CallTalk
 object_to_string values.Undefined = tagged (codes "Undefined")

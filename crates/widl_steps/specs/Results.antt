@@ -12,7 +12,7 @@ use Rattle.widl_value.specs.declared.value.Value.TheVariants as values
 use Rattle.widl_value.specs.IdlTerms.{IdlTerm, IdlTerms, EntryTerms, MemberTerms, no_values, more_values, no_entries, more_entries, no_members, more_members, UndefinedValue, NullValue, MissingValue, BooleanValue, IntegerValue, StringValue, EnumerationValue, ObjectValue, AnyValue, SequenceValue, RecordValue, DictionaryValue, PromiseValue}
 use Rattle.widl_value.specs.Rounding.{nearest_of}
 use Rattle.widl_trace.specs.IdlValueTexts.{enumeration_value, member_name}
-use Rattle.widl_steps.specs.AskTerms.{AskTerm, UnitAsk, NewArrayAsk, NewObjectAsk}
+use Rattle.widl_steps.specs.AskTerms.{AskTerm, UnitAsk, NewAsk, NewArray, NewObject}
 use Rattle.widl_steps.specs.Built.{Built}
 use Rattle.widl_steps.specs.Tasks.{Container, ArrayOf, ObjectOf, Task, Out, OutItems, OutUnits, Talk, TaskEnd}
 use Rattle.widl_steps.specs.Words.{done, normal, returned, returns, no_whole_number, not_built}
@@ -35,8 +35,8 @@ properties (name ∷ names) [] = []
 properties (name ∷ names) (v ∷ made) = (keys.Name name, v) ∷ properties names made
 
 abbrev pub container_ask : Container → List Value → AskTerm
-container_ask ArrayOf made = NewArrayAsk made
-container_ask (ObjectOf names) made = NewObjectAsk (properties names made)
+container_ask ArrayOf made = NewAsk (NewArray made)
+container_ask (ObjectOf names) made = NewAsk (NewObject (properties names made))
 
 -- how a value is converted is told by its form, so the type of an item doesn't matter
 abbrev pub item_task : IdlTerm → Task

@@ -46,7 +46,7 @@ pub enum CursorState {
 pub enum Answer {
     /// Nothing has been asked yet: a conversation begins.
     Begin,
-    /// `Unit`, `Note` and `SetCursor` are done.
+    /// `Unit` and `Note` are done, and so is a change.
     Done,
     /// `Get` and `Call` ended with this value; or this is the object that was to be made.
     Normal(Value),

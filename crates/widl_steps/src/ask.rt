@@ -62,3 +62,35 @@ pub enum Ask {
         turn: Turn,
     },
 }
+
+/// What is looked at of an object. A look has no line and takes no unit.
+#[derive(Clone, Copy)]
+pub enum Look {
+    /// Its kind, as [`Ask::Kind`] asks.
+    Kind,
+    /// How far it has come as an iterator, as [`Ask::Cursor`] asks.
+    Cursor,
+}
+
+/// What is made whole, for one unit.
+#[derive(Drop)]
+pub enum New {
+    /// An array of these elements, as [`Ask::NewArray`] asks.
+    Array(Values),
+    /// An object with these properties, as [`Ask::NewObject`] asks.
+    Object(ScriptEntries),
+    /// An iterator over the elements of this object, as [`Ask::NewArrayIterator`] asks.
+    ArrayIterator(ObjRef),
+}
+
+/// What is changed in an object that is there. A change has no line and takes no unit.
+#[derive(Drop)]
+pub enum Change {
+    /// How far an Array Iterator has come, as [`Ask::SetCursor`] asks.
+    Cursor {
+        /// The index of the next element.
+        next: u64,
+        /// Whether a call of it is under way, or it has given all.
+        turn: Turn,
+    },
+}

@@ -19,6 +19,6 @@ pub mod laws;
 mod want;
 
 pub use answer::{Answer, CursorState, KindName};
-pub use ask::{Ask, ScriptEntries};
+pub use ask::{Ask, Change, Look, New, ScriptEntries};
 pub use hint::Hint;
 pub use want::Want;

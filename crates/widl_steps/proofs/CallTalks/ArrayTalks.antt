@@ -1,5 +1,5 @@
 -- Worked conversations with everything built: the functions of arrays and array iterators, and default results.
-use Rattle.std.specs.Prelude.{◌≡◌, ℕ, [], ◌∷◌, ◌++◌, None, Some, Bool, true, false, codes, refl}
+use Rattle.std.specs.Prelude.{◌≡◌, ℕ, [], ◌∷◌, None, Some, Bool, true, false, codes, refl}
 use Rattle.std.specs.Fmt.{digits}
 use Rattle.widl_dialog.specs.Conversation.{Asks, Ends, Next}
 use Rattle.widl_dialog.proofs.Nexts.{one_next}
@@ -18,7 +18,8 @@ use Rattle.widl_store.specs.declared.inner.Turn.{Turn}
 use Rattle.widl_store.specs.declared.inner.Turn.TheVariants.{Idle, Running, Ended}
 use Rattle.widl_trace.specs.declared.code.Code.TheVariants as code
 use Rattle.widl_steps.specs.declared.answer.CursorState.TheVariants as cursors
-use Rattle.widl_steps.specs.AskTerms.{AskTerm, AnswerTerm, GetAsk, NewObjectAsk, NewArrayIteratorAsk, CursorAsk, SetCursorAsk, NormalAnswer, ThrownAnswer, DoneAnswer, CursorAnswer, Fits}
+use Rattle.widl_steps.specs.declared.ask.Look.TheVariants as looks
+use Rattle.widl_steps.specs.AskTerms.{AskTerm, AnswerTerm, GetAsk, NewAsk, NewObject, NewArrayIterator, LookAsk, ChangeAsk, SetCursor, NormalAnswer, ThrownAnswer, DoneAnswer, CursorSight, SightAnswer, Fits}
 use Rattle.widl_steps.specs.Laws.{Said, IsNext}
 use Rattle.widl_steps.specs.Tasks.{TaskEnd, Gives, Plain, Throw, Rethrow, Profile}
 use Rattle.widl_steps.proofs.Worked.{number, integer, plain, function, gets_name, takes_unit, dictionary, required_member, with_dictionaries, derived, long, nothing_defined, everything_built}
@@ -46,20 +47,20 @@ iterator = values.Obj (plain 22)
 
 -- how far the iterator has come; that it is set; an object that is made
 abbrev stands : ℕ → Turn → AskTerm × AnswerTerm
-stands next turn = (CursorAsk (plain 22), CursorAnswer (Some (cursors.Array (plain 21) next turn)))
+stands next turn = (LookAsk (plain 22) looks.Cursor, SightAnswer (CursorSight (Some (cursors.Array (plain 21) next turn))))
 
 abbrev set : ℕ → Turn → AskTerm × AnswerTerm
-set next turn = (SetCursorAsk (plain 22) next turn, DoneAnswer)
+set next turn = (ChangeAsk (plain 22) (SetCursor next turn), DoneAnswer)
 
 abbrev result : Value → Bool → AskTerm
-result v is_done = NewObjectAsk ((keys.Name (codes "value"), v) ∷ (keys.Name (codes "done"), values.Bool is_done) ∷ [])
+result v is_done = NewAsk (NewObject ((keys.Name (codes "value"), v) ∷ (keys.Name (codes "done"), values.Bool is_done) ∷ []))
 
 abbrev makes : AskTerm → ℕ → AskTerm × AnswerTerm
 makes ask n = (ask, NormalAnswer (values.Obj (plain n)))
 
 -- 1. `values`
 
-makes_iterator : Does 12 array (makes (NewArrayIteratorAsk (plain 21)) 22 ∷ []) (Ends (Plain iterator))
+makes_iterator : Does 12 array (makes (NewAsk (NewArrayIterator (plain 21))) 22 ∷ []) (Ends (Plain iterator))
 makes_iterator = (60, (refl, refl, refl))
 
 values_of_null : Does 12 values.Null [] (Ends (Throw code.This))
@@ -70,14 +71,14 @@ values_of_text = (60, refl)
 
 -- 2. `next` of an array of 7: a turn that gives the element, one at the end, and what comes after that
 
-turn_begins : Does 13 iterator (stands 0 Idle ∷ []) (Asks (SetCursorAsk (plain 22) 0 Running))
+turn_begins : Does 13 iterator (stands 0 Idle ∷ []) (Asks (ChangeAsk (plain 22) (SetCursor 0 Running)))
 turn_begins = (60, (refl, tt, refl))
 
 element_is_read : Does 13 iterator (stands 0 Idle ∷ set 0 Running ∷ gets_name (plain 21) (codes "length") (number 1) ∷ []) (Asks (GetAsk (plain 21) (keys.Name (codes "0"))))
 unfolding digits
 element_is_read = (60, (refl, tt, (refl, tt, (refl, tt, refl))))
 
-pub turn_is_over : Does 13 iterator (stands 0 Idle ∷ set 0 Running ∷ gets_name (plain 21) (codes "length") (number 1) ∷ gets_name (plain 21) (codes "0") (number 7) ∷ []) (Asks (SetCursorAsk (plain 22) 1 Idle))
+pub turn_is_over : Does 13 iterator (stands 0 Idle ∷ set 0 Running ∷ gets_name (plain 21) (codes "length") (number 1) ∷ gets_name (plain 21) (codes "0") (number 7) ∷ []) (Asks (ChangeAsk (plain 22) (SetCursor 1 Idle)))
 unfolding digits
 turn_is_over = (60, (refl, tt, (refl, tt, (refl, tt, (refl, tt, refl)))))
 
@@ -96,7 +97,7 @@ unfolding digits
 tenth_element = (60, (refl, tt, (refl, tt, (refl, tt, refl))))
 
 -- an object without a length is at its end
-no_length : Does 13 iterator (stands 0 Idle ∷ set 0 Running ∷ gets_name (plain 21) (codes "length") values.Undefined ∷ []) (Asks (SetCursorAsk (plain 22) 0 Ended))
+no_length : Does 13 iterator (stands 0 Idle ∷ set 0 Running ∷ gets_name (plain 21) (codes "length") values.Undefined ∷ []) (Asks (ChangeAsk (plain 22) (SetCursor 0 Ended)))
 no_length = (60, (refl, tt, (refl, tt, (refl, tt, refl))))
 
 -- 3. Faults: one in a turn ends the iterator
@@ -122,10 +123,10 @@ element_throws = (60, (refl, tt, (refl, tt, (refl, tt, (refl, tt, (refl, tt, ref
 pub turn_is_running : Does 13 iterator (stands 0 Running ∷ []) (Ends (Throw code.Running))
 turn_is_running = (60, (refl, tt, refl))
 
-no_iterator : Does 13 array ((CursorAsk (plain 21), CursorAnswer None) ∷ []) (Ends (Throw code.This))
+no_iterator : Does 13 array ((LookAsk (plain 21) looks.Cursor, SightAnswer (CursorSight None)) ∷ []) (Ends (Throw code.This))
 no_iterator = (60, (refl, tt, refl))
 
-other_iterator : Does 13 iterator ((CursorAsk (plain 22), CursorAnswer (Some (cursors.Pairs (plain 21) Entries 0))) ∷ []) (Ends (Throw code.This))
+other_iterator : Does 13 iterator ((LookAsk (plain 22) looks.Cursor, SightAnswer (CursorSight (Some (cursors.Pairs (plain 21) Entries 0)))) ∷ []) (Ends (Throw code.This))
 other_iterator = (60, (refl, tt, refl))
 
 next_of_undefined : Does 13 values.Undefined [] (Ends (Throw code.This))
@@ -143,16 +144,16 @@ any_this : Does 14 values.Undefined [] (Ends (Plain values.Undefined))
 any_this = (60, refl)
 
 -- 5. A turn that runs is not begun again, and one that went well doesn't end the iterator
-not_begun_again : Does 13 iterator (stands 0 Running ∷ []) (Asks (SetCursorAsk (plain 22) 0 Running)) → ⊥
+not_begun_again : Does 13 iterator (stands 0 Running ∷ []) (Asks (ChangeAsk (plain 22) (SetCursor 0 Running))) → ⊥
 not_begun_again x =
-    let e : ◌≡◌ {A = Next AskTerm TaskEnd} (Ends (Throw code.Running)) (Asks (SetCursorAsk (plain 22) 0 Running)) =
+    let e : ◌≡◌ {A = Next AskTerm TaskEnd} (Ends (Throw code.Running)) (Asks (ChangeAsk (plain 22) (SetCursor 0 Running))) =
     one_next (call_rule all_built nothing_defined no_steps) Fits _ _ _ _ turn_is_running x in
     absurd (cc)
 
-not_ended : Does 13 iterator (stands 0 Idle ∷ set 0 Running ∷ gets_name (plain 21) (codes "length") (number 1) ∷ gets_name (plain 21) (codes "0") (number 7) ∷ []) (Asks (SetCursorAsk (plain 22) 1 Ended)) → ⊥
+not_ended : Does 13 iterator (stands 0 Idle ∷ set 0 Running ∷ gets_name (plain 21) (codes "length") (number 1) ∷ gets_name (plain 21) (codes "0") (number 7) ∷ []) (Asks (ChangeAsk (plain 22) (SetCursor 1 Ended))) → ⊥
 unfolding digits
 not_ended x =
-    let e : ◌≡◌ {A = Next AskTerm TaskEnd} (Asks (SetCursorAsk (plain 22) 1 Idle)) (Asks (SetCursorAsk (plain 22) 1 Ended)) =
+    let e : ◌≡◌ {A = Next AskTerm TaskEnd} (Asks (ChangeAsk (plain 22) (SetCursor 1 Idle))) (Asks (ChangeAsk (plain 22) (SetCursor 1 Ended))) =
     one_next (call_rule all_built nothing_defined no_steps) Fits _ _ _ _ turn_is_over x in
     absurd (cc)
 

@@ -10,7 +10,8 @@ use Rattle.widl_value.specs.declared.value.Value.TheVariants as values
 use Rattle.widl_store.specs.declared.inner.Builtin.TheVariants as builtins
 use Rattle.widl_trace.specs.declared.code.Code.TheVariants as code
 use Rattle.widl_steps.specs.declared.answer.KindName.TheVariants as kinds
-use Rattle.widl_steps.specs.AskTerms.{AskTerm, GetAsk, KindAsk, ThrownAnswer, KindAnswer, Fits}
+use Rattle.widl_steps.specs.declared.ask.Look.TheVariants as looks
+use Rattle.widl_steps.specs.AskTerms.{AskTerm, GetAsk, LookAsk, ThrownAnswer, KindSight, SightAnswer, Fits}
 use Rattle.widl_steps.specs.Laws.{Said, IsNext}
 use Rattle.widl_steps.specs.Tasks.{TaskEnd, Plain, Throw, Rethrow, Profile}
 use Rattle.widl_steps.proofs.Worked.{number, plain, function, gets, nothing_defined}
@@ -42,22 +43,22 @@ text_with_tag = (10, (refl, tt, refl))
 text_with_empty_tag : Does 8 it (gets (plain 20) (keys.Sym 2) (values.Str []) ∷ []) (Ends (Plain (values.Str (codes "[object ]"))))
 text_with_empty_tag = (10, (refl, tt, refl))
 
-asks_kind : Does 8 it (gets (plain 20) (keys.Sym 2) (number 1) ∷ []) (Asks (KindAsk (plain 20)))
+asks_kind : Does 8 it (gets (plain 20) (keys.Sym 2) (number 1) ∷ []) (Asks (LookAsk (plain 20) looks.Kind))
 asks_kind = (10, (refl, tt, refl))
 
-text_without_tag : Does 8 it (gets (plain 20) (keys.Sym 2) values.Undefined ∷ (KindAsk (plain 20), KindAnswer kinds.Array) ∷ []) (Ends (Plain (values.Str (codes "[object Array]"))))
+text_without_tag : Does 8 it (gets (plain 20) (keys.Sym 2) values.Undefined ∷ (LookAsk (plain 20) looks.Kind, SightAnswer (KindSight kinds.Array)) ∷ []) (Ends (Plain (values.Str (codes "[object Array]"))))
 text_without_tag = (10, (refl, tt, (refl, tt, refl)))
 
-text_of_callable : Does 8 it (gets (plain 20) (keys.Sym 2) values.Undefined ∷ (KindAsk (plain 20), KindAnswer kinds.Function) ∷ []) (Ends (Plain (values.Str (codes "[object Function]"))))
+text_of_callable : Does 8 it (gets (plain 20) (keys.Sym 2) values.Undefined ∷ (LookAsk (plain 20) looks.Kind, SightAnswer (KindSight kinds.Function)) ∷ []) (Ends (Plain (values.Str (codes "[object Function]"))))
 text_of_callable = (10, (refl, tt, (refl, tt, refl)))
 
-text_of_thrown : Does 8 it (gets (plain 20) (keys.Sym 2) values.Undefined ∷ (KindAsk (plain 20), KindAnswer kinds.Error) ∷ []) (Ends (Plain (values.Str (codes "[object Error]"))))
+text_of_thrown : Does 8 it (gets (plain 20) (keys.Sym 2) values.Undefined ∷ (LookAsk (plain 20) looks.Kind, SightAnswer (KindSight kinds.Error)) ∷ []) (Ends (Plain (values.Str (codes "[object Error]"))))
 text_of_thrown = (10, (refl, tt, (refl, tt, refl)))
 
-text_of_other : Does 8 it (gets (plain 20) (keys.Sym 2) values.Undefined ∷ (KindAsk (plain 20), KindAnswer kinds.Other) ∷ []) (Ends (Plain (values.Str (codes "[object Object]"))))
+text_of_other : Does 8 it (gets (plain 20) (keys.Sym 2) values.Undefined ∷ (LookAsk (plain 20) looks.Kind, SightAnswer (KindSight kinds.Other)) ∷ []) (Ends (Plain (values.Str (codes "[object Object]"))))
 text_of_other = (10, (refl, tt, (refl, tt, refl)))
 
-text_of_promise : Does 8 it (gets (plain 20) (keys.Sym 2) values.Undefined ∷ (KindAsk (plain 20), KindAnswer kinds.Promise) ∷ []) (Ends (Plain (values.Str (codes "[object Object]"))))
+text_of_promise : Does 8 it (gets (plain 20) (keys.Sym 2) values.Undefined ∷ (LookAsk (plain 20) looks.Kind, SightAnswer (KindSight kinds.Promise)) ∷ []) (Ends (Plain (values.Str (codes "[object Object]"))))
 text_of_promise = (10, (refl, tt, (refl, tt, refl)))
 
 tag_throws : Does 8 it ((GetAsk (plain 20) (keys.Sym 2), ThrownAnswer (number 7)) ∷ []) (Ends (Rethrow (number 7)))
@@ -100,14 +101,14 @@ no_getter = (10, refl)
 asks_tag : Does 8 it [] (Asks (GetAsk (plain 20) (keys.Sym 2)))
 asks_tag = (10, refl)
 
-kind_not_first : Does 8 it [] (Asks (KindAsk (plain 20))) → ⊥
+kind_not_first : Does 8 it [] (Asks (LookAsk (plain 20) looks.Kind)) → ⊥
 kind_not_first x =
-    let e : ◌≡◌ {A = Next AskTerm TaskEnd} (Asks (GetAsk (plain 20) (keys.Sym 2))) (Asks (KindAsk (plain 20))) =
+    let e : ◌≡◌ {A = Next AskTerm TaskEnd} (Asks (GetAsk (plain 20) (keys.Sym 2))) (Asks (LookAsk (plain 20) looks.Kind)) =
     one_next (call_rule calls_built_today nothing_defined no_blocks) Fits _ _ _ _ asks_tag x in
     absurd (cc)
 
-no_kind_after_fault : Does 8 it ((GetAsk (plain 20) (keys.Sym 2), ThrownAnswer (number 7)) ∷ []) (Asks (KindAsk (plain 20))) → ⊥
+no_kind_after_fault : Does 8 it ((GetAsk (plain 20) (keys.Sym 2), ThrownAnswer (number 7)) ∷ []) (Asks (LookAsk (plain 20) looks.Kind)) → ⊥
 no_kind_after_fault x =
-    let e : ◌≡◌ {A = Next AskTerm TaskEnd} (Ends (Rethrow (number 7))) (Asks (KindAsk (plain 20))) =
+    let e : ◌≡◌ {A = Next AskTerm TaskEnd} (Ends (Rethrow (number 7))) (Asks (LookAsk (plain 20) looks.Kind)) =
     one_next (call_rule calls_built_today nothing_defined no_blocks) Fits _ _ _ _ tag_throws x in
     absurd (cc)

@@ -21,7 +21,7 @@ use Rattle.widl_script_tree.specs.declared.steps.Target.TheVariants as targets
 use Rattle.widl_script_tree.specs.Trees.{ScriptTree, no_statements, then_more, StepsT}
 use Rattle.widl_trace.specs.declared.code.Code.TheVariants as code
 use Rattle.widl_trace.specs.EventTerms.{OperationEvent}
-use Rattle.widl_steps.specs.AskTerms.{AskTerm, AnswerTerm, NoteAsk, UnitAsk, NewArrayAsk, DoneAnswer, NormalAnswer}
+use Rattle.widl_steps.specs.AskTerms.{AskTerm, AnswerTerm, NoteAsk, UnitAsk, NewAsk, NewArray, DoneAnswer, NormalAnswer}
 use Rattle.widl_steps.specs.Laws.{Said, IsNext}
 use Rattle.widl_steps.specs.Tasks.{TaskEnd, Plain, Throw, Rethrow, Profile}
 use Rattle.widl_steps.proofs.Worked.{number, integer, plain, function, argument, overload, with_overloads, with_values, f}
@@ -146,10 +146,10 @@ default_nullable = (40, (refl, tt, refl))
 default_enumeration : Calls (record (giving (EnumerationType 0)) { choices = (with_values (codes "on" ∷ codes "off" ∷ [])).choices }) no_steps [] (noted [] ∷ []) (Ends (Plain (values.Str (codes "on"))))
 default_enumeration = (40, (refl, tt, refl))
 
-default_sequence : Calls (giving (SequenceType long)) no_steps [] (noted [] ∷ []) (Asks (NewArrayAsk []))
+default_sequence : Calls (giving (SequenceType long)) no_steps [] (noted [] ∷ []) (Asks (NewAsk (NewArray [])))
 default_sequence = (40, (refl, tt, refl))
 
-the_new_array : Calls (giving (SequenceType long)) no_steps [] (noted [] ∷ (NewArrayAsk [], NormalAnswer (values.Obj (plain 5))) ∷ []) (Ends (Plain (values.Obj (plain 5))))
+the_new_array : Calls (giving (SequenceType long)) no_steps [] (noted [] ∷ (NewAsk (NewArray []), NormalAnswer (values.Obj (plain 5))) ∷ []) (Ends (Plain (values.Obj (plain 5))))
 the_new_array = (40, (refl, tt, (refl, refl, refl)))
 
 -- null is no default of a union that includes a nullable type

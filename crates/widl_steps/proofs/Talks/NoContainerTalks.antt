@@ -7,7 +7,7 @@ use Rattle.widl_dialog.proofs.Nexts.{one_next}
 use Rattle.widl_text.specs.declared.key.Key.TheVariants as keys
 use Rattle.widl_idl.specs.DefinitionTerms.{DefsTerm}
 use Rattle.widl_value.specs.declared.value.Value.TheVariants as values
-use Rattle.widl_steps.specs.AskTerms.{AskTerm, GetAsk, CallAsk, OwnAsk, UnitAsk, NewArrayAsk, Fits}
+use Rattle.widl_steps.specs.AskTerms.{AskTerm, GetAsk, CallAsk, OwnAsk, UnitAsk, NewAsk, NewArray, Fits}
 use Rattle.widl_steps.specs.Laws.{Said}
 use Rattle.widl_steps.specs.Rules.{rule}
 use Rattle.widl_steps.specs.Tasks.{Task, TaskEnd, Convert, Resolve, Rethrow}
@@ -74,7 +74,7 @@ choice_of_union_reads_once x =
     absurd (cc)
 
 -- no container is made before its items
-not_before_items : Tells nothing_defined (list_of_records) ([]) (Asks (NewArrayAsk [])) → ⊥
+not_before_items : Tells nothing_defined (list_of_records) ([]) (Asks (NewAsk (NewArray []))) → ⊥
 not_before_items x =
-    let e : ◌≡◌ {A = Next AskTerm TaskEnd} (Asks UnitAsk) (Asks (NewArrayAsk [])) = only_one nothing_defined (list_of_records) ([]) _ _ units_are_first x in
+    let e : ◌≡◌ {A = Next AskTerm TaskEnd} (Asks UnitAsk) (Asks (NewAsk (NewArray []))) = only_one nothing_defined (list_of_records) ([]) _ _ units_are_first x in
     absurd (cc)

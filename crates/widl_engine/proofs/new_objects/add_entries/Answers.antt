@@ -1,8 +1,12 @@
 use Rattle.std.proofs.Common.{◌≡◌, ◌∙◌, ◌≤◌, ◌<◌, ◌+◌, length, arith, ap}
 use Rattle.widl_store.specs.Objects.{StoreState}
+use Rattle.widl_runs.specs.Actions.{ObjectPrototype}
 use Rattle.widl_engine.proofs.Items.{live_defined, next_entry}
 use Rattle.widl_engine.proofs.TakenBack.{as_many}
 use Rattle.widl_engine.proofs.new_objects.add_entries.Goals as goal
+
+pub add-requires-clause-proto : goal.add-requires-clause-proto
+add-requires-clause-proto c = c.requires.prototypes ObjectPrototype
 
 pub each-preserved : goal.each-preserved
 each-preserved c =

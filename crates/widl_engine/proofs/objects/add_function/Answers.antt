@@ -10,9 +10,13 @@ use Rattle.widl_store.specs.Objects.{StoreState}
 use Rattle.widl_script_tree.specs.declared.function.Function.{Function}
 use Rattle.widl_script_tree.specs.Tables.{key_at, name_at, function_at}
 use Rattle.widl_engine.specs.Frames.{parameters_of}
+use Rattle.widl_runs.specs.Actions.{FunctionPrototype}
 use Rattle.widl_engine.proofs.Coming.{number_named}
 use Rattle.widl_engine.proofs.NewObjects.{function_free, function_measured, function_live, function_free_again, function_added}
 use Rattle.widl_engine.proofs.objects.add_function.Goals as goal
+
+pub add-requires-clause-proto : goal.add-requires-clause-proto
+add-requires-clause-proto c = c.requires.prototypes FunctionPrototype
 
 pub define-requires-clause-free : goal.define-requires-clause-free
 define-requires-clause-free c =
