@@ -1,6 +1,6 @@
 -- For proofs and contracts alone; no step names these words. What a suspended call still does: the dialog of each thing that it is made of.
 use Rattle.std.specs.Prelude.{ℕ, ◌+◌, List, [], ◌∷◌, Option, Some, None}
-use Rattle.widl_dialog.specs.Dialog.{End, Say, Steps}
+use Rattle.widl_dialog.specs.Dialog.{End, Say, Steps, bind}
 use Rattle.widl_dialog.specs.Position.{At}
 use Rattle.widl_dialog.specs.Rename.{rename}
 use Rattle.widl_idl.specs.declared.callee.Callee.{Callee}
@@ -17,16 +17,16 @@ use Rattle.widl_steps.specs.declared.want.Want.TheVariants as wants
 use Rattle.widl_steps.specs.AskTerms.{AnswerTerm, Fits, ask_term}
 use Rattle.widl_steps.specs.Tasks.{TaskEnd, Convert, Resolve, Scalar, Out}
 use Rattle.widl_steps.specs.Words.{done, normal, number}
-use Rattle.widl_steps.specs.Built.{built_today}
 use Rattle.widl_steps.specs.ArrayFunctions.{given_in_turn, with_length}
 use Rattle.widl_steps.specs.BuiltCalls.{calls_built_today}
 use Rattle.widl_steps.specs.CallRules.{call_rule}
-use Rattle.widl_steps.specs.CallTasks.{CallTask, Of, Function, Lines, CallTalk, NamedValues}
+use Rattle.widl_steps.specs.CallTasks.{CallTask, Of, Function, CallTalk}
 use Rattle.widl_steps.specs.DefaultResults.{default_result}
 use Rattle.widl_steps.specs.Nullables.{inner_type}
 use Rattle.widl_steps.specs.ObjectFunctions.{by_kind, with_tag}
 use Rattle.widl_steps.specs.Operations.{StepsOf, chosen, result, result_type}
-use Rattle.widl_steps.specs.StepLines.{line}
+use Rattle.widl_steps.specs.StepLines.{line, lines}
+use Rattle.widl_convert.specs.declared.moves.Ending.{Ending}
 use Rattle.widl_convert.specs.Frames.{end_of}
 use Rattle.widl_convert.specs.Loads.{given_load, load, object_load}
 use Rattle.widl_convert.specs.Stack.{rest, quiet}
@@ -41,7 +41,7 @@ use Rattle.widl_calls.specs.declared.overload.Overload.{Overload}
 use Rattle.widl_calls.specs.declared.waits.CallWait.{CallWait}
 use Rattle.widl_calls.specs.declared.waits.CallWait.TheVariants as waits
 use Rattle.widl_calls.specs.ArrayWaits.{array_after, array_patience, cursor_load, moved_load}
-use Rattle.widl_calls.specs.NamedTerms.{named_terms}
+use Rattle.widl_calls.specs.HeldValues.{held}
 
 -- 1. Tasks
 
@@ -54,7 +54,6 @@ lines_in list steps o = steps o.callee o.number
 abbrev pub call_job_of : DefsTerm → StepsOf → CallJob → CallTask
 call_job_of list steps (jobs.Function f what this args construct) = Function f what this args.values construct
 call_job_of list steps (jobs.Resolve callee args) = Of (Resolve callee args.values)
-call_job_of list steps (jobs.Lines o read) = Lines (type_for list o) (named_terms read) (lines_in list steps o)
 call_job_of list steps (jobs.OfUndefined o) = Of (Convert (inner_type (type_for list o)) values.Undefined)
 call_job_of list steps (jobs.Out o value) = Of (Out (type_for list o) (idl_term value))
 call_job_of list steps (jobs.ToLength v) = Of (Scalar wants.Length v)
@@ -73,14 +72,19 @@ call_returned_to list steps (frames.Length t) = length_to t
 -- 3. What comes after an answer
 
 -- after the unit of the first line
-abbrev pub first_line : DefsTerm → TypeTerm → NamedValues → List StepLine → CallTalk
-first_line list t named [] = default_result built_today list t
-first_line list t named (l ∷ more) = line t named l
+abbrev pub first_line : DefsTerm → TypeTerm → List IdlTerm → List StepLine → CallTalk
+first_line list t ws [] = default_result list t
+first_line list t ws (l ∷ more) = line t ws l
+
+-- how steps end; without an end, with the dictionary that undefined is converted to
+abbrev pub ended_or_dictionary : TypeTerm → Option Ending → CallTalk
+ended_or_dictionary t (Some ending) = End (end_of ending)
+ended_or_dictionary t None = Steps (Of (Convert (inner_type t) values.Undefined)) End
 
 abbrev pub call_after : DefsTerm → StepsOf → CallWait → AnswerTerm → CallTalk
 call_after list steps (waits.Inside i) = λ a. rename Of (rest list i.asker.value a)
-call_after list steps (waits.Noted o read) = done (Steps (Lines (type_for list o) (named_terms read) (lines_in list steps o)) (result (type_for list o)))
-call_after list steps (waits.Line o read) = done (first_line list (type_for list o) (named_terms read) (lines_in list steps o))
+call_after list steps (waits.Noted o read) = done (bind (lines list (type_for list o) (held read) (lines_in list steps o)) (result (type_for list o)))
+call_after list steps (waits.Line o read) = done (bind (first_line list (type_for list o) (held read) (lines_in list steps o)) (result (type_for list o)))
 call_after list steps (waits.Tag o) = normal (with_tag o)
 call_after list steps waits.Kind = by_kind
 call_after list steps (waits.Array w) = array_after w
@@ -128,15 +132,10 @@ function_load list (builtins.Callee callee) args = operation_load list callee ar
 function_load list (builtins.InterfaceObject iface) args = 0
 function_load list (builtins.Pairs iface what) args = 0
 
--- a dictionary that is made from undefined
-abbrev pub default_load : DefsTerm → Overload → ℕ
-default_load list o = 1 + inner_load (load list (Convert (inner_type (type_for list o)) values.Undefined))
-
 -- what a task does before a charge
 abbrev pub job_load : DefsTerm → CallJob → ℕ
 job_load list (jobs.Function f what this args construct) = function_load list what args.values
 job_load list (jobs.Resolve callee args) = inner_load (load list (Resolve callee args.values))
-job_load list (jobs.Lines o read) = default_load list o
 job_load list (jobs.OfUndefined o) = inner_load (load list (Convert (inner_type (type_for list o)) values.Undefined))
 job_load list (jobs.Out o value) = inner_load (load list (Out (type_for list o) (idl_term value)))
 job_load list (jobs.ToLength v) = inner_load (load list (Scalar wants.Length v))

@@ -1,4 +1,4 @@
-pub mod NamedTerms
+pub mod HeldValues
 pub mod Kinds
 pub mod ArrayWaits
 pub mod Waits

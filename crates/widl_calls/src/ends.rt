@@ -3,12 +3,13 @@
 ghost use Rattle.std.specs.Prelude.{◌≡◌};
 ghost use Rattle.widl_dialog.specs.Dialog.{End};
 ghost use Rattle.widl_idl.specs.DefinitionTerms.{DefsTerm};
+ghost use Rattle.widl_idl.specs.Terms.{TypeTerm};
 ghost use Rattle.widl_steps.specs.Operations.{StepsOf};
 ghost use Rattle.widl_value.specs.IdlTerms.{idl_term};
 ghost use Rattle.widl_steps.specs.Tasks.{Profile};
-ghost use Rattle.widl_steps.specs.Words.{fails, gives, returns};
+ghost use Rattle.widl_steps.specs.Words.{fails, gives, not_built, returns};
 ghost use Rattle.widl_convert.specs.Loads.{value_load};
-ghost use Rattle.widl_calls.specs.Frames.{call_dialog, call_weight};
+ghost use Rattle.widl_calls.specs.Frames.{call_dialog, call_weight, ended_or_dictionary};
 
 use crate::moves::CallMove;
 use widl_convert::{Ending, Outcome};
@@ -57,4 +58,25 @@ pub(crate) fn reaches(number: u8) -> CallMove
     ensures weight { (list : DefsTerm) → call_weight list result ≡ 0 }
 {
     CallMove::Gives(Ending::Profile(number))
+}
+
+/// The end of steps with an IDL value.
+pub(crate) fn given(value: IdlValue) -> Option<Ending>
+    ensures { (t : TypeTerm) → ended_or_dictionary t result ≡ gives (idl_term value) }
+{
+    Some(Ending::Done(Outcome::Idl(value)))
+}
+
+/// The end of steps with a new TypeError.
+pub(crate) fn fault(reason: Code) -> Option<Ending>
+    ensures { (t : TypeTerm) → ended_or_dictionary t result ≡ fails reason }
+{
+    Some(Ending::Throw(reason))
+}
+
+/// The end of steps with what isn't built.
+pub(crate) fn not_built() -> Option<Ending>
+    ensures { (t : TypeTerm) → ended_or_dictionary t result ≡ not_built }
+{
+    Some(Ending::Profile(NOT_BUILT))
 }

@@ -2,7 +2,6 @@
 
 use crate::arguments::Arguments;
 use crate::overload::Overload;
-use crate::step_lines::NamedValue;
 use widl_idl::Callee;
 use widl_store::Builtin;
 use widl_value::{IdlValue, ObjRef, Value};
@@ -29,13 +28,6 @@ pub enum CallJob {
         callee: Callee,
         /// The arguments.
         args: Arguments,
-    },
-    /// The steps of an overload.
-    Lines {
-        /// The overload.
-        overload: Overload,
-        /// The value of the argument that they read.
-        read: Option<Box<NamedValue>>,
     },
     /// `undefined` to an IDL value of the type of an overload's result, or of the inner one where that is
     /// nullable.

@@ -1,6 +1,7 @@
 //! Operations: what the function of an operation does.
 
 ghost use Rattle.std.specs.Prelude.{◌≡◌, ◌≤◌, ◌<◌, ◌+◌, ℕ, IfOk};
+ghost use Rattle.widl_dialog.specs.Dialog.{bind};
 ghost use Rattle.widl_idl.specs.DefinitionTerms.{DefsTerm, defs_term};
 ghost use Rattle.widl_steps.specs.Operations.{StepsOf};
 ghost use Rattle.widl_value.specs.IdlTerms.{idl_terms};
@@ -9,7 +10,7 @@ ghost use Rattle.widl_steps.specs.FoundSteps.{steps_over};
 ghost use Rattle.widl_steps.specs.Operations.{chosen, operation, owned_operation, result as to_script, result_type};
 ghost use Rattle.widl_convert.specs.Frames.{end_of};
 ghost use Rattle.widl_convert.specs.Loads.{given_load};
-ghost use Rattle.widl_calls.specs.Frames.{call_dialog, call_weight, operation_load, result_load};
+ghost use Rattle.widl_calls.specs.Frames.{call_dialog, call_weight, ended_or_dictionary, operation_load, result_load};
 
 use crate::arguments::Arguments;
 use crate::ends::{NOT_BUILT, reaches};
@@ -107,6 +108,17 @@ fn noted(
         }),
         wait: CallWait::Noted { overload, read },
     }))
+}
+
+/// The move after the steps of an overload, by their end; without one to the dictionary that `undefined` is
+/// converted to.
+pub(crate) fn with_result(overload: Overload, ended: Option<Ending>) -> CallMove
+    ensures { (list : DefsTerm) (steps : StepsOf) → call_dialog list steps result ≡ bind (ended_or_dictionary (result_type list overload.callee overload.number) ended) (to_script (result_type list overload.callee overload.number)) }
+{
+    match ended {
+        None => CallMove::Steps(CallFrame::Result(overload), CallJob::OfUndefined(overload)),
+        Some(ending) => result(overload, ending),
+    }
 }
 
 /// The move after the IDL value of a result.

@@ -1,28 +1,26 @@
 //! Steps blocks: a unit for each line, and what a line does.
 
-ghost use Rattle.std.specs.Prelude.{◌≡◌, ◌≤◌, [], ◌∷◌, nat_eq, if◌then◌else◌, IfOk, option_map, slice_get};
-ghost use Rattle.std.specs.Map.{lookup};
-ghost use Rattle.std.specs.Option.{option_map_or, option_to_list};
-ghost use Rattle.widl_dialog.specs.Dialog.{End, Steps};
+ghost use Rattle.std.specs.Prelude.{◌≡◌, IfOk, Some, option_map, slice_get};
+ghost use Rattle.std.specs.Option.{option_map_or};
+ghost use Rattle.widl_dialog.specs.Dialog.{End, Steps, bind};
 ghost use Rattle.widl_idl.specs.DefinitionTerms.{DefsTerm, defs_term};
 ghost use Rattle.widl_steps.specs.Operations.{StepsOf};
 ghost use Rattle.widl_value.specs.IdlTerms.{idl_term, idl_terms};
-ghost use Rattle.widl_idl.specs.Terms.{UndefinedType, type_term};
+ghost use Rattle.widl_idl.specs.Terms.{TypeTerm, UndefinedType, type_term};
 ghost use Rattle.widl_steps.specs.Defaults.{literal_value};
 ghost use Rattle.widl_steps.specs.Tasks.{Default};
 ghost use Rattle.widl_steps.specs.CallTasks.{Of};
 ghost use Rattle.widl_steps.specs.FoundSteps.{steps_over};
-ghost use Rattle.widl_steps.specs.Operations.{lines_of, result_type};
-ghost use Rattle.widl_steps.specs.Built.{built_today};
-ghost use Rattle.widl_steps.specs.StepLines.{argument_value, args_of_line, args_of_lines, args_of_source, line as line_talk, lines, named_values, read_values, return_line};
+ghost use Rattle.widl_steps.specs.Operations.{result as to_script, result_type};
+ghost use Rattle.widl_steps.specs.StepLines.{argument_value, line as line_talk, lines as lines_talk, return_line};
 ghost use Rattle.widl_convert.specs.Literals.{given_or_dictionary};
-ghost use Rattle.widl_calls.specs.Frames.{CallLeads, call_dialog, call_weight, default_load, first_line};
-ghost use Rattle.widl_calls.specs.NamedTerms.{named_terms};
+ghost use Rattle.widl_calls.specs.Frames.{CallLeads, call_dialog, ended_or_dictionary, first_line};
+ghost use Rattle.widl_calls.specs.HeldValues.{ReadByLine, ReadByLines, ReadBySource, at_place, held};
 
 use crate::default_results::default_result;
-use crate::ends::{NOT_BUILT, fails, gives, reaches};
-use crate::jobs::CallJob;
+use crate::ends::{fault, given, not_built};
 use crate::moves::{CallAsking, CallMove};
+use crate::operations::with_result;
 use crate::overload::Overload;
 use crate::waits::CallWait;
 use std::alloc::{AllocError, Global};
@@ -45,7 +43,7 @@ pub struct NamedValue {
 
 /// The number of the argument that a source reads.
 fn arg_of_source(source: &Source) -> Option<u32>
-    ensures { option_to_list result ≡ args_of_source source.now }
+    ensures { ReadBySource source.now result }
 {
     match source {
         Source::Arg(number) => Some(*number),
@@ -55,7 +53,7 @@ fn arg_of_source(source: &Source) -> Option<u32>
 
 /// The number of the argument that a line reads.
 fn arg_of_line(line: &StepLine) -> Option<u32>
-    ensures { option_to_list result ≡ args_of_line line.now }
+    ensures { ReadByLine line.now result }
 {
     match line {
         StepLine::Return(source) => arg_of_source(source),
@@ -70,7 +68,7 @@ fn arg_of_line(line: &StepLine) -> Option<u32>
 
 /// The number of the argument that lines read.
 fn arg_of_lines(lines: &[StepLine]) -> Option<u32>
-    ensures { option_to_list result ≡ args_of_lines lines.now }
+    ensures { ReadByLines lines.now result }
 {
     match lines {
         [] => None,
@@ -78,17 +76,17 @@ fn arg_of_lines(lines: &[StepLine]) -> Option<u32>
     }
 }
 
-/// A copy of the value that has a number among these.
+/// A copy of the value of an argument, if there is one.
 ///
 /// # Errors
 ///
 /// `AllocError` where there is no memory.
-fn value_of(
+fn named_value(
     alloc: Global,
     number: u32,
     values: &IdlValues,
 ) -> Result<Option<Box<NamedValue>>, AllocError>
-    ensures { IfOk result (λ named. named_terms named ≡ option_map_or (λ w. (number, w) ∷ []) (slice_get (idl_terms values.now) number) []) }
+    ensures { IfOk result (λ named. slice_get (held named) number ≡ slice_get (idl_terms values.now) number) }
 {
     if (number as usize) < values.len() {
         let value = values.at(number as usize).copy()?;
@@ -98,7 +96,7 @@ fn value_of(
     }
 }
 
-/// A copy of the value that lines read of these.
+/// A copy of the one value of these that lines read: without the others they do the same.
 ///
 /// # Errors
 ///
@@ -108,15 +106,15 @@ pub(crate) fn read_value(
     lines: &[StepLine],
     values: &IdlValues,
 ) -> Result<Option<Box<NamedValue>>, AllocError>
-    ensures { IfOk result (λ named. named_terms named ≡ read_values lines.now (idl_terms values.now)) }
+    ensures { IfOk result (λ named. (list : DefsTerm) (t : TypeTerm) → lines_talk list t (held named) lines.now ≡ lines_talk list t (idl_terms values.now) lines.now) }
 {
     match arg_of_lines(lines) {
         None => Ok(None),
-        Some(number) => value_of(alloc, number, values),
+        Some(number) => named_value(alloc, number, values),
     }
 }
 
-/// The first move of the steps of an overload.
+/// The move to the steps of an overload, whose event is told, and to their result.
 ///
 /// # Errors
 ///
@@ -128,11 +126,10 @@ pub(crate) fn lines(
     overload: Overload,
     read: Option<Box<NamedValue>>,
 ) -> Result<CallMove, AllocError>
-    ensures dialog { IfOk result (λ m. call_dialog (defs_term tables.now.defs) (steps_over tables.now script.now) m ≡ lines built_today (defs_term tables.now.defs) (result_type (defs_term tables.now.defs) overload.callee overload.number) (named_terms read) (steps_over tables.now script.now overload.callee overload.number)) }
-    ensures weight { IfOk result (λ m. call_weight (defs_term tables.now.defs) m ≤ default_load (defs_term tables.now.defs) overload) }
+    ensures { IfOk result (λ m. call_dialog (defs_term tables.now.defs) (steps_over tables.now script.now) m ≡ bind (lines_talk (defs_term tables.now.defs) (result_type (defs_term tables.now.defs) overload.callee overload.number) (held read) (steps_over tables.now script.now overload.callee overload.number)) (to_script (result_type (defs_term tables.now.defs) overload.callee overload.number))) }
 {
     match overload.lines(tables, script) {
-        [] => default_result(alloc, tables, overload),
+        [] => Ok(with_result(overload, default_result(alloc, tables, overload)?)),
         [..] => Ok(CallMove::Asks(CallAsking {
             ask: Ask::Unit,
             wait: CallWait::Line { overload, read },
@@ -145,14 +142,32 @@ pub(crate) fn lines(
 /// # Errors
 ///
 /// `AllocError` where there is no memory.
-pub(crate) fn first_line(
+pub(crate) fn after_unit(
     alloc: Global,
     tables: &Tables,
     script: &Script,
     overload: Overload,
     read: Option<Box<NamedValue>>,
 ) -> Result<CallMove, AllocError>
-    ensures { IfOk result (λ m. CallLeads (defs_term tables.now.defs) (steps_over tables.now script.now) (first_line (defs_term tables.now.defs) (result_type (defs_term tables.now.defs) overload.callee overload.number) (named_terms read) (steps_over tables.now script.now overload.callee overload.number)) (call_dialog (defs_term tables.now.defs) (steps_over tables.now script.now) m)) }
+    ensures { IfOk result (λ m. CallLeads (defs_term tables.now.defs) (steps_over tables.now script.now) (bind (first_line (defs_term tables.now.defs) (result_type (defs_term tables.now.defs) overload.callee overload.number) (held read) (steps_over tables.now script.now overload.callee overload.number)) (to_script (result_type (defs_term tables.now.defs) overload.callee overload.number))) (call_dialog (defs_term tables.now.defs) (steps_over tables.now script.now) m)) }
+{
+    let ended = first_line(alloc, tables, script, overload, read)?;
+    Ok(with_result(overload, ended))
+}
+
+/// How the steps of an overload end, after the unit of their first line.
+///
+/// # Errors
+///
+/// `AllocError` where there is no memory.
+fn first_line(
+    alloc: Global,
+    tables: &Tables,
+    script: &Script,
+    overload: Overload,
+    read: Option<Box<NamedValue>>,
+) -> Result<Option<Ending>, AllocError>
+    ensures { IfOk result (λ ended. CallLeads (defs_term tables.now.defs) (steps_over tables.now script.now) (first_line (defs_term tables.now.defs) (result_type (defs_term tables.now.defs) overload.callee overload.number) (held read) (steps_over tables.now script.now overload.callee overload.number)) (ended_or_dictionary (result_type (defs_term tables.now.defs) overload.callee overload.number) ended)) }
 {
     match overload.lines(tables, script) {
         [] => default_result(alloc, tables, overload),
@@ -160,7 +175,7 @@ pub(crate) fn first_line(
     }
 }
 
-/// What a line does.
+/// How steps end with a line.
 ///
 /// # Errors
 ///
@@ -171,21 +186,21 @@ fn do_line(
     overload: Overload,
     read: Option<Box<NamedValue>>,
     line: &StepLine,
-) -> Result<CallMove, AllocError>
-    ensures { IfOk result (λ m. (steps : StepsOf) → CallLeads (defs_term tables.now.defs) steps (line_talk (result_type (defs_term tables.now.defs) overload.callee overload.number) (named_terms read) line.now) (call_dialog (defs_term tables.now.defs) steps m)) }
+) -> Result<Option<Ending>, AllocError>
+    ensures { IfOk result (λ ended. (steps : StepsOf) → CallLeads (defs_term tables.now.defs) steps (line_talk (result_type (defs_term tables.now.defs) overload.callee overload.number) (held read) line.now) (ended_or_dictionary (result_type (defs_term tables.now.defs) overload.callee overload.number) ended)) }
 {
     match line {
         StepLine::Return(source) => return_line(alloc, tables, overload, read, source),
-        StepLine::Throw(value) => Ok(CallMove::Gives(Ending::Rethrow(value.copy()?))),
+        StepLine::Throw(value) => Ok(Some(Ending::Rethrow(value.copy()?))),
         StepLine::ReturnInvoke(_)
         | StepLine::SetSlot { slot: _, source: _ }
         | StepLine::Append(_, _)
         | StepLine::Clear
-        | StepLine::Invoke(_) => Ok(reaches(NOT_BUILT)),
+        | StepLine::Invoke(_) => Ok(not_built()),
     }
 }
 
-/// The end with the value of a source.
+/// How steps end with the value of a source.
 ///
 /// # Errors
 ///
@@ -196,61 +211,61 @@ fn return_line(
     overload: Overload,
     read: Option<Box<NamedValue>>,
     source: &Source,
-) -> Result<CallMove, AllocError>
-    ensures { IfOk result (λ m. (steps : StepsOf) → CallLeads (defs_term tables.now.defs) steps (return_line (result_type (defs_term tables.now.defs) overload.callee overload.number) (named_terms read) source.now) (call_dialog (defs_term tables.now.defs) steps m)) }
+) -> Result<Option<Ending>, AllocError>
+    ensures { IfOk result (λ ended. (steps : StepsOf) → CallLeads (defs_term tables.now.defs) steps (return_line (result_type (defs_term tables.now.defs) overload.callee overload.number) (held read) source.now) (ended_or_dictionary (result_type (defs_term tables.now.defs) overload.callee overload.number) ended)) }
 {
     match source {
         Source::Arg(number) => Ok(return_arg(read, *number)),
         Source::Literal(literal) => return_literal(alloc, tables, overload, literal),
-        Source::This | Source::Slot(_) => Ok(reaches(NOT_BUILT)),
+        Source::This | Source::Slot(_) => Ok(not_built()),
     }
 }
 
-/// The end with the value of the argument of a number.
-fn return_arg(read: Option<Box<NamedValue>>, number: u32) -> CallMove
-    ensures { (list : DefsTerm) (steps : StepsOf) → call_dialog list steps result ≡ argument_value (lookup (nat_eq number) (named_terms read)) }
+/// How steps end with the value of the argument of a number.
+fn return_arg(read: Option<Box<NamedValue>>, number: u32) -> Option<Ending>
+    ensures { (t : TypeTerm) → ended_or_dictionary t result ≡ argument_value (slice_get (held read) number) }
 {
     match read {
-        None => fails(Code::NoValue),
+        None => fault(Code::NoValue),
         Some(named) => return_named(Box::into_inner(named), number),
     }
 }
 
-/// The end with a value, where it is that of the argument of a number.
-fn return_named(named: NamedValue, number: u32) -> CallMove
-    ensures { (list : DefsTerm) (steps : StepsOf) → call_dialog list steps result ≡ argument_value (if nat_eq number named.number then Some (idl_term named.value) else None) }
+/// The same with the value that is held, where it is that of the argument.
+fn return_named(named: NamedValue, number: u32) -> Option<Ending>
+    ensures { (t : TypeTerm) → ended_or_dictionary t result ≡ argument_value (slice_get (at_place named.number (idl_term named.value)) number) }
 {
     let NamedValue { number: own, value } = named;
     if number == own {
         argument_value(value)
     } else {
-        fails(Code::NoValue)
+        fault(Code::NoValue)
     }
 }
 
-/// The end with the value of an argument, which may be missing.
-fn argument_value(value: IdlValue) -> CallMove
-    ensures { (list : DefsTerm) (steps : StepsOf) → call_dialog list steps result ≡ argument_value (Some (idl_term value)) }
+/// How steps end with the value of an argument, which may be missing.
+fn argument_value(value: IdlValue) -> Option<Ending>
+    ensures { (t : TypeTerm) → ended_or_dictionary t result ≡ argument_value (Some (idl_term value)) }
 {
     match value {
-        IdlValue::Missing => fails(Code::NoValue),
-        IdlValue::Undefined => gives(IdlValue::Undefined),
-        IdlValue::Null => gives(IdlValue::Null),
-        IdlValue::Bool(b) => gives(IdlValue::Bool(b)),
-        IdlValue::Int(n) => gives(IdlValue::Int(n)),
-        IdlValue::Text(text) => gives(IdlValue::Text(text)),
-        IdlValue::Choice { of, index } => gives(IdlValue::Choice { of, index }),
-        IdlValue::Object(obj) => gives(IdlValue::Object(obj)),
-        IdlValue::Any(value) => gives(IdlValue::Any(value)),
-        IdlValue::List(values) => gives(IdlValue::List(values)),
-        IdlValue::Entries(entries) => gives(IdlValue::Entries(entries)),
-        IdlValue::Dict { of, members } => gives(IdlValue::Dict { of, members }),
-        IdlValue::Promise(promise) => gives(IdlValue::Promise(promise)),
+        IdlValue::Missing => fault(Code::NoValue),
+        IdlValue::Undefined => given(IdlValue::Undefined),
+        IdlValue::Null => given(IdlValue::Null),
+        IdlValue::Bool(b) => given(IdlValue::Bool(b)),
+        IdlValue::Int(n) => given(IdlValue::Int(n)),
+        IdlValue::Text(text) => given(IdlValue::Text(text)),
+        IdlValue::Choice { of, index } => given(IdlValue::Choice { of, index }),
+        IdlValue::Object(obj) => given(IdlValue::Object(obj)),
+        IdlValue::Any(value) => given(IdlValue::Any(value)),
+        IdlValue::List(values) => given(IdlValue::List(values)),
+        IdlValue::Entries(entries) => given(IdlValue::Entries(entries)),
+        IdlValue::Dict { of, members } => given(IdlValue::Dict { of, members }),
+        IdlValue::Promise(promise) => given(IdlValue::Promise(promise)),
     }
 }
 
-/// The end with the value of a literal of the result's type; `{}` is the dictionary that `undefined` is
-/// converted to.
+/// How steps end with the value of a literal of the result's type; without an end `{}` is the dictionary that
+/// `undefined` is converted to.
 ///
 /// # Errors
 ///
@@ -260,12 +275,12 @@ fn return_literal(
     tables: &Tables,
     overload: Overload,
     literal: &Literal,
-) -> Result<CallMove, AllocError>
-    ensures { IfOk result (λ m. (steps : StepsOf) → CallLeads (defs_term tables.now.defs) steps (Steps (Of (Default (result_type (defs_term tables.now.defs) overload.callee overload.number) (Some literal.now))) End) (call_dialog (defs_term tables.now.defs) steps m)) }
+) -> Result<Option<Ending>, AllocError>
+    ensures { IfOk result (λ ended. (steps : StepsOf) → CallLeads (defs_term tables.now.defs) steps (Steps (Of (Default (result_type (defs_term tables.now.defs) overload.callee overload.number) (Some literal.now))) End) (ended_or_dictionary (result_type (defs_term tables.now.defs) overload.callee overload.number) ended)) }
 {
     match literal_of(alloc, tables, overload.result_type(tables), literal)? {
-        None => Ok(CallMove::Goes(CallJob::OfUndefined(overload))),
-        Some(value) => Ok(gives(value)),
+        None => Ok(None),
+        Some(value) => Ok(given(value)),
     }
 }
 

@@ -23,7 +23,7 @@ use crate::moves::CallMove;
 use crate::object_functions::{by_kind, with_answer};
 use crate::operations::{chosen, result};
 use crate::overload::Overload;
-use crate::step_lines::{first_line, lines};
+use crate::step_lines::{after_unit, lines};
 use crate::waits::CallWait;
 use std::alloc::{AllocError, Global};
 use widl_convert::{Asker, Ending, inner_type};
@@ -56,7 +56,6 @@ pub(crate) fn begin(
             construct: _,
         } => function(alloc, tables, what, this, args),
         CallJob::Resolve { callee, args } => resolve(alloc, tables, callee, args),
-        CallJob::Lines { overload, read } => lines(alloc, tables, script, overload, read),
         CallJob::OfUndefined(overload) => of_undefined(alloc, tables, overload),
         CallJob::Out { overload, value } => out(alloc, tables, overload, value),
         CallJob::ToLength(value) => to_length(alloc, tables, value),
@@ -180,11 +179,8 @@ pub(crate) fn answered(
 {
     match wait {
         CallWait::Inside(inside) => goes_on(tables, inside, answer),
-        CallWait::Noted { overload, read } => Ok(CallMove::Steps(
-            CallFrame::Result(overload),
-            CallJob::Lines { overload, read },
-        )),
-        CallWait::Line { overload, read } => first_line(alloc, tables, script, overload, read),
+        CallWait::Noted { overload, read } => lines(alloc, tables, script, overload, read),
+        CallWait::Line { overload, read } => after_unit(alloc, tables, script, overload, read),
         CallWait::Tag(obj) => with_answer(alloc, obj, answer),
         CallWait::Kind => by_kind(alloc, answer),
         CallWait::Array(wait) => array_answered(alloc, wait, answer),

@@ -3,6 +3,8 @@ use Rattle.std.proofs.Common.{◌≡◌, ℕ, zero, suc, ◌+◌, ◌<◌, ◌�
 use Rattle.std.specs.Prelude.{◌&&◌, nat_eq, nat_le}
 use Rattle.std.specs.List.{Contains, slice_index_or}
 use Rattle.std.specs.Option.{option_map_or, unwrap_or}
+use Rattle.std.specs.Cmp.{nat_eq_equiv}
+use Rattle.std.proofs.lemmas.Map.Views.{Contains-from_any, list_any-from_Contains}
 use Rattle.std.proofs.lemmas.List.{drop_all, length-map, length-take}
 use Rattle.widl_dialog.specs.Dialog.{End, Steps}
 use Rattle.widl_idl.specs.declared.callee.Callee.{Callee}
@@ -11,6 +13,7 @@ use Rattle.widl_overload.specs.sets.Entries.{declared_args, entry_for, overloads
 use Rattle.widl_overload.specs.sets.Sets.{TupleTerm, longest}
 use Rattle.widl_value.specs.Classes.{class_of}
 use Rattle.widl_value.specs.declared.class.Class.{Class}
+use Rattle.widl_value.specs.declared.object.ObjRef.{ObjRef}
 use Rattle.widl_value.specs.declared.value.Value.{Value}
 use Rattle.widl_value.specs.IdlTerms.{IdlTerm}
 use Rattle.widl_tables.specs.declared.kept_type.Kept.{Kept}
@@ -23,10 +26,12 @@ use Rattle.widl_tables.proofs.Entries.{number_of_entry, numbers_more}
 use Rattle.widl_tables.proofs.FewOverloads.{place_or_0}
 use Rattle.widl_tables.proofs.PickLaws.{entry_is_kept, probe_is_kept}
 use Rattle.widl_tables.proofs.Picking.{of_several}
+use Rattle.widl_trace.specs.declared.code.Code.TheVariants as code
 use Rattle.widl_steps.specs.Built.{built_today}
-use Rattle.widl_steps.specs.Resolution.{argument, argument_given, argument_task, arguments, looked_for, of_several as several_by, picked, resolve, with_entries, without_method}
+use Rattle.widl_steps.specs.Resolution.{argument, argument_given, argument_task, arguments, by_entry, by_pick, of_several as several_by, resolve, with_entries}
 use Rattle.widl_steps.specs.Tasks.{Arguments, Defaults, Talk}
-use Rattle.widl_convert.specs.Entries.{AreSeveral, IsAtPlace, IsOpen, after_arguments, entries_left, entry_in, left_from, place_in, rise, sole}
+use Rattle.widl_steps.specs.Words.{fails}
+use Rattle.widl_convert.specs.Entries.{AreSeveral, IsOpen, is_among, after_arguments, entries_left, entry_in, left_from, place_in, rise, sole}
 
 -- 1. The arguments
 
@@ -111,8 +116,11 @@ module _ (f : ℕ → TupleTerm) (own : (e : ℕ) → (f e).overload ≡ e) wher
   numbers_again [] = refl
   numbers_again (e ∷ numbers) = (λ i. own e i ∷ numbers_again numbers i)
 
+  alone_among : (e : ℕ) (numbers : List ℕ) → rise 0 numbers ≡ true → Contains numbers e → entry_alone e (map f numbers) ≡ f e ∷ []
+  alone_among e numbers h has = alone_at e 0 numbers has.0 h has.1 has.2
+
   alone_is : (e : ℕ) (numbers : List ℕ) → rise 0 numbers ≡ true → Contains (numbers_of (map f numbers)) e → entry_alone e (map f numbers) ≡ f e ∷ []
-  alone_is e numbers h has = (let there : Contains numbers e = subst (λ (l : List ℕ). Contains l e) (numbers_again numbers) has in alone_at e 0 numbers there.0 h there.1 there.2)
+  alone_is e numbers h has = alone_among e numbers h (subst (λ (l : List ℕ). Contains l e) (numbers_again numbers) has)
 
 -- what is picked of what is kept is what the steps pick
 pub pick_is : (list : DefsTerm) (kept : Kept) (overload : Option ℕ) (place : ℕ) (class : Class) (probed : Bool) (p : Pick) → AreSeveral kept → overload ≡ None → kept.place ≡ Some place
@@ -146,72 +154,75 @@ declared_longest list callee e = longest_of (overloads_of list callee) e
 -- 5. The steps, by what is kept
 
 first_takes : (list : DefsTerm) (callee : Callee) (f : ℕ → TupleTerm) (numbers : List ℕ) (first place : ℕ) (v : Value) (left : List Value) (made : List IdlTerm) → slice_get numbers 0 ≡ Some first
-    → argument list callee (map f numbers) place v left made ≡ Steps (argument_task list callee (f first) (length made) v) (argument_given callee (map f numbers) place left made)
+    → argument list callee place left made v (map f numbers) ≡ Steps (argument_task list callee (f first) (length made) v) (argument_given list callee place left made (map f numbers))
 first_takes list callee f [] first place v left made is = absurd (cc)
 first_takes list callee f (e ∷ more) first place v left made is =
     let same : e ≡ first = cc in
-    ap (λ (n : ℕ). let d : Talk = Steps (argument_task list callee (f n) (length made) v) (argument_given callee (f e ∷ map f more) place left made) in d) same
+    ap (λ (n : ℕ). let d : Talk = Steps (argument_task list callee (f n) (length made) v) (argument_given list callee place left made (f e ∷ map f more)) in d) same
 
 -- below the place the first entry takes the argument
 pub by_first : (list : DefsTerm) (kept : Kept) (overload : Option ℕ) (first : ℕ) (v : Value) (left : List Value) (made : List IdlTerm) → overload ≡ None → slice_get kept.overloads 0 ≡ Some first
-    → argument list kept.callee (entries_left list kept overload) (place_in kept) v left made ≡ Steps (argument_task list kept.callee (entry_in list kept first) (length made) v) (argument_given kept.callee (entries_left list kept overload) (place_in kept) left made)
+    → argument list kept.callee (place_in kept) left made v (entries_left list kept overload) ≡ Steps (argument_task list kept.callee (entry_in list kept first) (length made) v) (argument_given list kept.callee (place_in kept) left made (entries_left list kept overload))
 by_first list kept overload first v left made none is =
-    subst (λ (o : Option ℕ). ◌≡◌ {A = Talk} (argument list kept.callee (entries_left list kept o) (place_in kept) v left made) (Steps (argument_task list kept.callee (entry_in list kept first) (length made) v) (argument_given kept.callee (entries_left list kept o) (place_in kept) left made)))
+    subst (λ (o : Option ℕ). ◌≡◌ {A = Talk} (argument list kept.callee (place_in kept) left made v (entries_left list kept o)) (Steps (argument_task list kept.callee (entry_in list kept first) (length made) v) (argument_given list kept.callee (place_in kept) left made (entries_left list kept o))))
     (sym none) (first_takes list kept.callee (λ (e : ℕ). entry_in list kept e) kept.overloads first (place_in kept) v left made is)
 
--- the entry that is picked takes the argument at the place
-pub picked_entry : (list : DefsTerm) (kept : Kept) (overload : Option ℕ) (e : ℕ) (class : Class) (v : Value) (left : List Value) (made : List IdlTerm) (p : Pick) → AreSeveral kept → overload ≡ None
-    → class ≡ class_of v → p ≡ Entry e → p ≡ pick_kept list (entries_for list kept.callee kept.argcount kept.overloads) kept.place class false
-    → picked built_today list kept.callee (entries_left list kept overload) (place_in kept) v left made (pick_of list (entries_left list kept overload) (place_in kept) (class_of v) false) ≡ argument list kept.callee (entry_in list kept e ∷ []) (place_in kept) v left made
-picked_entry list kept overload e class v left made p several none same is picks =
-    let pick : pick_of list (entries_left list kept overload) (place_in kept) (class_of v) false ≡ Entry e
-    = ap (λ (c : Class). pick_of list (entries_left list kept overload) (place_in kept) c false) (sym same) ∙ pick_is list kept overload (place_in kept) class false p several none several.placed picks ∙ is in
-    ap (picked built_today list kept.callee (entries_left list kept overload) (place_in kept) v left made) pick
-    ∙ ap (λ (entries : List TupleTerm). argument list kept.callee entries (place_in kept) v left made) (entry_picked list kept overload (place_in kept) e (class_of v) false several none pick)
+-- what is picked goes on as the steps pick it
+module _ (list : DefsTerm) (kept : Kept) (overload : Option ℕ) (several : AreSeveral kept) (none : overload ≡ None) where
+  -- of the value's class
+  pick_of_class : (place : ℕ) (class : Class) (v : Value) (probed : Bool) (p q : Pick) → kept.place ≡ Some place → class ≡ class_of v → p ≡ q
+      → p ≡ pick_kept list (entries_for list kept.callee kept.argcount kept.overloads) kept.place class probed → pick_of list (entries_left list kept overload) place (class_of v) probed ≡ q
+  pick_of_class place class v probed p q here same is picks =
+      ap (λ (c : Class). pick_of list (entries_left list kept overload) place c probed) (sym same) ∙ pick_is list kept overload place class probed p several none here picks ∙ is
 
--- no entry, or one that has to be probed
-pub picked_other : (list : DefsTerm) (kept : Kept) (overload : Option ℕ) (class : Class) (v : Value) (left : List Value) (made : List IdlTerm) (p q : Pick) → AreSeveral kept → overload ≡ None
-    → class ≡ class_of v → p ≡ q → p ≡ pick_kept list (entries_for list kept.callee kept.argcount kept.overloads) kept.place class false
-    → picked built_today list kept.callee (entries_left list kept overload) (place_in kept) v left made (pick_of list (entries_left list kept overload) (place_in kept) (class_of v) false) ≡ picked built_today list kept.callee (entries_left list kept overload) (place_in kept) v left made q
-picked_other list kept overload class v left made p q several none same is picks =
-    ap (picked built_today list kept.callee (entries_left list kept overload) (place_in kept) v left made)
-    (ap (λ (c : Class). pick_of list (entries_left list kept overload) (place_in kept) c false) (sym same) ∙ pick_is list kept overload (place_in kept) class false p several none several.placed picks ∙ is)
+  -- the entry that is picked is left alone
+  pub entry_goes_on : (class : Class) (v : Value) (probed : Bool) (k : List TupleTerm → Talk) (e : ℕ) (p : Pick) → class ≡ class_of v → p ≡ Entry e
+      → p ≡ pick_kept list (entries_for list kept.callee kept.argcount kept.overloads) kept.place class probed
+      → by_entry k (entries_left list kept overload) (pick_of list (entries_left list kept overload) (place_in kept) (class_of v) probed) ≡ k (entry_in list kept e ∷ [])
+  entry_goes_on class v probed k e p same is picks =
+      let pick = pick_of_class (place_in kept) class v probed p (Entry e) several.placed same is picks in
+      ap (by_entry k (entries_left list kept overload)) pick ∙ ap k (entry_picked list kept overload (place_in kept) e (class_of v) probed several none pick)
 
--- without a method the later tests decide
-pub unprobed_entry : (list : DefsTerm) (kept : Kept) (overload : Option ℕ) (e : ℕ) (class : Class) (v : Value) (left : List Value) (made : List IdlTerm) (p : Pick) → AreSeveral kept → IsAtPlace kept overload (length made)
-    → class ≡ class_of v → p ≡ Entry e → p ≡ pick_kept list (entries_for list kept.callee kept.argcount kept.overloads) kept.place class true
-    → without_method list kept.callee (entries_left list kept overload) (place_in kept) v left made (pick_of list (entries_left list kept overload) (length made) (class_of v) true) ≡ argument list kept.callee (entry_in list kept e ∷ []) (place_in kept) v left made
-unprobed_entry list kept overload e class v left made p several there same is picks =
-    let pick : pick_of list (entries_left list kept overload) (length made) (class_of v) true ≡ Entry e
-    = ap (λ (c : Class). pick_of list (entries_left list kept overload) (length made) c true) (sym same) ∙ pick_is list kept overload (length made) class true p several there.none there.here picks ∙ is in
-    ap (without_method list kept.callee (entries_left list kept overload) (place_in kept) v left made) pick
-    ∙ ap (λ (entries : List TupleTerm). argument list kept.callee entries (place_in kept) v left made) (entry_picked list kept overload (length made) e (class_of v) true several there.none pick)
+  pub picked_entry : (class : Class) (v : Value) (k : Option (ObjRef × ObjRef) → List TupleTerm → Talk) (e : ℕ) (p : Pick) → class ≡ class_of v → p ≡ Entry e
+      → p ≡ pick_kept list (entries_for list kept.callee kept.argcount kept.overloads) kept.place class false
+      → by_pick built_today list (place_in kept) v k (entries_left list kept overload) (pick_of list (entries_left list kept overload) (place_in kept) (class_of v) false) ≡ k None (entry_in list kept e ∷ [])
+  picked_entry class v k e p same is picks =
+      let pick = pick_of_class (place_in kept) class v false p (Entry e) several.placed same is picks in
+      ap (by_pick built_today list (place_in kept) v k (entries_left list kept overload)) pick ∙ ap (k None) (entry_picked list kept overload (place_in kept) e (class_of v) false several none pick)
 
--- with a method the sequence is made for the entry for whose type it was looked, and for none where it was looked for none
-pub looked_at : (list : DefsTerm) (kept : Kept) (overload : Option ℕ) (class : Class) (v : Value) (made : List IdlTerm) (p q : Pick) → AreSeveral kept → IsAtPlace kept overload (length made)
-    → class ≡ class_of v → p ≡ q → p ≡ pick_kept list (entries_for list kept.callee kept.argcount kept.overloads) kept.place class false
-    → pick_of list (entries_left list kept overload) (length made) (class_of v) false ≡ q
-looked_at list kept overload class v made p q several there same is picks =
-    ap (λ (c : Class). pick_of list (entries_left list kept overload) (length made) c false) (sym same) ∙ pick_is list kept overload (length made) class false p several there.none there.here picks ∙ is
+  -- no entry, or one for whose type a method is read
+  pub picked_other : (class : Class) (v : Value) (k : Option (ObjRef × ObjRef) → List TupleTerm → Talk) (p q : Pick) → class ≡ class_of v → p ≡ q
+      → p ≡ pick_kept list (entries_for list kept.callee kept.argcount kept.overloads) kept.place class false
+      → by_pick built_today list (place_in kept) v k (entries_left list kept overload) (pick_of list (entries_left list kept overload) (place_in kept) (class_of v) false) ≡ by_pick built_today list (place_in kept) v k (entries_left list kept overload) q
+  picked_other class v k p q same is picks = ap (by_pick built_today list (place_in kept) v k (entries_left list kept overload)) (pick_of_class (place_in kept) class v false p q several.placed same is picks)
 
-pub looked_entry : (list : DefsTerm) (kept : Kept) (overload : Option ℕ) (e : ℕ) (class : Class) (v : Value) (made : List IdlTerm) (p : Pick) → AreSeveral kept → IsAtPlace kept overload (length made)
-    → class ≡ class_of v → p ≡ Probe e → p ≡ pick_kept list (entries_for list kept.callee kept.argcount kept.overloads) kept.place class false
-    → looked_for (entries_left list kept overload) (pick_of list (entries_left list kept overload) (length made) (class_of v) false) ≡ entry_in list kept e ∷ []
-looked_entry list kept overload e class v made p several there same is picks =
-    let pick : pick_of list (entries_left list kept overload) (length made) (class_of v) false ≡ Probe e = looked_at list kept overload class v made p (Probe e) several there same is picks in
-    ap (looked_for (entries_left list kept overload)) pick
-    ∙ alone_left list kept overload e several there.none (probe_is_kept list (entries_left list kept overload) (length made) (class_of v) false e pick)
+  -- where no entry is picked
+  no_entry : (k : List TupleTerm → Talk) (entries : List TupleTerm) (p : Pick) → ((e : ℕ) → p ≡ Entry e → ⊥) → by_entry k entries p ≡ fails code.NoMatch
+  no_entry k entries (Entry e) not = absurd (not e refl)
+  no_entry k entries (Probe e) not = refl
+  no_entry k entries Refuse not = refl
 
-looked_otherwise : (entries : List TupleTerm) (p : Pick) → ((e : ℕ) → p ≡ Probe e → ⊥) → looked_for entries p ≡ []
-looked_otherwise entries (Entry e) not = refl
-looked_otherwise entries (Probe e) not = absurd (not e refl)
-looked_otherwise entries Refuse not = refl
+  pub no_entry_goes_on : (class : Class) (v : Value) (probed : Bool) (k : List TupleTerm → Talk) (p : Pick) → class ≡ class_of v → ((e : ℕ) → p ≡ Entry e → ⊥)
+      → p ≡ pick_kept list (entries_for list kept.callee kept.argcount kept.overloads) kept.place class probed
+      → by_entry k (entries_left list kept overload) (pick_of list (entries_left list kept overload) (place_in kept) (class_of v) probed) ≡ fails code.NoMatch
+  no_entry_goes_on class v probed k p same not picks = ap (by_entry k (entries_left list kept overload)) (pick_of_class (place_in kept) class v probed p p several.placed same refl picks) ∙ no_entry k (entries_left list kept overload) p not
 
-pub looked_nowhere : (list : DefsTerm) (kept : Kept) (overload : Option ℕ) (class : Class) (v : Value) (made : List IdlTerm) (p : Pick) → AreSeveral kept → IsAtPlace kept overload (length made)
-    → class ≡ class_of v → ((e : ℕ) → p ≡ Probe e → ⊥) → p ≡ pick_kept list (entries_for list kept.callee kept.argcount kept.overloads) kept.place class false
-    → looked_for (entries_left list kept overload) (pick_of list (entries_left list kept overload) (length made) (class_of v) false) ≡ []
-looked_nowhere list kept overload class v made p several there same not picks =
-    ap (looked_for (entries_left list kept overload)) (looked_at list kept overload class v made p p several there same refl picks) ∙ looked_otherwise (entries_left list kept overload) p not
+  -- an overload for whose type a method is read is one of those that are kept
+  pub probed_among : (class : Class) (v : Value) (e : ℕ) (p : Pick) → class ≡ class_of v → p ≡ Probe e
+      → p ≡ pick_kept list (entries_for list kept.callee kept.argcount kept.overloads) kept.place class false → is_among kept e ≡ true
+  probed_among class v e p same is picks =
+      let pick = pick_of_class (place_in kept) class v false p (Probe e) several.placed same is picks in
+      let has = probe_is_kept list (entries_left list kept overload) (place_in kept) (class_of v) false e pick in
+      let entries : entries_left list kept overload ≡ entries_for list kept.callee kept.argcount kept.overloads = ap (entries_left list kept) none in
+      list_any-from_Contains nat_eq_equiv e kept.overloads
+      (subst (λ (numbers : List ℕ). Contains numbers e)
+      (ap numbers_of entries ∙ numbers_again (λ (n : ℕ). entry_for n (declared_args list kept.callee n) kept.argcount) (λ n. number_of_entry n (declared_args list kept.callee n) kept.argcount) kept.overloads) has)
+
+  -- and its entry is left alone
+  pub probed_entry : (e : ℕ) → is_among kept e ≡ true → entry_alone e (entries_left list kept overload) ≡ entry_in list kept e ∷ []
+  probed_entry e has =
+      ap (λ (o : Option ℕ). entry_alone e (entries_left list kept o)) none
+      ∙ alone_among (λ (n : ℕ). entry_for n (declared_args list kept.callee n) kept.argcount) (λ n. number_of_entry n (declared_args list kept.callee n) kept.argcount) e kept.overloads several.rising (Contains-from_any (λ (x y : ℕ) (h : nat_eq x y ≡ true). grind (arith, h)) e kept.overloads has)
 
 -- 6. Where it begins
 
@@ -300,19 +311,19 @@ left_is kept args rest k v x below is taken = next_argument args kept.argcount k
 -- an argument that was taken, where an overload is left alone
 pub next_alone : (list : DefsTerm) (kept : Kept) (overload : Option ℕ) (e : ℕ) (v : Value) (left : List Value) (made : List IdlTerm) → overload ≡ Some e
     → arguments built_today list kept.callee (entries_left list kept overload) (place_in kept) (v ∷ left) made
-    ≡ Steps (argument_task list kept.callee (entry_in list kept e) (length made) v) (argument_given kept.callee (entries_left list kept overload) (place_in kept) left made)
+    ≡ Steps (argument_task list kept.callee (entry_in list kept e) (length made) v) (argument_given list kept.callee (place_in kept) left made (entries_left list kept overload))
 next_alone list kept overload e v left made some =
-    subst (λ (o : Option ℕ). ◌≡◌ {A = Talk} (arguments built_today list kept.callee (entries_left list kept o) (place_in kept) (v ∷ left) made) (Steps (argument_task list kept.callee (entry_in list kept e) (length made) v) (argument_given kept.callee (entries_left list kept o) (place_in kept) left made)))
+    subst (λ (o : Option ℕ). ◌≡◌ {A = Talk} (arguments built_today list kept.callee (entries_left list kept o) (place_in kept) (v ∷ left) made) (Steps (argument_task list kept.callee (entry_in list kept e) (length made) v) (argument_given list kept.callee (place_in kept) left made (entries_left list kept o))))
     (sym some) refl
 
-several_next : (list : DefsTerm) (callee : Callee) (entries : List TupleTerm) (place : ℕ) (v : Value) (left : List Value) (made : List IdlTerm) → 2 ≤ length entries → arguments built_today list callee entries place (v ∷ left) made ≡ several_by built_today list callee entries place v left made
+several_next : (list : DefsTerm) (callee : Callee) (entries : List TupleTerm) (place : ℕ) (v : Value) (left : List Value) (made : List IdlTerm) → 2 ≤ length entries → arguments built_today list callee entries place (v ∷ left) made ≡ several_by built_today list callee place left made v entries
 several_next list callee [] place v left made several = absurd (omega arith)
 several_next list callee (t ∷ []) place v left made several = absurd (omega arith)
 several_next list callee (t ∷ u ∷ more) place v left made several = refl
 
 -- an argument that was taken, where several entries are left
 pub next_several : (list : DefsTerm) (kept : Kept) (overload : Option ℕ) (v : Value) (left : List Value) (made : List IdlTerm) → overload ≡ None → AreSeveral kept
-    → arguments built_today list kept.callee (entries_left list kept overload) (place_in kept) (v ∷ left) made ≡ several_by built_today list kept.callee (entries_left list kept overload) (place_in kept) v left made
+    → arguments built_today list kept.callee (entries_left list kept overload) (place_in kept) (v ∷ left) made ≡ several_by built_today list kept.callee (place_in kept) left made v (entries_left list kept overload)
 next_several list kept overload v left made none several =
     let long : length (entries_for list kept.callee kept.argcount kept.overloads) ≡ length kept.overloads = length-map kept.overloads (λ (e : ℕ). entry_for e (declared_args list kept.callee e) kept.argcount) in
     let many : 2 ≤ length (entries_left list kept overload) = subst (λ (o : Option ℕ). 2 ≤ length (entries_left list kept o)) (sym none) (omega (arith, long, several.several)) in

@@ -1,6 +1,7 @@
 -- For proofs and contracts alone; no step names these words. The entries of a resolution by the numbers of their overloads, and the arguments that
 -- are left of it.
-use Rattle.std.specs.Prelude.{◌≡◌, ℕ, ◌+◌, ◌≤◌, ◌&&◌, Bool, true, nat_le, List, [], ◌∷◌, length, take, drop, slice_get, Option, None, Some}
+use Rattle.std.specs.Prelude.{◌≡◌, ℕ, ◌+◌, ◌≤◌, ◌&&◌, Bool, true, nat_eq, nat_le, List, [], ◌∷◌, length, take, drop, slice_get, Option, None, Some}
+use Rattle.std.specs.List.{list_any}
 use Rattle.std.specs.Option.{option_map_or, unwrap_or}
 use Rattle.widl_dialog.specs.Dialog.{End, Steps}
 use Rattle.widl_idl.specs.declared.callee.Callee.{Callee}
@@ -46,6 +47,10 @@ pub record AreSeveral (kept : Kept) : Type 0 where
   pub several : 2 ≤ length kept.overloads
   pub rising : rise 0 kept.overloads ≡ true
   pub placed : kept.place ≡ Some (place_in kept)
+
+-- an overload is one of those that are kept
+abbrev pub is_among : Kept → ℕ → Bool
+is_among kept overload = list_any (nat_eq overload) kept.overloads
 
 -- where none is left alone they are several
 abbrev pub IsOpen : Kept → Option ℕ → Type 0

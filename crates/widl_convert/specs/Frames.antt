@@ -1,5 +1,5 @@
 -- For proofs and contracts alone; no step names these words. What a suspended conversation still does: the dialog of each thing that it is made of.
-use Rattle.std.specs.Prelude.{ℕ, ◌+◌, false, List, [], ◌∷◌, ◌++◌, drop, length, map, codes, option_map}
+use Rattle.std.specs.Prelude.{ℕ, ◌+◌, false, true, List, [], ◌∷◌, ◌++◌, drop, length, map, codes, None, Some, option_map}
 use Rattle.widl_dialog.specs.Dialog.{End, Say, Steps}
 use Rattle.widl_text.specs.declared.key.Key.{Key}
 use Rattle.widl_idl.specs.declared.callee.Callee.{Callee}
@@ -9,6 +9,7 @@ use Rattle.widl_idl.specs.Flattened.{unannotated}
 use Rattle.widl_idl.specs.Terms.{StringType, type_term}
 use Rattle.widl_overload.specs.sets.Entries.{declared_args, entry_for, type_at}
 use Rattle.widl_overload.specs.sets.Sets.{TupleTerm}
+use Rattle.widl_value.specs.Classes.{class_of}
 use Rattle.widl_value.specs.declared.idl_value.IdlValue.{IdlValue}
 use Rattle.widl_value.specs.declared.number.Number.{Number}
 use Rattle.widl_value.specs.declared.object.ObjRef.{ObjRef}
@@ -17,6 +18,9 @@ use Rattle.widl_value.specs.declared.value.Value.TheVariants as values
 use Rattle.widl_value.specs.IdlTerms.{IdlTerm, IdlTerms, entry_term, idl_term, idl_terms, member_terms, packed_values}
 use Rattle.widl_scalar.specs.Enumerations.{value_place}
 use Rattle.widl_scalar.specs.Scalars.{integer_of}
+use Rattle.widl_tables.specs.declared.pick.Pick.{Pick}
+use Rattle.widl_tables.specs.Kept.{entry_alone}
+use Rattle.widl_tables.specs.Picks.{pick_of}
 use Rattle.widl_tables.specs.MemberOrder.{members_in_order}
 use Rattle.widl_trace.specs.declared.code.Code.TheVariants as code
 use Rattle.widl_steps.specs.AskTerms.{AnswerTerm, ask_term}
@@ -24,7 +28,7 @@ use Rattle.widl_steps.specs.Dictionaries.{member_value, with_value}
 use Rattle.widl_steps.specs.Primitives.{found_method, found_ordinary, primitive_result, tried, try_method}
 use Rattle.widl_steps.specs.Built.{built_today}
 use Rattle.widl_steps.specs.Records.{entry_value, key_value, keys_in, named_entry, own_entry, with_entry}
-use Rattle.widl_steps.specs.Resolution.{default_at, probed}
+use Rattle.widl_steps.specs.Resolution.{by_entry, default_at, kept}
 use Rattle.widl_steps.specs.Scalars.{convert_plain, enumeration_result, integer_result, length_value, string_result}
 use Rattle.widl_steps.specs.Sequences.{element, found_iterator_method, if_sequences, told_done, turn_given, with_iterator, with_next}
 use Rattle.widl_steps.specs.Tasks.{Container, ArrayOf, ObjectOf, Task, Primitive, Scalar, Convert, SequenceFrom, Turns, Entries, Members, Resolve, Arguments, Default, Defaults, Out, OutItems, OutUnits, TaskEnd, Gives, Plain, Picks, Throw, Rethrow, Profile, Talk}
@@ -60,6 +64,7 @@ use Rattle.widl_convert.specs.declared.record.NamedProperty.{NamedProperty}
 use Rattle.widl_convert.specs.declared.record.Properties.{Properties}
 use Rattle.widl_convert.specs.declared.record.Property.{Property}
 use Rattle.widl_convert.specs.declared.record.Recorded.{Recorded}
+use Rattle.widl_convert.specs.declared.resolution.Probe.{Probe}
 use Rattle.widl_convert.specs.declared.resolution.Resolution.{Resolution}
 use Rattle.widl_convert.specs.declared.sequence.Iteration.{Iteration}
 use Rattle.widl_convert.specs.declared.sequence.SequenceWait.{SequenceWait}
@@ -79,9 +84,12 @@ use Rattle.widl_convert.specs.Entries.{declared_type, entries_left, left_from, p
 abbrev pub resolution_task : DefsTerm → Resolution → ℕ → List IdlTerm → Task
 resolution_task list r place made = Arguments r.kept.callee (entries_left list r.kept r.overload) (place_in r.kept) (left_from place r.kept r.args) made
 
--- a step of a resolution of which this argument is taken
-abbrev pub taken : (DefsTerm → Callee → List TupleTerm → ℕ → Value → List Value → List IdlTerm → Talk) → DefsTerm → Resolution → Value → Talk
-taken step list r v = step list r.kept.callee (entries_left list r.kept r.overload) (place_in r.kept) v (left_from (length (idl_terms r.made) + 1) r.kept r.args) (idl_terms r.made)
+-- a word of a resolution of which the next argument is taken, where that stands
+abbrev pub taken : {A : Type 0} → (DefsTerm → Callee → ℕ → List Value → List IdlTerm → A) → DefsTerm → Resolution → A
+taken word list r = word list r.kept.callee (place_in r.kept) (left_from (length (idl_terms r.made) + 1) r.kept r.args) (idl_terms r.made)
+
+abbrev pub entries_of : DefsTerm → Resolution → List TupleTerm
+entries_of list r = entries_left list r.kept r.overload
 
 -- the turns of an iterator go on after these elements
 abbrev pub iteration_task : Iteration → List IdlTerm → Task
@@ -158,9 +166,15 @@ primitive_to MethodResult = primitive_result
 primitive_to (Ordinary o otherwise) = found_ordinary o (otherwise_of otherwise o)
 primitive_to (OrdinaryResult o otherwise) = tried (otherwise_of otherwise o)
 
--- the argument is taken
-abbrev pub probe_to : DefsTerm → Resolution → ObjRef → Value → Talk
-probe_to list r o = probed built_today list r.kept.callee (entries_left list r.kept r.overload) (place_in r.kept) o (left_from (length (idl_terms r.made) + 1) r.kept r.args) (idl_terms r.made)
+-- the later tests of an argument without a method
+abbrev pub later_pick : DefsTerm → Resolution → ObjRef → Pick
+later_pick list r o = pick_of list (entries_of list r) (place_in r.kept) (class_of (values.Obj o)) true
+
+-- the argument is taken: it becomes a sequence by its method, or the later tests decide
+abbrev pub probe_to : DefsTerm → Probe → Value → Talk
+probe_to list p =
+    method_or (by_entry (taken kept list p.resolution.value (values.Obj p.obj) None) (entries_of list p.resolution.value) (later_pick list p.resolution.value p.obj))
+    (λ method. if_sequences built_today (taken kept list p.resolution.value (values.Obj p.obj) (Some (p.obj, method)) (entry_alone p.overload (entries_of list p.resolution.value))))
 
 abbrev pub sequence_to : SequenceWait → Value → Talk
 sequence_to (sequences.Method t o) = found_iterator_method (type_term t) o
@@ -185,7 +199,7 @@ union_to list p =
 
 abbrev pub value_to : DefsTerm → ValueWait → Value → Talk
 value_to list (value_waits.Primitive w) = primitive_to w
-value_to list (value_waits.Probe p) = probe_to list p.resolution.value p.obj
+value_to list (value_waits.Probe p) = probe_to list p
 value_to list (value_waits.Sequence w) = sequence_to w
 value_to list (value_waits.Property p) = property_to p
 value_to list (value_waits.Member w) = member_to list w

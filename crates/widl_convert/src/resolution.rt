@@ -1,8 +1,8 @@
 //! Resolutions: the choice of an overload, as far as it has come.
 
-ghost use Rattle.std.specs.Prelude.{◌<◌, ◌^◌, length};
+ghost use Rattle.std.specs.Prelude.{◌≡◌, ◌<◌, ◌^◌, length, true};
 ghost use Rattle.widl_value.specs.IdlTerms.{idl_terms};
-ghost use Rattle.widl_convert.specs.Entries.{IsAtPlace, IsOpen};
+ghost use Rattle.widl_convert.specs.Entries.{IsAtPlace, IsOpen, is_among};
 
 use widl_idl::Callee;
 use widl_tables::Kept;
@@ -40,5 +40,8 @@ pub struct Probe {
     pub resolution: Box<Resolution>,
     /// The argument.
     pub obj: ObjRef,
+    /// The overload for whose sequence type the method is read.
+    pub overload: u32,
     ghost at_place: { IsAtPlace resolution.value.kept resolution.value.overload (length (idl_terms resolution.value.made)) },
+    ghost among: { is_among resolution.value.kept overload ≡ true },
 }

@@ -1,24 +1,22 @@
 //! The choice of an overload, with the conversion of the arguments.
 
 ghost use Rattle.std.specs.Prelude.{◌≡◌, ◌≤◌, ◌<◌, ◌+◌, ◌∷◌, [], length, false, true, option_map, slice_get, IfNone, IfOk, IfSome, None, Some};
-ghost use Rattle.widl_dialog.specs.Dialog.{Say, Steps};
+ghost use Rattle.widl_dialog.specs.Dialog.{Steps};
 ghost use Rattle.widl_idl.specs.DefinitionTerms.{DefsTerm, defs_term};
 ghost use Rattle.widl_idl.specs.Terms.{type_term};
 ghost use Rattle.widl_value.specs.Classes.{class_of};
 ghost use Rattle.widl_value.specs.IdlTerms.{idl_term, idl_terms};
 ghost use Rattle.widl_overload.specs.sets.Entries.{declared_args, entry_for, optionality_at, type_at};
-ghost use Rattle.widl_tables.specs.Kept.{entries_for};
+ghost use Rattle.widl_tables.specs.Kept.{entries_for, entry_alone};
 ghost use Rattle.widl_tables.specs.Picks.{pick_kept, pick_of};
 ghost use Rattle.widl_tables.specs.Tests.{is_optional};
-ghost use Rattle.widl_steps.specs.AskTerms.{GetAsk};
 ghost use Rattle.widl_steps.specs.Built.{built_today};
-ghost use Rattle.widl_steps.specs.Sequences.{element_within, iterator_symbol};
-ghost use Rattle.widl_steps.specs.Resolution.{argument, arguments, argument_given, argument_task, from_method, looked_for, of_several, picked, resolve, without_method};
+ghost use Rattle.widl_steps.specs.Sequences.{element_within};
+ghost use Rattle.widl_steps.specs.Resolution.{argument, arguments, argument_given, argument_task, by_entry, by_pick, from_method, kept, of_several, resolve};
 ghost use Rattle.widl_steps.specs.Rules.{rule};
 ghost use Rattle.widl_steps.specs.Tasks.{Resolve};
-ghost use Rattle.widl_steps.specs.Words.{normal, object};
-ghost use Rattle.widl_convert.specs.Entries.{IsAtPlace, entries_left, entry_in, left_from, place_in, sole};
-ghost use Rattle.widl_convert.specs.Frames.{idl_to, job_of, move_dialog, probe_to, taken};
+ghost use Rattle.widl_convert.specs.Entries.{IsAtPlace, is_among, entries_left, entry_in, left_from, place_in, sole};
+ghost use Rattle.widl_convert.specs.Frames.{entries_of, idl_to, job_of, later_pick, move_dialog, probe_to, taken};
 ghost use Rattle.widl_convert.specs.Loads.{default_load, idl_frame_load, load, taken_load, weight};
 
 use crate::convert::throws;
@@ -113,7 +111,7 @@ fn with_taken(tables: &Tables, resolution: Box<Resolution>, value: Value) -> Mov
 
 /// The move to an argument that was taken, by the entry of an overload.
 fn argument(tables: &Tables, resolution: Box<Resolution>, overload: u32, value: Value) -> Move
-    ensures dialog { move_dialog (defs_term tables.now.defs) result ≡ Steps (argument_task (defs_term tables.now.defs) resolution.value.kept.callee (entry_in (defs_term tables.now.defs) resolution.value.kept overload) (length (idl_terms resolution.value.made)) value) (argument_given resolution.value.kept.callee (entries_left (defs_term tables.now.defs) resolution.value.kept resolution.value.overload) (place_in resolution.value.kept) (left_from (length (idl_terms resolution.value.made) + 1) resolution.value.kept resolution.value.args) (idl_terms resolution.value.made)) }
+    ensures dialog { move_dialog (defs_term tables.now.defs) result ≡ Steps (argument_task (defs_term tables.now.defs) resolution.value.kept.callee (entry_in (defs_term tables.now.defs) resolution.value.kept overload) (length (idl_terms resolution.value.made)) value) (taken argument_given (defs_term tables.now.defs) resolution.value (entries_of (defs_term tables.now.defs) resolution.value)) }
     ensures weight { weight (defs_term tables.now.defs) result ≤ taken_load (defs_term tables.now.defs) resolution.value }
 {
     let job = argument_job(tables, &resolution, overload, value);
@@ -162,7 +160,7 @@ fn is_optional(tables: &Tables, at: ArgumentPlace, length: u32) -> bool
 /// The move to an argument that was taken where several entries are left.
 fn of_several(tables: &Tables, resolution: Box<Resolution>, value: Value) -> Move
     requires { resolution.value.overload ≡ None }
-    ensures dialog { move_dialog (defs_term tables.now.defs) result ≡ taken (of_several built_today) (defs_term tables.now.defs) resolution.value value }
+    ensures dialog { move_dialog (defs_term tables.now.defs) result ≡ taken (of_several built_today) (defs_term tables.now.defs) resolution.value value (entries_of (defs_term tables.now.defs) resolution.value) }
     ensures weight { weight (defs_term tables.now.defs) result ≤ taken_load (defs_term tables.now.defs) resolution.value }
 {
     if resolution.made.len() == resolution.kept.place.unwrap_or(0) as usize {
@@ -176,7 +174,7 @@ fn of_several(tables: &Tables, resolution: Box<Resolution>, value: Value) -> Mov
 /// of them takes it.
 fn by_first(tables: &Tables, resolution: Box<Resolution>, value: Value) -> Move
     requires { resolution.value.overload ≡ None }
-    ensures dialog { move_dialog (defs_term tables.now.defs) result ≡ taken argument (defs_term tables.now.defs) resolution.value value }
+    ensures dialog { move_dialog (defs_term tables.now.defs) result ≡ taken argument (defs_term tables.now.defs) resolution.value value (entries_of (defs_term tables.now.defs) resolution.value) }
     ensures weight { weight (defs_term tables.now.defs) result ≤ taken_load (defs_term tables.now.defs) resolution.value }
 {
     let first = first_overload(&resolution);
@@ -194,12 +192,12 @@ fn first_overload(resolution: &Resolution) -> u32
 /// The move to the argument at the place that tells the entries apart.
 fn picked(tables: &Tables, resolution: Box<Resolution>, value: Value) -> Move
     requires { IsAtPlace resolution.value.kept resolution.value.overload (length (idl_terms resolution.value.made)) }
-    ensures dialog { move_dialog (defs_term tables.now.defs) result ≡ picked built_today (defs_term tables.now.defs) resolution.value.kept.callee (entries_left (defs_term tables.now.defs) resolution.value.kept resolution.value.overload) (place_in resolution.value.kept) value (left_from (length (idl_terms resolution.value.made) + 1) resolution.value.kept resolution.value.args) (idl_terms resolution.value.made) (pick_of (defs_term tables.now.defs) (entries_left (defs_term tables.now.defs) resolution.value.kept resolution.value.overload) (place_in resolution.value.kept) (class_of value) false) }
+    ensures dialog { move_dialog (defs_term tables.now.defs) result ≡ by_pick built_today (defs_term tables.now.defs) (place_in resolution.value.kept) value (taken kept (defs_term tables.now.defs) resolution.value value) (entries_of (defs_term tables.now.defs) resolution.value) (pick_of (defs_term tables.now.defs) (entries_of (defs_term tables.now.defs) resolution.value) (place_in resolution.value.kept) (class_of value) false) }
     ensures weight { weight (defs_term tables.now.defs) result ≤ taken_load (defs_term tables.now.defs) resolution.value }
 {
     match pick(tables, &resolution, value.class(), false) {
         Pick::Entry(overload) => by_alone(tables, resolution, overload, value),
-        Pick::Probe(_) => probe(resolution, value),
+        Pick::Probe(overload) => probe(resolution, overload, value),
         Pick::Refuse => throws(Code::NoMatch),
     }
 }
@@ -213,7 +211,7 @@ fn pick(tables: &Tables, resolution: &Resolution, class: Class, probed: bool) ->
 
 /// The move to an argument that was taken, by the entry of an overload that is left alone.
 fn by_alone(tables: &Tables, resolution: Box<Resolution>, overload: u32, value: Value) -> Move
-    ensures dialog { move_dialog (defs_term tables.now.defs) result ≡ argument (defs_term tables.now.defs) resolution.value.kept.callee (entry_in (defs_term tables.now.defs) resolution.value.kept overload ∷ []) (place_in resolution.value.kept) value (left_from (length (idl_terms resolution.value.made) + 1) resolution.value.kept resolution.value.args) (idl_terms resolution.value.made) }
+    ensures dialog { move_dialog (defs_term tables.now.defs) result ≡ taken argument (defs_term tables.now.defs) resolution.value value (entry_in (defs_term tables.now.defs) resolution.value.kept overload ∷ []) }
     ensures weight { weight (defs_term tables.now.defs) result ≤ taken_load (defs_term tables.now.defs) resolution.value }
 {
     argument(tables, alone(resolution, overload), overload, value)
@@ -241,10 +239,11 @@ fn leave_alone(resolution: &mut Resolution, overload: u32)
     resolution.overload = Some(overload);
 }
 
-/// The ask for the method `@iterator` of the argument.
-fn probe(resolution: Box<Resolution>, value: Value) -> Move
-    requires { IsAtPlace resolution.value.kept resolution.value.overload (length (idl_terms resolution.value.made)) }
-    ensures dialog { (list : DefsTerm) → move_dialog list result ≡ object Code.NoMatch (λ o. Say (GetAsk o (Key.Sym iterator_symbol)) (normal (probe_to list resolution.value o))) value }
+/// The ask for the method `@iterator` of the argument, for the sequence type of the overload that it picked.
+fn probe(resolution: Box<Resolution>, overload: u32, value: Value) -> Move
+    requires at_place { IsAtPlace resolution.value.kept resolution.value.overload (length (idl_terms resolution.value.made)) }
+    requires among { is_among resolution.value.kept overload ≡ true }
+    ensures dialog { (list : DefsTerm) → move_dialog list result ≡ by_pick built_today list (place_in resolution.value.kept) value (taken kept list resolution.value value) (entries_of list resolution.value) (Pick.Probe overload) }
     ensures weight { (list : DefsTerm) → weight list result ≡ 0 }
 {
     match value {
@@ -253,7 +252,11 @@ fn probe(resolution: Box<Resolution>, value: Value) -> Move
                 obj,
                 key: Key::Sym(ITERATOR),
             },
-            wait: Wait::Value(ValueWait::Probe(Probe { resolution, obj })),
+            wait: Wait::Value(ValueWait::Probe(Probe {
+                resolution,
+                obj,
+                overload,
+            })),
         }),
         _ => throws(Code::NoMatch),
     }
@@ -270,7 +273,7 @@ pub(crate) fn probed(
     probe: Probe,
     found: Value,
 ) -> Result<Move, AllocError>
-    ensures { IfOk result (λ m. move_dialog (defs_term tables.now.defs) m ≡ probe_to (defs_term tables.now.defs) probe.resolution.value probe.obj found) }
+    ensures { IfOk result (λ m. move_dialog (defs_term tables.now.defs) m ≡ probe_to (defs_term tables.now.defs) probe found) }
 {
     match found {
         Value::Undefined => Ok(without_method(tables, probe)),
@@ -291,14 +294,14 @@ fn with_method(
     probe: Probe,
     method: ObjRef,
 ) -> Result<Move, AllocError>
-    ensures { IfOk result (λ m. move_dialog (defs_term tables.now.defs) m ≡ from_method probe.resolution.value.kept.callee (looked_for (entries_left (defs_term tables.now.defs) probe.resolution.value.kept probe.resolution.value.overload) (pick_of (defs_term tables.now.defs) (entries_left (defs_term tables.now.defs) probe.resolution.value.kept probe.resolution.value.overload) (length (idl_terms probe.resolution.value.made)) (class_of (Value.Obj probe.obj)) false)) (place_in probe.resolution.value.kept) (left_from (length (idl_terms probe.resolution.value.made) + 1) probe.resolution.value.kept probe.resolution.value.args) (idl_terms probe.resolution.value.made) probe.obj method) }
+    ensures { IfOk result (λ m. move_dialog (defs_term tables.now.defs) m ≡ taken kept (defs_term tables.now.defs) probe.resolution.value (Value.Obj probe.obj) (Some (probe.obj, method)) (entry_alone probe.overload (entries_of (defs_term tables.now.defs) probe.resolution.value))) }
 {
-    let Probe { resolution, obj } = probe;
-    let class = Value::Obj(obj).class();
-    match pick(tables, &resolution, class, false) {
-        Pick::Probe(overload) => from_method(alloc, tables, resolution, overload, obj, method),
-        _ => Ok(throws(Code::NoMatch)),
-    }
+    let Probe {
+        resolution,
+        obj,
+        overload,
+    } = probe;
+    from_method(alloc, tables, resolution, overload, obj, method)
 }
 
 /// The move from an argument with its method `@iterator` to the sequence in the type of an overload's
@@ -311,7 +314,7 @@ fn from_method(
     obj: ObjRef,
     method: ObjRef,
 ) -> Result<Move, AllocError>
-    ensures { IfOk result (λ m. move_dialog (defs_term tables.now.defs) m ≡ from_method resolution.value.kept.callee (entry_in (defs_term tables.now.defs) resolution.value.kept overload ∷ []) (place_in resolution.value.kept) (left_from (length (idl_terms resolution.value.made) + 1) resolution.value.kept resolution.value.args) (idl_terms resolution.value.made) obj method) }
+    ensures { IfOk result (λ m. move_dialog (defs_term tables.now.defs) m ≡ taken from_method (defs_term tables.now.defs) resolution.value obj method (entry_in (defs_term tables.now.defs) resolution.value.kept overload ∷ [])) }
 {
     let kept = &resolution.kept;
     let at = ArgumentPlace {
@@ -352,9 +355,13 @@ fn sequence_element(
 
 /// The move where the argument has no such method: the later tests decide.
 fn without_method(tables: &Tables, probe: Probe) -> Move
-    ensures { move_dialog (defs_term tables.now.defs) result ≡ without_method (defs_term tables.now.defs) probe.resolution.value.kept.callee (entries_left (defs_term tables.now.defs) probe.resolution.value.kept probe.resolution.value.overload) (place_in probe.resolution.value.kept) (Value.Obj probe.obj) (left_from (length (idl_terms probe.resolution.value.made) + 1) probe.resolution.value.kept probe.resolution.value.args) (idl_terms probe.resolution.value.made) (pick_of (defs_term tables.now.defs) (entries_left (defs_term tables.now.defs) probe.resolution.value.kept probe.resolution.value.overload) (length (idl_terms probe.resolution.value.made)) (class_of (Value.Obj probe.obj)) true) }
+    ensures { move_dialog (defs_term tables.now.defs) result ≡ by_entry (taken kept (defs_term tables.now.defs) probe.resolution.value (Value.Obj probe.obj) None) (entries_of (defs_term tables.now.defs) probe.resolution.value) (later_pick (defs_term tables.now.defs) probe.resolution.value probe.obj) }
 {
-    let Probe { resolution, obj } = probe;
+    let Probe {
+        resolution,
+        obj,
+        overload: _,
+    } = probe;
     let value = Value::Obj(obj);
     match pick(tables, &resolution, value.class(), true) {
         Pick::Entry(overload) => by_alone(tables, resolution, overload, value),

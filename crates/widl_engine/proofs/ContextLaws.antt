@@ -16,7 +16,7 @@ use Rattle.widl_trace.specs.EventTerms.{EventTerm}
 use Rattle.widl_engine.specs.declared.ends.Completion.{Completion}
 use Rattle.widl_runs.specs.Actions.{IsDone}
 use Rattle.widl_steps.specs.CallTasks.{Function}
-use Rattle.widl_runs.specs.Calls.{called, function_in, talked}
+use Rattle.widl_runs.specs.Calls.{closes, function_in}
 use Rattle.widl_runs.specs.Jobs.{Program, Doing, RunStatements, Talk}
 use Rattle.widl_runs.specs.Worlds as worlds
 use Rattle.widl_runs.specs.Worlds.{World, Bindings, bound_parameters, function_context, builtin_context, outer_contexts}
@@ -27,6 +27,7 @@ use Rattle.widl_engine.specs.declared.frames.Frame.TheVariants as frame
 use Rattle.widl_engine.specs.declared.jobs.Job.TheVariants as job
 use Rattle.widl_engine.specs.declared.moves.Move.{Move}
 use Rattle.widl_engine.specs.declared.moves.Move.TheVariants as move
+use Rattle.widl_engine.specs.Calling.{talked}
 use Rattle.widl_engine.specs.Frames.{completion_end, move_of}
 use Rattle.widl_engine.specs.Place.{named, context_of, outer_of, contexts_of, contexts_in, world_of, OtherContexts, Performed}
 use Rattle.widl_engine.proofs.Acting.{Done, performed, outer_push}
@@ -83,7 +84,7 @@ enter_performed p s t x y n this args inner row script is o rows =
     ap (λ (sc : ScriptTree). let d : Done = Went (record (world_of s t x k ls) { contexts = function_context (function_in sc n) this args ∷ contexts_in s x }) IsDone in d) script
     ∙ ap (λ (c : worlds.Context). let d : Done = Went (record (world_of s t x k ls) { contexts = c ∷ contexts_in s x }) IsDone in d) (sym is)
     ∙ ap (λ (w : World). let d : Done = Went w IsDone in d) (world_now s t x y (context_of s inner ∷ contexts_in s x) k ls o))
-    (ap (λ (b : StatementTrees). let d : Doing = Steps (RunStatements b) called in d) (ap (statements_tree s) rows ∙ sym (body_in s n) ∙ ap (λ (sc : ScriptTree). (function_in sc n).body) (sym script)))
+    (ap (λ (b : StatementTrees). let d : Doing = Steps (RunStatements b) closes in d) (ap (statements_tree s) rows ∙ sym (body_in s n) ∙ ap (λ (sc : ScriptTree). (function_in sc n).body) (sym script)))
 
 -- a function that isn't written in the script
 pub builtin_performed : (p : Program) (s : Tables) (t : StoreState) (x y : Place) (f : ObjRef) (function : Builtin) (this that : Value) (args : List Value) (next : Move) → that ≡ this → OtherContexts s x y (builtin_context that ∷ contexts_in s x) → move_of p s next ≡ Steps (Talk (Function f function this args false)) talked → Performed p s (due.EnterBuiltin f function this args) t x t y next

@@ -22,13 +22,14 @@ use Rattle.widl_runs.specs.Worlds.{function_context, builtin_context}
 use Rattle.widl_runs.specs.Actions.{ordinary, script_function, type_error, plan_of, Body, ScriptBody, BuiltinBody, NoBody, Action, Pay, Write, TestDepth, Enter, Leave, FindBody, ReadThis, ReadName, BindName, TakeSymbol, AddObject, FindProperty, PutProperty, DefineProperty, DeleteProperty, FindKeys, FindOwn, FindInner, ChangePart, Reach, Reply, sight_seen, keys_seen, own_seen}
 use Rattle.widl_runs.specs.Jobs.{Program, KeyPart, Named, Computed, MemberUse, ForRead, ForCall, ForSet, ForDefine, ForAccessor, ForDelete, RowUse, ForArguments, ForNew, ForItems, Job, RunStatements, RunStatement, Evaluate, EvaluateRow, ReadMember, SetMember, DefineMember, DefineAccessor, DeleteMember, CallValue, ConstructValue, Talk, Asked, Fail, Doing, nothing, value, drops, gives, reaches, not_yet_end}
 use Rattle.widl_runs.specs.Errors.{new_error, made_error}
-use Rattle.widl_runs.specs.Calls.{called, talked, function_in, begins_function, begins_builtin, body, call_line, found_body, new_line, found_constructor}
+use Rattle.widl_runs.specs.Calls.{body, closes, function_in}
 use Rattle.widl_runs.specs.Members.{calls_with, sets, defines, with_getter, defines_accessor, with_name, with_key, evaluates_key, reads, found, has_put, has_defined, has_deleted}
 use Rattle.widl_runs.specs.Expressions.{gives_object, adds, takes_symbol, object_of, next_in_row, evaluates_this, with_this, constructs_with}
 use Rattle.widl_runs.specs.Statements.{done, binds, binds_object, new_function, begins_handler, caught, chooses, compares, returns, throws, shows, performs, next_statements}
 use Rattle.widl_runs.specs.Rules.{rule}
 use Rattle.widl_runs.specs.Traces.{last_line}
 use Rattle.widl_engine.specs.AskKinds.{ask_kind_of}
+use Rattle.widl_engine.specs.Calling.{begins_builtin, begins_function, call_line, found_body, found_constructor, new_line, talked}
 use Rattle.widl_engine.specs.declared.ends.Completion.{Completion}
 use Rattle.widl_engine.specs.declared.ends.Completion.TheVariants as completions
 use Rattle.widl_engine.specs.declared.ends.JobEnd as job_ends
@@ -141,7 +142,7 @@ after_unit s (unit.Fail code) = new_error code
 
 -- what a call does after its line; no other line comes before it
 abbrev pub enters_by : Program → bodies.Body → Event → Doing
-enters_by p b (events.Call f this args) = body p f this args (body_of b)
+enters_by p b (events.Call f this args) = body p f this args closes (body_of b)
 enters_by p b _ = nothing
 
 -- the property of the line is read, the keys of its object are listed, its own property is looked at
@@ -293,7 +294,7 @@ value_to s (goes_on.Constructs args) = constructs_with (expressions_tree s args)
 abbrev pub back_to : Program → Tables → Frame → JobEnd → Doing
 back_to p s (frame.Value f) = value (value_to s f)
 back_to p s (frame.Catches name handler) = caught (name_at s name) (statements_tree s handler)
-back_to p s frame.Called = called
+back_to p s frame.Called = closes
 back_to p s frame.Talked = talked
 back_to p s (frame.Suspended x) = λ end. in_world (call_rest p.list (lines_of p.list p.script) x.asker.value (answer_by (ask_kind_of x.kind) end))
 back_to p s frame.Last = last_line

@@ -1,4 +1,5 @@
 pub mod AskKinds
+pub mod Calling
 pub mod Frames
 pub mod Conversing
 pub mod AtOnce

@@ -5,9 +5,10 @@ ghost use Rattle.widl_value.specs.declared.object.ObjRef.{ObjRef};
 ghost use Rattle.widl_script_tree.specs.Tables.{Tables};
 ghost use Rattle.widl_trace.specs.EventTerms.{event_term};
 ghost use Rattle.widl_convert.specs.Frames.{end_of};
-ghost use Rattle.widl_runs.specs.Calls.{call, callable, called, construct, end_line, ends_talk, talked};
+ghost use Rattle.widl_runs.specs.Calls.{by_talk, call, callable, closes, construct, end_line};
 ghost use Rattle.widl_runs.specs.Ends.{Returned};
 ghost use Rattle.widl_runs.specs.Jobs.{CallValue, Doing, Program};
+ghost use Rattle.widl_engine.specs.Calling.{talked};
 ghost use Rattle.widl_engine.specs.Frames.{enters_by, job_end_of, job_of, leaves_by, move_of};
 ghost use Rattle.widl_engine.specs.Tested.{if_function};
 
@@ -113,7 +114,7 @@ fn end_event(end: JobEnd) -> Event
 /// The line of a call's end.
 #[inline(always)]
 pub(crate) fn called(end: JobEnd) -> Move
-    ensures { (p : Program) (s : Tables) → move_of p s result ≡ called (job_end_of end) }
+    ensures { (p : Program) (s : Tables) → move_of p s result ≡ closes (job_end_of end) }
 {
     Move::Pays(Charge::Line {
         event: end_event(end),
@@ -123,14 +124,14 @@ pub(crate) fn called(end: JobEnd) -> Move
 
 /// The line of the end of a call with this value.
 fn returns(value: Value) -> Move
-    ensures { (p : Program) (s : Tables) → move_of p s result ≡ called (Returned value) }
+    ensures { (p : Program) (s : Tables) → move_of p s result ≡ closes (Returned value) }
 {
     called(JobEnd::Completed(Completion::Returned(value)))
 }
 
 /// What the conversation of a function has come to is what its call comes to.
 fn ends_talk(ending: Ending) -> Move
-    ensures { (p : Program) (s : Tables) → move_of p s result ≡ ends_talk (end_of ending) }
+    ensures { (p : Program) (s : Tables) → move_of p s result ≡ by_talk closes (end_of ending) }
 {
     match ending {
         Ending::Done(Outcome::Script(value)) => returns(value),

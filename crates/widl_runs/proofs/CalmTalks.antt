@@ -44,7 +44,6 @@ use Rattle.widl_store.specs.declared.inner.Builtin.{Builtin}
 use Rattle.widl_store.specs.declared.inner.Builtin.TheVariants as builtins
 use Rattle.widl_store.specs.declared.inner.Turn.{Turn}
 use Rattle.widl_store.specs.declared.inner.Turn.TheVariants.{Idle, Running, Ended}
-use Rattle.widl_script_tree.specs.declared.steps.StepLine.{StepLine}
 use Rattle.widl_tables.specs.Picks.{pick_of, pick_member_of}
 use Rattle.widl_tables.specs.Tests.{is_null_or_undefined}
 use Rattle.widl_tables.specs.Kept.{argcount_of, entry_alone, kept_tuples}
@@ -61,12 +60,12 @@ use Rattle.widl_steps.specs.declared.ask.Look.TheVariants as looks
 use Rattle.widl_steps.specs.AskTerms.{LookAsk, GetAsk, OwnKeysAsk}
 use Rattle.widl_steps.specs.Built.{built_today, is_built_type}
 use Rattle.widl_steps.specs.Defaults.{default, default_given, defaults_from, literal_value}
-use Rattle.widl_steps.specs.Dictionaries.{members, requires_member, to_dictionary}
+use Rattle.widl_steps.specs.Dictionaries.{members, to_dictionary}
 use Rattle.widl_tables.specs.MemberOrder.{DeclaredMember}
 use Rattle.widl_steps.specs.Nullables.{to_nullable}
 use Rattle.widl_steps.specs.Primitives.{to_primitive}
 use Rattle.widl_steps.specs.Records.{entries, keys_in}
-use Rattle.widl_steps.specs.Resolution.{argument, argument_given, arguments, default_at, picked, takes_default, with_entries}
+use Rattle.widl_steps.specs.Resolution.{argument, argument_given, arguments, by_pick, default_at, kept, takes_default, with_entries}
 use Rattle.widl_steps.specs.Results.{entry_items, member_items, out, out_items, out_units}
 use Rattle.widl_steps.specs.Rules.{rule as task_rule}
 use Rattle.widl_steps.specs.Scalars.{convert, convert_plain, enumeration_result, integer_result, is_bytes, null_or_string, string_result, to_number, to_plain, to_scalar, to_string, to_type}
@@ -77,11 +76,9 @@ use Rattle.widl_steps.specs.Words.{fails, given, gives, no_whole_number, normal,
 use Rattle.widl_steps.specs.ArrayFunctions.{array_iterator_next, array_values, by_cursor, by_turn, cursor_in}
 use Rattle.widl_steps.specs.BuiltCalls.{calls_built_today, is_built_function}
 use Rattle.widl_steps.specs.CallRules.{call_rule, function, intrinsic}
-use Rattle.widl_steps.specs.CallTasks.{CallTask, Of, Function, Lines, CallTalk, NamedValues}
-use Rattle.widl_steps.specs.DefaultResults.{default_result}
+use Rattle.widl_steps.specs.CallTasks.{CallTask, Of, Function, CallTalk}
 use Rattle.widl_steps.specs.ObjectFunctions.{joined, joins_long_text, most_joined_units, object_to_string, object_value_of}
 use Rattle.widl_steps.specs.Operations.{StepsOf, chosen, lines_of, owned_operation, returns_promise}
-use Rattle.widl_steps.specs.StepLines.{lines}
 use Rattle.widl_runs.specs.Actions.{Reply}
 use Rattle.widl_runs.specs.Asks.{in_world, ways}
 use Rattle.widl_runs.specs.Ends.{answer_of, task_end_in}
@@ -371,33 +368,33 @@ module _ (p : Program) where
   calm_taken n true t l v k each = (inl (omega arith), λ b. each (task_end_in b))
   calm_taken n false t l v k each = (inl (omega arith), λ b. each (task_end_in b))
 
-  calm_argument : (n : ℕ) (callee : Callee) (entries : List TupleTerm) (place : ℕ) (v : Value) (left : List Value) (made : List IdlTerm) → 1 + length left < n → IsCalm 1 n (argument p.list callee entries place v left made)
-  calm_argument n callee [] place v left made h = tt
-  calm_argument n callee (entry ∷ more) place v left made h =
-      calm_taken n (takes_default (optionality_at entry (length made)) v) (type_at entry (length made)) (default_at p.list callee entry.overload (length made)) v (argument_given callee (entry ∷ more) place left made) (calm_given 1 n _ (λ w. (inr (refl, h), λ r. tt)))
+  calm_argument : (n : ℕ) (callee : Callee) (place : ℕ) (left : List Value) (made : List IdlTerm) → 1 + length left < n → (v : Value) (entries : List TupleTerm) → IsCalm 1 n (argument p.list callee place left made v entries)
+  calm_argument n callee place left made h v [] = tt
+  calm_argument n callee place left made h v (entry ∷ more) =
+      calm_taken n (takes_default (optionality_at entry (length made)) v) (type_at entry (length made)) (default_at p.list callee entry.overload (length made)) v (argument_given p.list callee place left made (entry ∷ more)) (calm_given 1 n _ (λ w. (inr (refl, h), λ r. tt)))
 
-  calm_picked : (n : ℕ) (callee : Callee) (entries : List TupleTerm) (place : ℕ) (v : Value) (left : List Value) (made : List IdlTerm) (pick : Pick) → 1 + length left < n → IsCalm 1 n (picked built_today p.list callee entries place v left made pick)
-  calm_picked n callee entries place v left made (Entry e) h = calm_argument n callee (entry_alone e entries) place v left made h
-  calm_picked n callee entries place values.Undefined left made (Probe e) h = tt
-  calm_picked n callee entries place values.Null left made (Probe e) h = tt
-  calm_picked n callee entries place (values.Bool b) left made (Probe e) h = tt
-  calm_picked n callee entries place (values.Num x) left made (Probe e) h = tt
-  calm_picked n callee entries place (values.Str units) left made (Probe e) h = tt
-  calm_picked n callee entries place (values.Sym id) left made (Probe e) h = tt
-  calm_picked n callee entries place (values.Obj o) left made (Probe e) h = (inl (omega arith), tt)
-  calm_picked n callee entries place v left made Refuse h = tt
+  calm_by_pick : (n place : ℕ) (v : Value) (k : Option (ObjRef × ObjRef) → List TupleTerm → TaskTalk) → ((entries : List TupleTerm) → IsCalm 1 n (k None entries)) → (entries : List TupleTerm) (pick : Pick) → IsCalm 1 n (by_pick built_today p.list place v k entries pick)
+  calm_by_pick n place v k each entries (Entry e) = each (entry_alone e entries)
+  calm_by_pick n place values.Undefined k each entries (Probe e) = tt
+  calm_by_pick n place values.Null k each entries (Probe e) = tt
+  calm_by_pick n place (values.Bool b) k each entries (Probe e) = tt
+  calm_by_pick n place (values.Num x) k each entries (Probe e) = tt
+  calm_by_pick n place (values.Str units) k each entries (Probe e) = tt
+  calm_by_pick n place (values.Sym id) k each entries (Probe e) = tt
+  calm_by_pick n place (values.Obj o) k each entries (Probe e) = (inl (omega arith), tt)
+  calm_by_pick n place v k each entries Refuse = tt
 
-  calm_several : (n : ℕ) (b : Bool) (callee : Callee) (entries : List TupleTerm) (place : ℕ) (v : Value) (left : List Value) (made : List IdlTerm) (pick : Pick) → 1 + length left < n → IsCalm 1 n (if b then picked built_today p.list callee entries place v left made pick else argument p.list callee entries place v left made)
-  calm_several n true callee entries place v left made pick h = calm_picked n callee entries place v left made pick h
-  calm_several n false callee entries place v left made pick h = calm_argument n callee entries place v left made h
+  calm_several : (n : ℕ) (b : Bool) (callee : Callee) (place : ℕ) (left : List Value) (made : List IdlTerm) → 1 + length left < n → (v : Value) (entries : List TupleTerm) (pick : Pick) → IsCalm 1 n (if b then by_pick built_today p.list place v (kept p.list callee place left made v) entries pick else argument p.list callee place left made v entries)
+  calm_several n true callee place left made h v entries pick = calm_by_pick n place v (kept p.list callee place left made v) (calm_argument n callee place left made h v) entries pick
+  calm_several n false callee place left made h v entries pick = calm_argument n callee place left made h v entries
 
   calm_arguments : (callee : Callee) (entries : List TupleTerm) (place : ℕ) (left : List Value) (made : List IdlTerm) → IsCalm 1 (1 + length left) (arguments built_today p.list callee entries place left made)
   calm_arguments callee [] place left made = tt
   calm_arguments callee (entry ∷ []) place [] made = (inl (omega arith), λ b. tt)
-  calm_arguments callee (entry ∷ []) place (v ∷ left) made = calm_argument (1 + length (v ∷ left)) callee (entry ∷ []) place v left made (omega arith)
+  calm_arguments callee (entry ∷ []) place (v ∷ left) made = calm_argument (1 + length (v ∷ left)) callee place left made (omega arith) v (entry ∷ [])
   calm_arguments callee (entry ∷ other ∷ more) place [] made = tt
   calm_arguments callee (entry ∷ other ∷ more) place (v ∷ left) made =
-      calm_several (1 + length (v ∷ left)) (nat_eq (length made) place) callee (entry ∷ other ∷ more) place v left made (pick_of p.list (entry ∷ other ∷ more) place (class_of v) false) (omega arith)
+      calm_several (1 + length (v ∷ left)) (nat_eq (length made) place) callee place left made (omega arith) v (entry ∷ other ∷ more) (pick_of p.list (entry ∷ other ∷ more) place (class_of v) false)
 
   calm_entries_of : (n : ℕ) (callee : Callee) (entries : List TupleTerm) (args : List Value) → 1 + length args < n → IsCalm 1 n (with_entries p.list callee entries args)
   calm_entries_of n callee [] args h = tt
@@ -516,32 +513,9 @@ module _ (p : Program) where
   calm_function steps (builtins.InterfaceObject iface) this args = tt
   calm_function steps (builtins.Pairs iface what) this args = tt
 
-  calm_result : (t : TypeTerm) → IsCalmCall 0 4 (default_result built_today p.list t)
-  calm_result AnyType = tt
-  calm_result UndefinedType = tt
-  calm_result BooleanType = tt
-  calm_result (IntegerType kind mode) = tt
-  calm_result (StringType kind null_empty) = tt
-  calm_result (EnumerationType n) = tt
-  calm_result (InterfaceType n) = tt
-  calm_result (CallbackFunctionType n) = tt
-  calm_result (CallbackInterfaceType n) = tt
-  calm_result (DictionaryType n) = cond_both (requires_member p.list n) (fails code.NoDefault) (Steps (Of (Convert (DictionaryType n) values.Undefined)) End) (IsCalmCall 0 4) (λ i. tt) (λ i. (inr (refl, omega arith), λ b. tt))
-  calm_result ObjectType = tt
-  calm_result (SequenceType t) = tt
-  calm_result (RecordType key t) = tt
-  calm_result (PromiseType t) = tt
-  calm_result (NullableType t) = tt
-  calm_result (UnionType ts) = tt
-
-  calm_lines : (t : TypeTerm) (named : NamedValues) (ls : List StepLine) → IsCalmCall 0 4 (lines built_today p.list t named ls)
-  calm_lines t named [] = calm_result t
-  calm_lines t named (l ∷ more) = (inl (omega arith), tt)
-
   pub calm_talk : (task : CallTask) → Calm {A = Reply} (ranks p.list) (suc (call_high task)) (call_low p.list task) (in_world (call_rule calls_built_today p.list (lines_of p.list p.script) task))
   calm_talk (Of t) = calm_task t
   calm_talk (Function f what this args construct) = either (is_built_function what) _ _ (calm_function (lines_of p.list p.script) what this args) tt
-  calm_talk (Lines t named ls) = calm_lines t named ls
 
   -- 8. An object becomes a primitive value by an ask that pays
 
@@ -573,4 +547,3 @@ module _ (p : Program) where
   pub spend_talk : (task : CallTask) → talk_spends task ≡ true → Spends {A = Reply} (ranks p.list) (in_world (call_rule calls_built_today p.list (lines_of p.list p.script) task))
   spend_talk (Of t) e = spend_task t e
   spend_talk (Function f what this args construct) e = absurd (cc)
-  spend_talk (Lines t named ls) e = absurd (cc)

@@ -6,7 +6,7 @@ use Rattle.widl_dialog.specs.Runs.{Did, Went}
 use Rattle.widl_dialog.proofs.Crediting.{owes_bind}
 use Rattle.widl_store.specs.Objects.{Obj}
 use Rattle.widl_store.specs.Realm.{realm_of}
-use Rattle.widl_steps.specs.CallTasks.{CallTask, Of, Function, Lines}
+use Rattle.widl_steps.specs.CallTasks.{CallTask, Of, Function}
 use Rattle.widl_runs.specs.Ends.{JobEnd}
 use Rattle.widl_runs.specs.declared.stop.Stop.{Stop}
 use Rattle.widl_runs.specs.Worlds.{World}
@@ -103,7 +103,6 @@ module _ (p : Program) (runnable : IsRunnable p.script) where
       fits_call : (t : CallTask) → LiveCall w.store.objects t → FitsCall t
       fits_call (Of t) l = tt
       fits_call (Function f what this args construct) l = l.2
-      fits_call (Lines t named ls) l = tt
 
       fits_job : (j : Job) → LiveJob p w.store.objects j → FitsJob j
       fits_job (RunStatements ss) l = tt

@@ -1,7 +1,7 @@
 -- For proofs alone. What actions, asks and jobs hold are live references.
 use Rattle.std.proofs.Common.{◌≡◌, None, ℕ, ◌+◌, ◌<◌, ◌^◌, List, [], ◌∷◌, ◌++◌, length}
 use Rattle.std.proofs.lemmas.Bool.{cond_both}
-use Rattle.std.specs.Prelude.{bytes_eq, All}
+use Rattle.std.specs.Prelude.{bytes_eq}
 use Rattle.widl_dialog.specs.Dialog.{End, Say, Steps, bind}
 use Rattle.widl_text.specs.declared.key.Key.{Key}
 use Rattle.widl_value.specs.declared.value.Value.{Value}
@@ -13,7 +13,7 @@ use Rattle.widl_store.specs.Objects.{Obj, IsLive}
 use Rattle.widl_script_tree.specs.Trees.{Text}
 use Rattle.widl_steps.specs.AskTerms.{AskTerm, GetAsk, CallAsk, UnitAsk, NoteAsk, OwnKeysAsk, OwnAsk, LookAsk, NewAsk, NewTerm, ChangeAsk}
 use Rattle.widl_steps.specs.Tasks.{Task, Primitive, Scalar, Convert, SequenceFrom, Turns, Entries, Members, Resolve, Arguments, Default, Defaults, Out, OutItems, OutUnits}
-use Rattle.widl_steps.specs.CallTasks.{CallTask, Of, Function, Lines, NamedValues}
+use Rattle.widl_steps.specs.CallTasks.{CallTask, Of, Function}
 use Rattle.widl_runs.specs.Ends.{JobEnd, answer_of}
 use Rattle.widl_runs.specs.Worlds.{Bindings, with_value, bound_parameters}
 use Rattle.widl_runs.specs.Actions.{Action, Pay, Write, TestDepth, Enter, Leave, FindBody, ReadThis, ReadName, BindName, TakeSymbol, AddObject, FindProperty, PutProperty, DefineProperty, DeleteProperty, FindKeys, FindOwn, FindInner, ChangePart, Reach, Reply, object_in, part_of, properties_of}
@@ -75,10 +75,6 @@ abbrev pub LiveMade : List Obj → List (ℕ × ℕ × IdlTerm) → Type 0
 LiveMade objects [] = Unit {0}
 LiveMade objects (e ∷ es) = LiveTerm objects e.2 × LiveMade objects es
 
-abbrev pub LiveNamed : List Obj → NamedValues → Type 0
-LiveNamed objects [] = Unit {0}
-LiveNamed objects (e ∷ es) = LiveTerm objects e.1 × LiveNamed objects es
-
 abbrev pub LiveTask : List Obj → Task → Type 0
 LiveTask objects (Primitive hint v) = LiveValue objects v
 LiveTask objects (Scalar want v) = LiveValue objects v
@@ -98,7 +94,6 @@ LiveTask objects (OutUnits left container made) = LiveValues objects made
 abbrev pub LiveCall : List Obj → CallTask → Type 0
 LiveCall objects (Of t) = LiveTask objects t
 LiveCall objects (Function f what this args construct) = LiveValue objects this × LiveValues objects args × AreFew args
-LiveCall objects (Lines t named ls) = LiveNamed objects named × All ThrowsPlain ls
 
 abbrev pub LiveUse : List Obj → RowUse → Type 0
 LiveUse objects (ForArguments f this) = LiveValue objects f × LiveValue objects this

@@ -42,7 +42,7 @@ use Rattle.widl_runs.specs.Looks.{sight_of}
 use Rattle.widl_runs.specs.Asks.{asks}
 use Rattle.widl_runs.specs.Actions.{Pay, Reply, inner_in, body_in, property_in, put_result_in, define_result_in, delete_result_in, Body, ScriptBody, BuiltinBody, NoBody, ObjectPrototype, FunctionPrototype, ArrayPrototype, TypeErrorPrototype, prototype, prototype_of, ordinary, plan_of, sight_seen}
 use Rattle.widl_runs.specs.Jobs.{Program, KeyPart, Named, Computed, MemberUse, ForRead, ForCall, ForSet, ForDefine, ForAccessor, ForDelete, RowUse, ForArguments, ForNew, ForItems, Job, RunStatements, RunStatement, Evaluate, EvaluateRow, ReadMember, SetMember, DefineMember, DefineAccessor, DeleteMember, CallValue, ConstructValue, Talk, Asked, Fail, Doing, value, fails, reaches}
-use Rattle.widl_runs.specs.Calls.{call_result, called, ends_talk, function_in, body, if_callable, callable, call, construct_body, construct}
+use Rattle.widl_runs.specs.Calls.{call_result, closes, by_talk, function_in, body, if_callable, callable, call, construct_body, construct}
 use Rattle.widl_runs.specs.Members.{accessor_flags, with_getter, uses, member, key_of, if_key, tested, read_value, put_done, define_done, defines_parts, tests_setter, delete_done}
 use Rattle.widl_runs.specs.Expressions.{adds, object_of, row_done, evaluate_row, call_tree, evaluate}
 use Rattle.widl_runs.specs.Statements.{same_value, caught, performs, run_statement, run_statements}
@@ -117,8 +117,8 @@ module _ (p : Program) (runnable : IsRunnable p.script) (objects : List Obj) (fi
   live_result (Talked end) l = tt
   live_result (Seen answer) l = tt
 
-  safe_called : (c : JobEnd) → LiveEnd objects c → IsSafe (called c)
-  safe_called c l = (tt, λ r x. (tt, λ s y. live_result c l))
+  safe_closes : (c : JobEnd) → LiveEnd objects c → IsSafe (closes c)
+  safe_closes c l = (tt, λ r x. (tt, λ s y. live_result c l))
 
   safe_shape : (k : ObjRef → Doing) → ((o : ObjRef) → Has o → IsSafe (k o)) → (o : ObjRef) (s : Shape) → Has o → IsSafe (if_callable k o s)
   safe_shape k each o shapes.Plain l = safe_fails code.NotCallable
@@ -135,20 +135,20 @@ module _ (p : Program) (runnable : IsRunnable p.script) (objects : List Obj) (fi
   safe_callable k each (values.Obj o) l = safe_shape k each o o.shape l
 
   -- what a conversation comes to
-  safe_ends : (r : TaskEnd) → LiveTaskEnd objects r → IsSafe (ends_talk r)
-  safe_ends (Gives w) l = safe_called (Returned values.Undefined) tt
-  safe_ends (Plain v) l = safe_called (Returned v) l
-  safe_ends (Picks overload ws) l = safe_called (Returned values.Undefined) tt
-  safe_ends (Throw why) l = (tt, safe_called)
-  safe_ends (Rethrow v) l = safe_called (Thrown v) l
-  safe_ends (Profile end) l = safe_reaches end
+  safe_by_talk : (r : TaskEnd) → LiveTaskEnd objects r → IsSafe (by_talk closes r)
+  safe_by_talk (Gives w) l = safe_closes (Returned values.Undefined) tt
+  safe_by_talk (Plain v) l = safe_closes (Returned v) l
+  safe_by_talk (Picks overload ws) l = safe_closes (Returned values.Undefined) tt
+  safe_by_talk (Throw why) l = (tt, safe_closes)
+  safe_by_talk (Rethrow v) l = safe_closes (Thrown v) l
+  safe_by_talk (Profile end) l = safe_reaches end
 
-  safe_body : (f : ObjRef) (this : Value) (args : List Value) (b : Body) → Live this → Lives args → AreFew args → IsSafe (body p f this args b)
+  safe_body : (f : ObjRef) (this : Value) (args : List Value) (b : Body) → Live this → Lives args → AreFew args → IsSafe (body p f this args closes b)
   safe_body f this args (ScriptBody number) l ls few = (
     (l, live_parameters objects [] (function_in p.script number).params args tt ls),
-    λ r x. (has_body (length p.script.functions) p.script.functions number runnable.bodies, safe_called),
+    λ r x. (has_body (length p.script.functions) p.script.functions number runnable.bodies, safe_closes),
   )
-  safe_body f this args (BuiltinBody b) l ls few = ((l, tt), λ r x. ((l, ls, few), λ c y. safe_ends (task_end_in c) (live_task_end objects c y)))
+  safe_body f this args (BuiltinBody b) l ls few = ((l, tt), λ r x. ((l, ls, few), λ c y. safe_by_talk (task_end_in c) (live_task_end objects c y)))
   safe_body f this args NoBody l ls few = safe_reaches 99
 
   safe_call : (f this : Value) (args : List Value) → Live f → Live this → Lives args → AreFew args → IsSafe (call p f this args)

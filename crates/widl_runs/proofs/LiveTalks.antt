@@ -2,11 +2,10 @@
 use Rattle.std.proofs.Common.{refl, ℕ, zero, suc, ℤ, ◌^◌, Bool, true, false, List, [], ◌∷◌, ◌++◌, Option, Some, None, length, arith, if◌then◌else◌}
 use Rattle.std.proofs.lemmas.Bool.{cond_both}
 use Rattle.std.specs.Prelude.{◌&&◌, All, IfSome, bytes_eq, codes, decimal, nat_abs, nat_eq, nat_le, nat_lt, slice_get, take}
-use Rattle.std.specs.Map.{lookup}
 use Rattle.std.specs.Option.{option_and_then, option_map_or}
 use Rattle.std.specs.declared.result.Result.{Result}
 use Rattle.std.specs.declared.result.Result.TheVariants as results
-use Rattle.widl_dialog.specs.Dialog.{End, Say, Steps}
+use Rattle.widl_dialog.specs.Dialog.{End, Say, Steps, bind}
 use Rattle.widl_text.specs.declared.key.Key.{Key}
 use Rattle.widl_text.specs.declared.key.Key.TheVariants as keys
 use Rattle.widl_idl.specs.declared.callee.Callee.{Callee}
@@ -63,7 +62,7 @@ use Rattle.widl_tables.specs.MemberOrder.{DeclaredMember}
 use Rattle.widl_steps.specs.Nullables.{to_nullable}
 use Rattle.widl_steps.specs.Primitives.{call_method, found_method, found_ordinary, object_to_primitive, ordinary, primitive_result, to_primitive, tried, try_method}
 use Rattle.widl_steps.specs.Records.{entries, entry_value, flags_in, is_enumerable, key_value, named, named_entry, own_entry, to_record, with_entry}
-use Rattle.widl_steps.specs.Resolution.{argument, arguments, default_at, from_method, looked_for, picked, probed, sequence_given, takes_default, with_entries, without_method}
+use Rattle.widl_steps.specs.Resolution.{argument, arguments, by_entry, by_pick, default_at, from_method, kept, sequence_given, takes_default, with_entries}
 use Rattle.widl_steps.specs.Results.{entry_items, member_items, out, out_items, out_units, properties}
 use Rattle.widl_steps.specs.Rules.{rule as task_rule}
 use Rattle.widl_steps.specs.Scalars.{convert, convert_plain, enumeration_result, integer_result, is_bytes, null_or_string, string_result, to_number, to_scalar, to_plain, to_string, to_text, to_type}
@@ -74,15 +73,15 @@ use Rattle.widl_steps.specs.Words.{fails, gives, normal, not_built, number, retu
 use Rattle.widl_steps.specs.ArrayFunctions.{array_iterator_next, array_values, by_cursor, by_turn, cursor_in, element_read, ends_iterator, given_in_turn, iterator_result, length_read, read_in_turn, with_length}
 use Rattle.widl_steps.specs.BuiltCalls.{calls_built_today, is_built_function}
 use Rattle.widl_steps.specs.CallRules.{call_rule, function, intrinsic}
-use Rattle.widl_steps.specs.CallTasks.{CallTalk, CallTask, Of, Function, Lines, NamedValues}
+use Rattle.widl_steps.specs.CallTasks.{CallTalk, CallTask, Of, Function}
 use Rattle.widl_steps.specs.DefaultResults.{default_result}
 use Rattle.widl_steps.specs.ObjectFunctions.{by_kind, joined, kind_in, kind_tag, most_joined_units, object_to_string, object_value_of, with_tag}
-use Rattle.widl_steps.specs.Operations.{StepsOf, chosen, owned_operation, returns_promise, steps_of}
-use Rattle.widl_steps.specs.StepLines.{args_of_lines, argument_value, line, lines, named_values, return_line}
+use Rattle.widl_steps.specs.Operations.{StepsOf, chosen, owned_operation, result_type, returns_promise, steps_of}
+use Rattle.widl_steps.specs.StepLines.{argument_value, line, lines, return_line}
 use Rattle.widl_runs.specs.Fitting.{ThrowsPlain}
 use Rattle.widl_runs.specs.Actions.{data_properties}
 use Rattle.widl_runs.proofs.LiveParts.{LiveValue, LiveValues, LiveTerm, LiveTerms, LiveEntries, LiveMembers, LivePart, LiveTermList, LiveTaskEnd, LiveAnswer, LiveCursor, LiveProps, live_cursor_in}
-use Rattle.widl_runs.proofs.LiveJobs.{LiveMade, LiveRecord, LiveNamed, LiveTask, LiveCall, live_append, live_plain}
+use Rattle.widl_runs.proofs.LiveJobs.{LiveMade, LiveRecord, LiveTask, LiveCall, live_append, live_plain}
 use Rattle.widl_runs.proofs.LiveStores.{live_items}
 use Rattle.widl_runs.proofs.SafeTalks.{SafeTalk, safe_rename, safe_normal, safe_object, safe_object_or, safe_callable_or, safe_method_or, safe_given, safe_returned, safe_number, safe_text, safe_if}
 
@@ -456,40 +455,53 @@ module _ (list : DefsTerm) (objects : List Obj) where
   live_task_for true t x v l = tt
   live_task_for false t x v l = l
 
-  safe_argument : (callee : Callee) (es : List TupleTerm) (place : ℕ) (v : Value) (left : List Value) (made : List IdlTerm) → Alive v → LiveValues objects left → LiveTermList objects made → Conv (argument list callee es place v left made)
-  safe_argument callee [] place v left made l ls lm = tt
-  safe_argument callee (entry ∷ more) place v left made l ls lm =
+  safe_argument : (callee : Callee) (place : ℕ) (left : List Value) (made : List IdlTerm) → LiveValues objects left → LiveTermList objects made → (v : Value) → Alive v → (es : List TupleTerm) → Conv (argument list callee place left made v es)
+  safe_argument callee place left made ls lm v l [] = tt
+  safe_argument callee place left made ls lm v l (entry ∷ more) =
       (live_task_for (takes_default (optionality_at entry (length made)) v) (type_at entry (length made)) (default_at list callee entry.overload (length made)) v l, λ r lr. safe_given objects LiveT _ (λ w lw. ((ls, more_terms made w lm lw), λ s lS. lS)) r lr)
 
-  safe_without : (callee : Callee) (es : List TupleTerm) (place : ℕ) (v : Value) (left : List Value) (made : List IdlTerm) (pick : Pick) → Alive v → LiveValues objects left → LiveTermList objects made → Conv (without_method list callee es place v left made pick)
-  safe_without callee es place v left made (Entry e) l ls lm = safe_argument callee (entry_alone e es) place v left made l ls lm
-  safe_without callee es place v left made (Probe e) l ls lm = tt
-  safe_without callee es place v left made Refuse l ls lm = tt
+  safe_sequence_given : (callee : Callee) (place : ℕ) (left : List Value) (made : List IdlTerm) → LiveValues objects left → LiveTermList objects made → (es : List TupleTerm) (o f : ObjRef) → IsLive objects o → IsLive objects f → (t : Option TypeTerm) → Conv (sequence_given list callee place left made es o f t)
+  safe_sequence_given callee place left made ls lm es o f l lf None = tt
+  safe_sequence_given callee place left made ls lm es o f l lf (Some t) = ((l, lf), λ r lr. safe_given objects LiveT _ (λ w lw. ((ls, more_terms made w lm lw), λ s lS. lS)) r lr)
 
-  safe_sequence_given : (callee : Callee) (es : List TupleTerm) (place : ℕ) (o f : ObjRef) (left : List Value) (made : List IdlTerm) (t : Option TypeTerm) → IsLive objects o → IsLive objects f → LiveValues objects left → LiveTermList objects made → Conv (sequence_given callee es place left made o f t)
-  safe_sequence_given callee es place o f left made None l lf ls lm = tt
-  safe_sequence_given callee es place o f left made (Some t) l lf ls lm = ((l, lf), λ r lr. safe_given objects LiveT _ (λ w lw. ((ls, more_terms made w lm lw), λ s lS. lS)) r lr)
+  safe_from : (callee : Callee) (place : ℕ) (left : List Value) (made : List IdlTerm) → LiveValues objects left → LiveTermList objects made → (o f : ObjRef) → IsLive objects o → IsLive objects f → (es : List TupleTerm) → Conv (from_method list callee place left made o f es)
+  safe_from callee place left made ls lm o f l lf [] = tt
+  safe_from callee place left made ls lm o f l lf (entry ∷ more) = safe_sequence_given callee place left made ls lm (entry ∷ more) o f l lf (element_within (type_at entry (length made)))
 
-  safe_from : (callee : Callee) (es : List TupleTerm) (place : ℕ) (o f : ObjRef) (left : List Value) (made : List IdlTerm) → IsLive objects o → IsLive objects f → LiveValues objects left → LiveTermList objects made → Conv (from_method callee es place left made o f)
-  safe_from callee [] place o f left made l lf ls lm = tt
-  safe_from callee (entry ∷ more) place o f left made l lf ls lm = safe_sequence_given callee (entry ∷ more) place o f left made (element_within (type_at entry (length made))) l lf ls lm
+  -- a value with its method, where there is one
+  abbrev LiveFound : Option (ObjRef × ObjRef) → Type 0
+  LiveFound None = Unit {0}
+  LiveFound (Some found) = IsLive objects found.0 × IsLive objects found.1
 
-  safe_probed : (callee : Callee) (es : List TupleTerm) (place : ℕ) (o : ObjRef) (left : List Value) (made : List IdlTerm) → IsLive objects o → LiveValues objects left → LiveTermList objects made → (v : Value) → Alive v → Conv (probed built_today list callee es place o left made v)
-  safe_probed callee es place o left made l ls lm = safe_method_or objects LiveT _ _ (safe_without callee es place (values.Obj o) left made (pick_of list es (length made) (class_of (values.Obj o)) true) l ls lm) (λ f lf. safe_from callee (looked_for es (pick_of list es (length made) (class_of (values.Obj o)) false)) place o f left made l lf ls lm)
+  safe_kept : (callee : Callee) (place : ℕ) (left : List Value) (made : List IdlTerm) → LiveValues objects left → LiveTermList objects made → (v : Value) → Alive v → (found : Option (ObjRef × ObjRef)) → LiveFound found → (es : List TupleTerm) → Conv (kept list callee place left made v found es)
+  safe_kept callee place left made ls lm v l None lf es = safe_argument callee place left made ls lm v l es
+  safe_kept callee place left made ls lm v l (Some found) lf es = safe_from callee place left made ls lm found.0 found.1 lf.0 lf.1 es
 
-  safe_picked : (callee : Callee) (es : List TupleTerm) (place : ℕ) (v : Value) (left : List Value) (made : List IdlTerm) (pick : Pick) → Alive v → LiveValues objects left → LiveTermList objects made → Conv (picked built_today list callee es place v left made pick)
-  safe_picked callee es place v left made (Entry e) l ls lm = safe_argument callee (entry_alone e es) place v left made l ls lm
-  safe_picked callee es place v left made (Probe e) l ls lm = safe_object objects LiveT _ _ (λ o lo. (lo, λ a la. safe_normal objects LiveT _ (safe_probed callee es place o left made lo ls lm) a la)) v l
-  safe_picked callee es place v left made Refuse l ls lm = tt
+  safe_by_entry : (k : List TupleTerm → TaskTalk) → ((es : List TupleTerm) → Conv (k es)) → (es : List TupleTerm) (pick : Pick) → Conv (by_entry k es pick)
+  safe_by_entry k all es (Entry e) = all (entry_alone e es)
+  safe_by_entry k all es (Probe e) = tt
+  safe_by_entry k all es Refuse = tt
+
+  safe_by_pick : (place : ℕ) (v : Value) → Alive v → (k : Option (ObjRef × ObjRef) → List TupleTerm → TaskTalk) → ((found : Option (ObjRef × ObjRef)) → LiveFound found → (es : List TupleTerm) → Conv (k found es)) → (es : List TupleTerm) (pick : Pick) → Conv (by_pick built_today list place v k es pick)
+  safe_by_pick place v l k all es (Entry e) = all None tt (entry_alone e es)
+  safe_by_pick place v l k all es (Probe e) =
+      safe_object objects LiveT _ _ (λ o lo. (
+        lo,
+        λ a la. safe_normal objects LiveT _
+            (safe_method_or objects LiveT _ _ (safe_by_entry (k None) (all None tt) es (pick_of list es place (class_of v) true)) (λ f lf. all (Some (o, f)) (lo, lf) (entry_alone e es))) a la,
+      )) v l
+  safe_by_pick place v l k all es Refuse = tt
 
   safe_arguments : (callee : Callee) (es : List TupleTerm) (place : ℕ) (left : List Value) (made : List IdlTerm) → LiveValues objects left → LiveTermList objects made → Conv (arguments built_today list callee es place left made)
   safe_arguments callee [] place left made ls lm = tt
   safe_arguments callee (entry ∷ []) place [] made ls lm = (lm, λ r lr. lr)
-  safe_arguments callee (entry ∷ []) place (v ∷ left) made ls lm = safe_argument callee (entry ∷ []) place v left made ls.0 ls.1 lm
+  safe_arguments callee (entry ∷ []) place (v ∷ left) made ls lm = safe_argument callee place left made ls.1 lm v ls.0 (entry ∷ [])
   safe_arguments callee (entry ∷ other ∷ more) place [] made ls lm = tt
   safe_arguments callee (entry ∷ other ∷ more) place (v ∷ left) made ls lm =
       let es : List TupleTerm = entry ∷ other ∷ more in
-      safe_if objects LiveT (nat_eq (length made) place) _ _ (safe_picked callee es place v left made (pick_of list es place (class_of v) false) ls.0 ls.1 lm) (safe_argument callee es place v left made ls.0 ls.1 lm)
+      safe_if objects LiveT (nat_eq (length made) place) _ _
+      (safe_by_pick place v ls.0 _ (safe_kept callee place left made ls.1 lm v ls.0) es (pick_of list es place (class_of v) false))
+      (safe_argument callee place left made ls.1 lm v ls.0 es)
 
   safe_entries_of : (callee : Callee) (es : List TupleTerm) (args : List Value) → LiveValues objects args → Conv (with_entries list callee es args)
   safe_entries_of callee [] args l = tt
@@ -527,18 +539,6 @@ module _ (list : DefsTerm) (steps : StepsOf) (plain : (callee : Callee) (overloa
   live_slice (w ∷ ws) zero l = l.0
   live_slice (w ∷ ws) (suc n) l = live_slice ws n l.1
 
-  live_one : (n : ℕ) (w : Option IdlTerm) (rest : NamedValues) → IfSome w (LiveTerm objects) → LiveNamed objects rest → LiveNamed objects (option_map_or (λ (x : IdlTerm). (n, x) ∷ rest) w rest)
-  live_one n None rest l ls = ls
-  live_one n (Some w) rest l ls = (l, ls)
-
-  live_names : (ws : List IdlTerm) (numbers : List ℕ) → LiveTermList objects ws → LiveNamed objects (named_values ws numbers)
-  live_names ws [] l = tt
-  live_names ws (n ∷ numbers) l = live_one n (slice_get ws n) (named_values ws numbers) (live_slice ws n l) (live_names ws numbers l)
-
-  live_found : (values : NamedValues) (n : ℕ) → LiveNamed objects values → IfSome (lookup (nat_eq n) values) (LiveTerm objects)
-  live_found [] n l = tt
-  live_found (e ∷ es) n l = cond_both (nat_eq n e.0) (Some e.1) (lookup (nat_eq n) es) (λ (w : Option IdlTerm). IfSome w (LiveTerm objects)) (λ i. l.0) (λ i. live_found es n l.1)
-
   safe_value : (w : Option IdlTerm) → IfSome w (LiveTerm objects) → IsCall (argument_value w)
   safe_value None l = tt
   safe_value (Some UndefinedValue) l = l
@@ -555,22 +555,22 @@ module _ (list : DefsTerm) (steps : StepsOf) (plain : (callee : Callee) (overloa
   safe_value (Some (DictionaryValue n ms)) l = l
   safe_value (Some (PromiseValue o)) l = l
 
-  safe_return : (t : TypeTerm) (named : NamedValues) (source : Source) → LiveNamed objects named → IsCall (return_line t named source)
-  safe_return t named (sources.Arg number) l = safe_value (lookup (nat_eq number) named) (live_found named number l)
-  safe_return t named sources.This l = tt
-  safe_return t named (sources.Slot slot) l = tt
-  safe_return t named (sources.Literal x) l = (tt, λ r lr. lr)
+  safe_return : (t : TypeTerm) (ws : List IdlTerm) (source : Source) → LiveTermList objects ws → IsCall (return_line t ws source)
+  safe_return t ws (sources.Arg number) l = safe_value (slice_get ws number) (live_slice ws number l)
+  safe_return t ws sources.This l = tt
+  safe_return t ws (sources.Slot slot) l = tt
+  safe_return t ws (sources.Literal x) l = (tt, λ r lr. lr)
 
-  safe_line : (t : TypeTerm) (named : NamedValues) (x : StepLine) → LiveNamed objects named → ThrowsPlain x → IsCall (line t named x)
-  safe_line t named (step_lines.Return source) l throws = safe_return t named source l
-  safe_line t named (step_lines.ReturnInvoke invoke) l throws = tt
-  safe_line t named (step_lines.SetSlot slot source) l throws = tt
-  safe_line t named (step_lines.Append key v) l throws = tt
-  safe_line t named step_lines.Clear l throws = tt
-  safe_line t named (step_lines.Throw v) l throws = live_plain objects v throws
-  safe_line t named (step_lines.Invoke invoke) l throws = tt
+  safe_line : (t : TypeTerm) (ws : List IdlTerm) (x : StepLine) → LiveTermList objects ws → ThrowsPlain x → IsCall (line t ws x)
+  safe_line t ws (step_lines.Return source) l throws = safe_return t ws source l
+  safe_line t ws (step_lines.ReturnInvoke invoke) l throws = tt
+  safe_line t ws (step_lines.SetSlot slot source) l throws = tt
+  safe_line t ws (step_lines.Append key v) l throws = tt
+  safe_line t ws step_lines.Clear l throws = tt
+  safe_line t ws (step_lines.Throw v) l throws = live_plain objects v throws
+  safe_line t ws (step_lines.Invoke invoke) l throws = tt
 
-  safe_default_result : (t : TypeTerm) → IsCall (default_result built_today list t)
+  safe_default_result : (t : TypeTerm) → IsCall (default_result list t)
   safe_default_result AnyType = tt
   safe_default_result UndefinedType = tt
   safe_default_result BooleanType = tt
@@ -588,14 +588,21 @@ module _ (list : DefsTerm) (steps : StepsOf) (plain : (callee : Callee) (overloa
   safe_default_result (NullableType t) = tt
   safe_default_result (UnionType ts) = tt
 
-  safe_lines : (t : TypeTerm) (named : NamedValues) (ls : List StepLine) → LiveNamed objects named → All ThrowsPlain ls → IsCall (lines built_today list t named ls)
-  safe_lines t named [] l each = safe_default_result t
-  safe_lines t named (x ∷ more) l each = (tt, λ a la. safe_line t named x l (each 0 x (omega arith)))
+  safe_lines : (t : TypeTerm) (ws : List IdlTerm) (ls : List StepLine) → LiveTermList objects ws → All ThrowsPlain ls → IsCall (lines list t ws ls)
+  safe_lines t ws [] l each = safe_default_result t
+  safe_lines t ws (x ∷ more) l each = (tt, λ a la. safe_line t ws x l (each 0 x (omega arith)))
 
   -- operations
 
+  safe_then : (d : CallTalk) (k : TaskEnd → CallTalk) → IsCall d → ((r : TaskEnd) → LiveTaskEnd objects r → IsCall (k r)) → IsCall (bind d k)
+  safe_then (End r) k x all = all r x
+  safe_then (Say q f) k x all = (x.0, λ a l. safe_then (f a) k (x.1 a l) all)
+  safe_then (Steps j f) k x all = (x.0, λ r l. safe_then (f r) k (x.1 r l) all)
+
   safe_steps : (callee : Callee) (overload : ℕ) (ws : List IdlTerm) → LiveTermList objects ws → IsCall (steps_of list steps callee overload ws)
-  safe_steps callee overload ws l = ((live_names ws (args_of_lines (steps callee overload)) l, plain callee overload), λ r lr. safe_given objects LiveC _ (λ w lw. (lw, λ s ls. ls)) r lr)
+  safe_steps callee overload ws l =
+      safe_then (lines list (result_type list callee overload) ws (steps callee overload)) _ (safe_lines (result_type list callee overload) ws (steps callee overload) l (plain callee overload))
+      (λ r lr. safe_given objects LiveC _ (λ w lw. (lw, λ s ls. ls)) r lr)
 
   safe_chosen : (callee : Callee) (r : TaskEnd) → LiveTaskEnd objects r → IsCall (chosen list steps callee r)
   safe_chosen callee (Gives w) l = l
@@ -721,4 +728,3 @@ module _ (list : DefsTerm) (steps : StepsOf) (plain : (callee : Callee) (overloa
   pub safe_call_task : (task : CallTask) → LiveCall objects task → IsCall (call_rule calls_built_today list steps task)
   safe_call_task (Of t) l = safe_rename objects (task_rule built_today list t) (safe_task list objects t l)
   safe_call_task (Function f what this args construct) l = safe_if objects LiveC (is_built_function what) _ _ (safe_function what this args l.0 l.1) tt
-  safe_call_task (Lines t named ls) l = safe_lines t named ls l.0 l.1

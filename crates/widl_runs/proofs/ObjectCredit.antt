@@ -56,7 +56,7 @@ use Rattle.widl_runs.specs.declared.stop.Stop.TheVariants as stops
 use Rattle.widl_runs.specs.Worlds.{World, is_local, with_local, with_value}
 use Rattle.widl_runs.specs.Actions.{IsDone, inner_at, changed_part, event_cost, put_result, define_result, is_put, is_made, with_store, act, with_properties, with_new, ObjectPrototype, prototype, ordinary, plan_of}
 use Rattle.widl_runs.specs.Jobs.{ForSet, ForDefine, ForAccessor, ForDelete, reaches}
-use Rattle.widl_runs.specs.Calls.{called, ends_talk, body}
+use Rattle.widl_runs.specs.Calls.{body, by_talk, closes}
 use Rattle.widl_runs.specs.Members.{with_getter}
 use Rattle.widl_runs.specs.Expressions.{adds}
 use Rattle.widl_runs.specs.Statements.{caught, performs, same_value}
@@ -209,8 +209,8 @@ fair_reaches end = (omega arith, λ r. tt)
 fair_adds : (plan : Plan) → IsFair 1 (adds plan)
 fair_adds new = (omega arith, λ r. tt)
 
-fair_called : (c : JobEnd) → IsFair 0 (called c)
-fair_called c = (omega arith, λ a. (omega arith, λ b. tt))
+fair_closes : (c : JobEnd) → IsFair 0 (closes c)
+fair_closes c = (omega arith, λ a. (omega arith, λ b. tt))
 
 fair_shape : (k : ObjRef → Doing) → ((o : ObjRef) → IsFair 0 (k o)) → (o : ObjRef) (s : Shape) → IsFair 0 (if_callable k o s)
 fair_shape k each o shapes.Plain = λ r. tt
@@ -226,13 +226,13 @@ fair_callable k each (values.Str text) = λ r. tt
 fair_callable k each (values.Sym id) = λ r. tt
 fair_callable k each (values.Obj o) = fair_shape k each o o.shape
 
-fair_ends : (r : TaskEnd) → IsFair 0 (ends_talk r)
-fair_ends (Gives w) = fair_called (Returned values.Undefined)
-fair_ends (Plain v) = fair_called (Returned v)
-fair_ends (Picks overload ws) = fair_called (Returned values.Undefined)
-fair_ends (Throw why) = fair_called
-fair_ends (Rethrow v) = fair_called (Thrown v)
-fair_ends (Profile end) = fair_reaches end
+fair_by_talk : (r : TaskEnd) → IsFair 0 (by_talk closes r)
+fair_by_talk (Gives w) = fair_closes (Returned values.Undefined)
+fair_by_talk (Plain v) = fair_closes (Returned v)
+fair_by_talk (Picks overload ws) = fair_closes (Returned values.Undefined)
+fair_by_talk (Throw why) = fair_closes
+fair_by_talk (Rethrow v) = fair_closes (Thrown v)
+fair_by_talk (Profile end) = fair_reaches end
 
 -- a conversation adds nothing but by its asks
 fair_talk : (d : CallTalk) → IsFair 0 (in_world d)
@@ -240,9 +240,9 @@ fair_talk (End r) = tt
 fair_talk (Say ask k) = λ end. fair_talk (k (answer_of ask end))
 fair_talk (Steps t k) = λ end. fair_talk (k (task_end_in end))
 
-fair_body : (p : Program) (f : ObjRef) (this : Value) (args : List Value) (b : Body) → IsFair 0 (body p f this args b)
-fair_body p f this args (ScriptBody number) = (omega arith, λ r. fair_called)
-fair_body p f this args (BuiltinBody b) = (omega arith, λ r c. fair_ends (task_end_in c))
+fair_body : (p : Program) (f : ObjRef) (this : Value) (args : List Value) (b : Body) → IsFair 0 (body p f this args closes b)
+fair_body p f this args (ScriptBody number) = (omega arith, λ r. fair_closes)
+fair_body p f this args (BuiltinBody b) = (omega arith, λ r c. fair_by_talk (task_end_in c))
 fair_body p f this args NoBody = fair_reaches 99
 
 fair_call : (p : Program) (f this : Value) (args : List Value) → IsFair 0 (call p f this args)

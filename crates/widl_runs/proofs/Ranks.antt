@@ -11,7 +11,7 @@ use Rattle.widl_steps.specs.declared.want.Want.{Want}
 use Rattle.widl_steps.specs.declared.want.Want.TheVariants as wants
 use Rattle.widl_steps.specs.AskTerms.{AskTerm, GetAsk, CallAsk, UnitAsk, NoteAsk, OwnKeysAsk, OwnAsk, LookAsk, NewAsk, ChangeAsk}
 use Rattle.widl_steps.specs.Tasks.{Task, Primitive, Scalar, Convert, SequenceFrom, Turns, Entries, Members, Resolve, Arguments, Default, Defaults, Out, OutItems, OutUnits}
-use Rattle.widl_steps.specs.CallTasks.{CallTask, Of, Function, Lines}
+use Rattle.widl_steps.specs.CallTasks.{CallTask, Of, Function}
 use Rattle.widl_runs.specs.Actions.{Action, Pay, Write, TestDepth, Enter, Leave, FindBody, ReadThis, ReadName, BindName, TakeSymbol, AddObject, FindProperty, PutProperty, DefineProperty, DeleteProperty, FindKeys, FindOwn, FindInner, ChangePart, Reach}
 use Rattle.widl_runs.specs.Jobs.{Job, RunStatements, RunStatement, Evaluate, EvaluateRow, ReadMember, SetMember, DefineMember, DefineAccessor, DeleteMember, CallValue, ConstructValue, Talk, Asked, Fail}
 
@@ -128,12 +128,10 @@ task_low list (OutUnits left container made) = 0
 abbrev pub call_high : CallTask → ℕ
 call_high (Of t) = task_high t
 call_high (Function f what this args construct) = 2
-call_high (Lines t named ls) = 0
 
 abbrev pub call_low : DefsTerm → CallTask → ℕ
 call_low list (Of t) = task_low list t
 call_low list (Function f what this args construct) = 0
-call_low list (Lines t named ls) = 4
 
 -- an object becomes a primitive value by asks that pay, and so does each ask but a look and a change
 abbrev pub is_object : Value → Bool

@@ -1,12 +1,11 @@
 -- Each task of a call ends in some conversation, and so it does after each answer that fits and each end of a task that it goes through.
 use Rattle.std.proofs.Common.{ℕ, ◌+◌, Bool, true, false, List, [], ◌∷◌, Option, None, Some, refl}
-use Rattle.std.specs.Prelude.{◌++◌, codes, decimal, length, nat_eq, nat_le, nat_lt}
-use Rattle.std.specs.Map.{lookup}
-use Rattle.widl_dialog.specs.Dialog.{End, Say, Steps}
-use Rattle.widl_dialog.specs.Conversation.{Finishes}
+use Rattle.std.specs.Prelude.{◌++◌, codes, decimal, length, nat_eq, nat_le, nat_lt, slice_get}
+use Rattle.widl_dialog.specs.Dialog.{End, Say, Steps, bind}
+use Rattle.widl_dialog.specs.Conversation.{Finishes, Good}
 use Rattle.widl_dialog.specs.Rename.{rename}
 use Rattle.widl_dialog.proofs.Renaming.{finishes_rename, good_rename}
-use Rattle.widl_dialog.proofs.Wholes.{fine_say, fine_steps, asks_go_on}
+use Rattle.widl_dialog.proofs.Wholes.{fine_say, fine_steps, finishes_bind, asks_go_on}
 use Rattle.widl_text.specs.declared.key.Key.TheVariants as keys
 use Rattle.widl_idl.specs.declared.callee.Callee.{Callee}
 use Rattle.widl_idl.specs.declared.callee.Owner.{Owner}
@@ -17,7 +16,7 @@ use Rattle.widl_value.specs.declared.object.ObjRef.{ObjRef}
 use Rattle.widl_value.specs.declared.object.Shape.TheVariants as shapes
 use Rattle.widl_value.specs.declared.value.Value.{Value}
 use Rattle.widl_value.specs.declared.value.Value.TheVariants as values
-use Rattle.widl_value.specs.IdlTerms.{IdlTerm, UndefinedValue, NullValue, MissingValue, BooleanValue, IntegerValue, StringValue, EnumerationValue, ObjectValue, AnyValue, SequenceValue, RecordValue, DictionaryValue, PromiseValue, no_members}
+use Rattle.widl_value.specs.IdlTerms.{IdlTerm, UndefinedValue, NullValue, MissingValue, BooleanValue, IntegerValue, StringValue, EnumerationValue, ObjectValue, AnyValue, SequenceValue, RecordValue, DictionaryValue, PromiseValue}
 use Rattle.widl_scalar.specs.Primitives.{length_of}
 use Rattle.widl_store.specs.declared.inner.Builtin.{Builtin}
 use Rattle.widl_store.specs.declared.inner.Builtin.TheVariants as builtins
@@ -42,11 +41,11 @@ use Rattle.widl_steps.proofs.Finishing.{IsFine, fine, fine_if, fine_normal, fine
 use Rattle.widl_steps.specs.ArrayFunctions.{array_values, iterator_result, read_in_turn, given_in_turn, element_read, with_length, length_read, by_turn, cursor_in, by_cursor, array_iterator_next}
 use Rattle.widl_steps.specs.BuiltCalls.{BuiltCalls}
 use Rattle.widl_steps.specs.CallRules.{call_rule, intrinsic, function}
-use Rattle.widl_steps.specs.CallTasks.{CallTask, NamedValues, Of, Function, Lines, CallTalk}
+use Rattle.widl_steps.specs.CallTasks.{CallTask, Of, Function, CallTalk}
 use Rattle.widl_steps.specs.DefaultResults.{default_result}
 use Rattle.widl_steps.specs.ObjectFunctions.{kind_in, kind_tag, most_joined_units, object_to_string, object_value_of, tagged, with_tag, by_kind}
 use Rattle.widl_steps.specs.Operations.{StepsOf, result_type, returns_promise, steps_of, chosen, owned_operation}
-use Rattle.widl_steps.specs.StepLines.{argument_value, read_values, return_line, line, lines}
+use Rattle.widl_steps.specs.StepLines.{argument_value, return_line, line, lines}
 
 module _ (built : BuiltCalls) (list : DefsTerm) (blocks : StepsOf) (chains_end : ChainsEnd built.conversions list) where
   abbrev tasks : CallTask → CallTalk
@@ -71,6 +70,15 @@ module _ (built : BuiltCalls) (list : DefsTerm) (blocks : StepsOf) (chains_end :
   converts : (t : Task) → Is (Steps (Of t) End)
   converts t = through (Of t) End (fine_of t).ends an_end
 
+  -- the one steps, and where they end the others
+  then_good : (d : CallTalk) (k : TaskEnd → CallTalk) → Good tasks Fits d → ((r : TaskEnd) → Is (k r)) → Good tasks Fits (bind d k)
+  then_good (End r) k x all = (all r).good
+  then_good (Say q f) k x all = λ a fits. (finishes_bind tasks Fits (f a) k (x a fits).0 (λ r. (all r).ends), then_good (f a) k (x a fits).1 all)
+  then_good (Steps j f) k x all = λ r. (finishes_bind tasks Fits (f r) k (x r).0 (λ s. (all s).ends), then_good (f r) k (x r).1 all)
+
+  then_fine : (d : CallTalk) (k : TaskEnd → CallTalk) → Is d → ((r : TaskEnd) → Is (k r)) → Is (bind d k)
+  then_fine d k x all = record { ends = finishes_bind tasks Fits d k x.ends (λ r. (all r).ends); good = then_good d k x.good all }
+
   -- 1. The lines of a steps block
 
   fine_argument : (w : Option IdlTerm) → Is (argument_value w)
@@ -89,13 +97,13 @@ module _ (built : BuiltCalls) (list : DefsTerm) (blocks : StepsOf) (chains_end :
   fine_argument (Some (DictionaryValue n _)) = an_end _
   fine_argument (Some (PromiseValue o)) = an_end _
 
-  fine_return : (t : TypeTerm) (ws : NamedValues) (source : Source) → Is (return_line t ws source)
-  fine_return t ws (sources.Arg number) = fine_argument (lookup (nat_eq number) ws)
+  fine_return : (t : TypeTerm) (ws : List IdlTerm) (source : Source) → Is (return_line t ws source)
+  fine_return t ws (sources.Arg number) = fine_argument (slice_get ws number)
   fine_return t ws sources.This = an_end _
   fine_return t ws (sources.Slot name) = an_end _
   fine_return t ws (sources.Literal l) = converts (Default t (Some l))
 
-  fine_line : (t : TypeTerm) (ws : NamedValues) (l : StepLine) → Is (line t ws l)
+  fine_line : (t : TypeTerm) (ws : List IdlTerm) (l : StepLine) → Is (line t ws l)
   fine_line t ws (steps.Return source) = fine_return t ws source
   fine_line t ws (steps.ReturnInvoke invoke) = an_end _
   fine_line t ws (steps.SetSlot name source) = an_end _
@@ -104,7 +112,7 @@ module _ (built : BuiltCalls) (list : DefsTerm) (blocks : StepsOf) (chains_end :
   fine_line t ws (steps.Throw v) = an_end _
   fine_line t ws (steps.Invoke invoke) = an_end _
 
-  fine_default : (t : TypeTerm) → Is (default_result built.conversions list t)
+  fine_default : (t : TypeTerm) → Is (default_result list t)
   fine_default AnyType = an_end _
   fine_default UndefinedType = an_end _
   fine_default BooleanType = an_end _
@@ -114,7 +122,7 @@ module _ (built : BuiltCalls) (list : DefsTerm) (blocks : StepsOf) (chains_end :
   fine_default (InterfaceType n) = an_end _
   fine_default (CallbackFunctionType n) = an_end _
   fine_default (CallbackInterfaceType n) = an_end _
-  fine_default (DictionaryType n) = fine_if tasks (built.conversions.to_script (DictionaryValue n no_members)) _ _ (fine_if tasks (requires_member list n) _ _ (an_end _) (converts (Convert (DictionaryType n) values.Undefined))) (an_end _)
+  fine_default (DictionaryType n) = fine_if tasks (requires_member list n) _ _ (an_end _) (converts (Convert (DictionaryType n) values.Undefined))
   fine_default ObjectType = an_end _
   fine_default (SequenceType t) = an_end _
   fine_default (RecordType key t) = an_end _
@@ -122,7 +130,7 @@ module _ (built : BuiltCalls) (list : DefsTerm) (blocks : StepsOf) (chains_end :
   fine_default (NullableType t) = an_end _
   fine_default (UnionType ts) = an_end _
 
-  fine_lines : (t : TypeTerm) (ws : NamedValues) (ls : List StepLine) → Is (lines built.conversions list t ws ls)
+  fine_lines : (t : TypeTerm) (ws : List IdlTerm) (ls : List StepLine) → Is (lines list t ws ls)
   fine_lines t ws [] = fine_default t
   fine_lines t ws (l ∷ more) = fine_say tasks Fits UnitAsk _ DoneAnswer tt (λ a f. fine_line t ws l)
 
@@ -130,8 +138,7 @@ module _ (built : BuiltCalls) (list : DefsTerm) (blocks : StepsOf) (chains_end :
 
   fine_steps_of : (c : Callee) (e : ℕ) (ws : List IdlTerm) → Is (steps_of list blocks c e ws)
   fine_steps_of c e ws =
-      through (Lines (result_type list c e) (read_values (blocks c e) ws) (blocks c e)) _ (fine_lines _ (read_values (blocks c e) ws) (blocks c e)).ends
-      (fine_given tasks _ (λ w. converts (Out (result_type list c e) w)))
+      then_fine (lines list (result_type list c e) ws (blocks c e)) _ (fine_lines (result_type list c e) ws (blocks c e)) (fine_given tasks _ (λ w. converts (Out (result_type list c e) w)))
 
   fine_chosen : (c : Callee) (r : TaskEnd) → Is (chosen list blocks c r)
   fine_chosen c (Picks e ws) = fine_say tasks Fits _ _ DoneAnswer tt (λ a f. fine_steps_of c e ws)
@@ -268,7 +275,6 @@ module _ (built : BuiltCalls) (list : DefsTerm) (blocks : StepsOf) (chains_end :
   pub fine_call_rule : (t : CallTask) → IsFine (call_rule built list blocks) (call_rule built list blocks t)
   fine_call_rule (Of t) = fine_of t
   fine_call_rule (Function f what this args construct) = fine_if tasks (built.functions what) _ _ (fine_function what this args) (an_end _)
-  fine_call_rule (Lines t ws ls) = fine_lines t ws ls
 
   pub all_talked : AsksAreTalked (call_rule built list blocks)
   all_talked = asks_go_on (call_rule built list blocks) Fits (λ j. (fine_call_rule j).good)

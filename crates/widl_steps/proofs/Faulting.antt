@@ -50,7 +50,7 @@ use Rattle.widl_tables.specs.MemberOrder.{DeclaredMember, members_in_order}
 use Rattle.widl_steps.specs.Nullables.{inner_type, to_nullable}
 use Rattle.widl_steps.specs.Primitives.{tried, found_ordinary, try_method, ordinary, primitive_result, found_method, object_to_primitive, to_primitive}
 use Rattle.widl_steps.specs.Records.{is_enumerable, flags_in, keys_in, key_value, named, with_entry, entry_value, own_entry, entries, to_record}
-use Rattle.widl_steps.specs.Resolution.{with_entries, argument_task, argument, without_method, looked_for, sequence_given, from_method, probed, picked, arguments}
+use Rattle.widl_steps.specs.Resolution.{with_entries, argument_task, argument, by_entry, by_pick, sequence_given, from_method, kept, arguments}
 use Rattle.widl_steps.specs.Results.{entry_names, entry_items, member_names, member_items, container_ask, item_task, out_items, out_units, to_script}
 use Rattle.widl_steps.specs.Rules.{rule}
 use Rattle.widl_steps.specs.Scalars.{to_number, to_text, to_scalar, integer_result, string_result, is_bytes, to_string, null_or_string, enumeration_result, to_plain, convert_plain, to_type}
@@ -336,39 +336,42 @@ module _ (built : Built) (list : DefsTerm) where
 
   -- 3.3 Arguments
 
-  pass_argument : (c : Callee) (entries : List TupleTerm) (d : ℕ) (v : Value) (left : List Value) (made : List IdlTerm) → Is (argument list c entries d v left made)
-  pass_argument c [] d v left made = pass_end _
-  pass_argument c (entry ∷ more) d v left made = pass_given (argument_task list c entry (length made) v) _ (λ w. pass_on (Arguments c (entry ∷ more) d left (made ++ w ∷ [])))
+  pass_argument : (c : Callee) (d : ℕ) (left : List Value) (made : List IdlTerm) (v : Value) (entries : List TupleTerm) → Is (argument list c d left made v entries)
+  pass_argument c d left made v [] = pass_end _
+  pass_argument c d left made v (entry ∷ more) = pass_given (argument_task list c entry (length made) v) _ (λ w. pass_on (Arguments c (entry ∷ more) d left (made ++ w ∷ [])))
 
-  pass_without_method : (c : Callee) (entries : List TupleTerm) (d : ℕ) (v : Value) (left : List Value) (made : List IdlTerm) (p : Pick) → Is (without_method list c entries d v left made p)
-  pass_without_method c entries d v left made (Entry e) = pass_argument c (entry_alone e entries) d v left made
-  pass_without_method c entries d v left made (Probe e) = pass_end _
-  pass_without_method c entries d v left made Refuse = pass_end _
+  pass_sequence_given : (c : Callee) (d : ℕ) (left : List Value) (made : List IdlTerm) (entries : List TupleTerm) (o method : ObjRef) (t : Option TypeTerm) → Is (sequence_given list c d left made entries o method t)
+  pass_sequence_given c d left made entries o method (Some t) = pass_given (SequenceFrom t o method) _ (λ w. pass_on (Arguments c entries d left (made ++ w ∷ [])))
+  pass_sequence_given c d left made entries o method None = pass_end _
 
-  pass_sequence_given : (c : Callee) (entries : List TupleTerm) (d : ℕ) (left : List Value) (made : List IdlTerm) (o method : ObjRef) (t : Option TypeTerm) → Is (sequence_given c entries d left made o method t)
-  pass_sequence_given c entries d left made o method (Some t) = pass_given (SequenceFrom t o method) _ (λ w. pass_on (Arguments c entries d left (made ++ w ∷ [])))
-  pass_sequence_given c entries d left made o method None = pass_end _
+  pass_from_method : (c : Callee) (d : ℕ) (left : List Value) (made : List IdlTerm) (o method : ObjRef) (entries : List TupleTerm) → Is (from_method list c d left made o method entries)
+  pass_from_method c d left made o method [] = pass_end _
+  pass_from_method c d left made o method (entry ∷ more) = pass_sequence_given c d left made (entry ∷ more) o method (element_within (type_at entry (length made)))
 
-  pass_from_method : (c : Callee) (entries : List TupleTerm) (d : ℕ) (left : List Value) (made : List IdlTerm) (o method : ObjRef) → Is (from_method c entries d left made o method)
-  pass_from_method c [] d left made o method = pass_end _
-  pass_from_method c (entry ∷ more) d left made o method = pass_sequence_given c (entry ∷ more) d left made o method (element_within (type_at entry (length made)))
+  pass_kept : (c : Callee) (d : ℕ) (left : List Value) (made : List IdlTerm) (v : Value) (found : Option (ObjRef × ObjRef)) (entries : List TupleTerm) → Is (kept list c d left made v found entries)
+  pass_kept c d left made v None entries = pass_argument c d left made v entries
+  pass_kept c d left made v (Some found) entries = pass_from_method c d left made found.0 found.1 entries
 
-  pass_picked : (c : Callee) (entries : List TupleTerm) (d : ℕ) (v : Value) (left : List Value) (made : List IdlTerm) (p : Pick) → Is (picked built list c entries d v left made p)
-  pass_picked c entries d v left made (Entry e) = pass_argument c (entry_alone e entries) d v left made
-  pass_picked c entries d v left made (Probe e) =
-      pass_object _ _ (λ o. pass_ask _ (probed built list c entries d o left made)
-      (pass_method _ _ (pass_without_method c entries d (values.Obj o) left made (pick_of list entries (length made) (class_of (values.Obj o)) true))
-      (λ method. pass_if (built.to_type (SequenceType AnyType)) _ _
-      (pass_from_method c (looked_for entries (pick_of list entries (length made) (class_of (values.Obj o)) false)) d left made o method) (pass_end _)))) v
-  pass_picked c entries d v left made Refuse = pass_end _
+  pass_by_entry : (k : List TupleTerm → Talk) → ((entries : List TupleTerm) → Is (k entries)) → (entries : List TupleTerm) (p : Pick) → Is (by_entry k entries p)
+  pass_by_entry k each entries (Entry e) = each (entry_alone e entries)
+  pass_by_entry k each entries (Probe e) = pass_end _
+  pass_by_entry k each entries Refuse = pass_end _
+
+  pass_by_pick : (d : ℕ) (v : Value) (k : Option (ObjRef × ObjRef) → List TupleTerm → Talk) → ((found : Option (ObjRef × ObjRef)) (entries : List TupleTerm) → Is (k found entries)) → (entries : List TupleTerm) (p : Pick) → Is (by_pick built list d v k entries p)
+  pass_by_pick d v k each entries (Entry e) = each None (entry_alone e entries)
+  pass_by_pick d v k each entries (Probe e) =
+      pass_object _ _ (λ o. pass_ask _ _
+      (pass_method _ _ (pass_by_entry (k None) (each None) entries (pick_of list entries d (class_of v) true))
+      (λ method. pass_if (built.to_type (SequenceType AnyType)) _ _ (each (Some (o, method)) (entry_alone e entries)) (pass_end _)))) v
+  pass_by_pick d v k each entries Refuse = pass_end _
 
   pass_arguments : (c : Callee) (entries : List TupleTerm) (d : ℕ) (left : List Value) (made : List IdlTerm) → Is (arguments built list c entries d left made)
   pass_arguments c [] d left made = pass_end _
   pass_arguments c (entry ∷ []) d [] made = pass_on (Defaults c entry.overload made)
-  pass_arguments c (entry ∷ []) d (v ∷ left) made = pass_argument c (entry ∷ []) d v left made
+  pass_arguments c (entry ∷ []) d (v ∷ left) made = pass_argument c d left made v (entry ∷ [])
   pass_arguments c (entry ∷ other ∷ more) d [] made = pass_end _
   pass_arguments c (entry ∷ other ∷ more) d (v ∷ left) made =
-      pass_if (nat_eq (length made) d) _ _ (pass_picked c (entry ∷ other ∷ more) d v left made (pick_of list (entry ∷ other ∷ more) d (class_of v) false)) (pass_argument c (entry ∷ other ∷ more) d v left made)
+      pass_if (nat_eq (length made) d) _ _ (pass_by_pick d v _ (pass_kept c d left made v) (entry ∷ other ∷ more) (pick_of list (entry ∷ other ∷ more) d (class_of v) false)) (pass_argument c d left made v (entry ∷ other ∷ more))
 
   pass_entries_kept : (c : Callee) (entries : List TupleTerm) (args : List Value) → Is (with_entries list c entries args)
   pass_entries_kept c [] args = pass_end _

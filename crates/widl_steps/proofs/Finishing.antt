@@ -64,7 +64,7 @@ use Rattle.widl_steps.specs.Laws.{AsksAreTalked, ChainsEnd}
 use Rattle.widl_tables.specs.MemberOrder.{DeclaredMember, members_in_order}
 use Rattle.widl_steps.specs.Nullables.{inner_type, to_nullable}
 use Rattle.widl_steps.specs.Primitives.{tried, found_ordinary, try_method, ordinary, primitive_result, found_method, object_to_primitive, to_primitive}
-use Rattle.widl_steps.specs.Resolution.{with_entries, default_at, takes_default, argument_task, argument, without_method, looked_for, sequence_given, from_method, probed, picked, of_several}
+use Rattle.widl_steps.specs.Resolution.{with_entries, default_at, takes_default, argument_task, argument, by_entry, by_pick, sequence_given, from_method, kept, of_several}
 use Rattle.widl_steps.specs.Records.{is_enumerable, flags_in, keys_in, key_value, with_entry, entry_value, own_entry, entries, to_record}
 use Rattle.widl_steps.specs.Results.{entry_names, entry_items, member_names, member_items, container_ask, item_task, out_items, out_units, to_script}
 use Rattle.widl_steps.specs.Rules.{rule}
@@ -574,50 +574,53 @@ module _ (built : Built) (list : DefsTerm) (chains_end : ChainsEnd built list) w
   abbrev Later : Callee → ℕ → List Value → Type 0
   Later c d left = (entries : List TupleTerm) (made : List IdlTerm) → Finishes steps Fits (steps (Arguments c entries d left made))
 
-  fine_argument : (c : Callee) (entries : List TupleTerm) (d : ℕ) (v : Value) (left : List Value) (made : List IdlTerm) → Later c d left → Is (argument list c entries d v left made)
-  fine_argument c [] d v left made later = an_end _
-  fine_argument c (entry ∷ more) d v left made later =
+  fine_argument : (c : Callee) (d : ℕ) (left : List Value) (made : List IdlTerm) → Later c d left → (v : Value) (entries : List TupleTerm) → Is (argument list c d left made v entries)
+  fine_argument c d left made later v [] = an_end _
+  fine_argument c d left made later v (entry ∷ more) =
       through (argument_task list c entry (length made) v) _
       (ends_argument_task (takes_default (optionality_at entry (length made)) v) (type_at entry (length made)) (default_at list c entry.overload (length made)) v)
       (fine_given steps _ (λ w. goes (Arguments c (entry ∷ more) d left (made ++ w ∷ [])) (later (entry ∷ more) (made ++ w ∷ []))))
 
-  fine_without : (c : Callee) (entries : List TupleTerm) (d : ℕ) (v : Value) (left : List Value) (made : List IdlTerm) (p : Pick) → Later c d left → Is (without_method list c entries d v left made p)
-  fine_without c entries d v left made (Entry e) later = fine_argument c (entry_alone e entries) d v left made later
-  fine_without c entries d v left made (Probe e) later = an_end _
-  fine_without c entries d v left made Refuse later = an_end _
-
-  fine_sequence_given : (c : Callee) (entries : List TupleTerm) (d : ℕ) (left : List Value) (made : List IdlTerm) (o method : ObjRef) (t : Option TypeTerm) → Later c d left → Is (sequence_given c entries d left made o method t)
-  fine_sequence_given c entries d left made o method (Some t) later =
+  fine_sequence_given : (c : Callee) (d : ℕ) (left : List Value) (made : List IdlTerm) → Later c d left → (entries : List TupleTerm) (o method : ObjRef) (t : Option TypeTerm) → Is (sequence_given list c d left made entries o method t)
+  fine_sequence_given c d left made later entries o method (Some t) =
       through (SequenceFrom t o method) _ (fine_sequence_from t o method).ends (fine_given steps _ (λ w. goes (Arguments c entries d left (made ++ w ∷ [])) (later entries (made ++ w ∷ []))))
-  fine_sequence_given c entries d left made o method None later = an_end _
+  fine_sequence_given c d left made later entries o method None = an_end _
 
-  fine_from_method : (c : Callee) (entries : List TupleTerm) (d : ℕ) (left : List Value) (made : List IdlTerm) (o method : ObjRef) → Later c d left → Is (from_method c entries d left made o method)
-  fine_from_method c [] d left made o method later = an_end _
-  fine_from_method c (entry ∷ more) d left made o method later = fine_sequence_given c (entry ∷ more) d left made o method (element_within (type_at entry (length made))) later
+  fine_from_method : (c : Callee) (d : ℕ) (left : List Value) (made : List IdlTerm) → Later c d left → (o method : ObjRef) (entries : List TupleTerm) → Is (from_method list c d left made o method entries)
+  fine_from_method c d left made later o method [] = an_end _
+  fine_from_method c d left made later o method (entry ∷ more) = fine_sequence_given c d left made later (entry ∷ more) o method (element_within (type_at entry (length made)))
 
-  fine_picked : (c : Callee) (entries : List TupleTerm) (d : ℕ) (v : Value) (left : List Value) (made : List IdlTerm) (p : Pick) → Later c d left → Is (picked built list c entries d v left made p)
-  fine_picked c entries d v left made (Entry e) later = fine_argument c (entry_alone e entries) d v left made later
-  fine_picked c entries d v left made (Probe e) later =
-      fine_object steps _ _ (λ o. fine_ask steps _ (probed built list c entries d o left made) tt
-      (fine_method steps _ _ (fine_without c entries d (values.Obj o) left made (pick_of list entries (length made) (class_of (values.Obj o)) true) later)
-      (λ method. fine_if steps (built.to_type (SequenceType AnyType)) _ _
-      (fine_from_method c (looked_for entries (pick_of list entries (length made) (class_of (values.Obj o)) false)) d left made o method later) (an_end _)))) v
-  fine_picked c entries d v left made Refuse later = an_end _
+  fine_kept : (c : Callee) (d : ℕ) (left : List Value) (made : List IdlTerm) → Later c d left → (v : Value) (found : Option (ObjRef × ObjRef)) (entries : List TupleTerm) → Is (kept list c d left made v found entries)
+  fine_kept c d left made later v None entries = fine_argument c d left made later v entries
+  fine_kept c d left made later v (Some found) entries = fine_from_method c d left made later found.0 found.1 entries
 
-  fine_several : (c : Callee) (entries : List TupleTerm) (d : ℕ) (v : Value) (left : List Value) (made : List IdlTerm) → Later c d left → Is (of_several built list c entries d v left made)
-  fine_several c entries d v left made later =
-      fine_if steps (nat_eq (length made) d) _ _ (fine_picked c entries d v left made (pick_of list entries d (class_of v) false) later) (fine_argument c entries d v left made later)
+  fine_by_entry : (k : List TupleTerm → Talk) → ((entries : List TupleTerm) → Is (k entries)) → (entries : List TupleTerm) (p : Pick) → Is (by_entry k entries p)
+  fine_by_entry k each entries (Entry e) = each (entry_alone e entries)
+  fine_by_entry k each entries (Probe e) = an_end _
+  fine_by_entry k each entries Refuse = an_end _
+
+  fine_by_pick : (d : ℕ) (v : Value) (k : Option (ObjRef × ObjRef) → List TupleTerm → Talk) → ((found : Option (ObjRef × ObjRef)) (entries : List TupleTerm) → Is (k found entries)) → (entries : List TupleTerm) (p : Pick) → Is (by_pick built list d v k entries p)
+  fine_by_pick d v k each entries (Entry e) = each None (entry_alone e entries)
+  fine_by_pick d v k each entries (Probe e) =
+      fine_object steps _ _ (λ o. fine_ask steps _ _ tt
+      (fine_method steps _ _ (fine_by_entry (k None) (each None) entries (pick_of list entries d (class_of v) true))
+      (λ method. fine_if steps (built.to_type (SequenceType AnyType)) _ _ (each (Some (o, method)) (entry_alone e entries)) (an_end _)))) v
+  fine_by_pick d v k each entries Refuse = an_end _
+
+  fine_several : (c : Callee) (d : ℕ) (left : List Value) (made : List IdlTerm) → Later c d left → (v : Value) (entries : List TupleTerm) → Is (of_several built list c d left made v entries)
+  fine_several c d left made later v entries =
+      fine_if steps (nat_eq (length made) d) _ _ (fine_by_pick d v _ (fine_kept c d left made later v) entries (pick_of list entries d (class_of v) false)) (fine_argument c d left made later v entries)
 
   fine_arguments : (c : Callee) (entries : List TupleTerm) (d : ℕ) (left : List Value) (made : List IdlTerm) → Is (steps (Arguments c entries d left made))
   fine_arguments c [] d left made = an_end _
   fine_arguments c (entry ∷ []) d [] made = goes (Defaults c entry.overload made) (fine_all_defaults c entry.overload made).ends
-  fine_arguments c (entry ∷ []) d (v ∷ left) made = fine_argument c (entry ∷ []) d v left made (λ entries m. (fine_arguments c entries d left m).ends)
+  fine_arguments c (entry ∷ []) d (v ∷ left) made = fine_argument c d left made (λ entries m. (fine_arguments c entries d left m).ends) v (entry ∷ [])
   fine_arguments c (entry ∷ other ∷ more) d [] made = an_end _
-  fine_arguments c (entry ∷ other ∷ more) d (v ∷ left) made = fine_several c (entry ∷ other ∷ more) d v left made (λ entries m. (fine_arguments c entries d left m).ends)
+  fine_arguments c (entry ∷ other ∷ more) d (v ∷ left) made = fine_several c d left made (λ entries m. (fine_arguments c entries d left m).ends) v (entry ∷ other ∷ more)
 
-  fine_kept : (c : Callee) (entries : List TupleTerm) (args : List Value) → Is (with_entries list c entries args)
-  fine_kept c [] args = an_end _
-  fine_kept c (entry ∷ more) args = goes (Arguments c (entry ∷ more) (telling_place list (entry ∷ more)) args []) (fine_arguments c (entry ∷ more) (telling_place list (entry ∷ more)) args []).ends
+  fine_entries_kept : (c : Callee) (entries : List TupleTerm) (args : List Value) → Is (with_entries list c entries args)
+  fine_entries_kept c [] args = an_end _
+  fine_entries_kept c (entry ∷ more) args = goes (Arguments c (entry ∷ more) (telling_place list (entry ∷ more)) args []) (fine_arguments c (entry ∷ more) (telling_place list (entry ∷ more)) args []).ends
 
   -- 2.11 Results
 
@@ -675,7 +678,7 @@ module _ (built : Built) (list : DefsTerm) (chains_end : ChainsEnd built list) w
   fine_rule (Turns t iterator next made) = fine_turns t iterator next made
   fine_rule (Entries key t o left made) = fine_entries key t o left made
   fine_rule (Members n o left made) = fine_members n o left (all_members_made left) made
-  fine_rule (Resolve c args) = fine_kept c _ _
+  fine_rule (Resolve c args) = fine_entries_kept c _ _
   fine_rule (Arguments c entries d left made) = fine_arguments c entries d left made
   fine_rule (Default t l) = fine_default t l
   fine_rule (Defaults c e made) = fine_all_defaults c e made

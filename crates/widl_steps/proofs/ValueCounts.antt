@@ -46,7 +46,7 @@ use Rattle.widl_steps.specs.Built.{Built}
 use Rattle.widl_steps.specs.Defaults.{default, defaults_from, literal_value}
 use Rattle.widl_steps.specs.Laws.{Said}
 use Rattle.widl_steps.specs.Primitives.{tried, found_ordinary, try_method, ordinary, primitive_result, found_method, object_to_primitive, to_primitive}
-use Rattle.widl_steps.specs.Resolution.{with_entries, default_at, takes_default, argument, without_method, probed, picked, of_several, from_method, looked_for, sequence_given}
+use Rattle.widl_steps.specs.Resolution.{with_entries, default_at, takes_default, argument, by_entry, by_pick, of_several, from_method, kept, sequence_given}
 use Rattle.widl_steps.specs.ResolutionLaws.{OthersAreNotLookedAt, ValuesAreCounted, before_variadic, value_count}
 use Rattle.widl_steps.specs.Rules.{rule}
 use Rattle.widl_steps.specs.Scalars.{to_number, to_text, to_scalar, integer_result, string_result, is_bytes, to_string, null_or_string, enumeration_result, to_plain, convert_plain, to_type}
@@ -380,55 +380,62 @@ module _ (built : Built) (list : DefsTerm) where
   after_argument c entries place left made n is (Picks f ws) h = absurd h
   after_argument c entries place left made n is r h = tt
 
-  counted_argument : (c : Callee) (entries : List TupleTerm) (place : ℕ) (v : Value) (left : List Value) (made : List IdlTerm) (n : ℕ) → n ≡ length made + suc (length left) → Each (Counted list c n) (argument list c entries place v left made)
-  counted_argument c [] place v left made n is = tt
-  counted_argument c (entry ∷ more) place v left made n is =
+  counted_argument : (c : Callee) (place : ℕ) (left : List Value) (made : List IdlTerm) (n : ℕ) → n ≡ length made + suc (length left) → (v : Value) (entries : List TupleTerm) → Each (Counted list c n) (argument list c place left made v entries)
+  counted_argument c place left made n is v [] = tt
+  counted_argument c place left made n is v (entry ∷ more) =
       λ r h. after_argument c (entry ∷ more) place left made n is r
       (no_task (takes_default (optionality_at entry (length made)) v) (type_at entry (length made)) (default_at list c entry.overload (length made)) v r h)
-
-  counted_without : (c : Callee) (entries : List TupleTerm) (place : ℕ) (v : Value) (left : List Value) (made : List IdlTerm) (n : ℕ) (p : Pick) → n ≡ length made + suc (length left) → Each (Counted list c n) (without_method list c entries place v left made p)
-  counted_without c entries place v left made n (Entry e) is = counted_argument c (entry_alone e entries) place v left made n is
-  counted_without c entries place v left made n p is = tt
 
   each_if : (P : TaskEnd → Type 0) (b : Bool) (d e : Talk) → Each P d → Each P e → Each P (if b then d else e)
   each_if P true d e x y = x
   each_if P false d e x y = y
 
-  counted_sequence : (c : Callee) (entries : List TupleTerm) (place : ℕ) (left : List Value) (made : List IdlTerm) (n : ℕ) → n ≡ length made + suc (length left) → (o method : ObjRef) (t : Option TypeTerm) → Each (Counted list c n) (sequence_given c entries place left made o method t)
-  counted_sequence c entries place left made n is o method (Some t) = λ r h. after_argument c entries place left made n is r h
-  counted_sequence c entries place left made n is o method None = tt
+  counted_sequence : (c : Callee) (place : ℕ) (left : List Value) (made : List IdlTerm) (n : ℕ) → n ≡ length made + suc (length left) → (entries : List TupleTerm) (o method : ObjRef) (t : Option TypeTerm) → Each (Counted list c n) (sequence_given list c place left made entries o method t)
+  counted_sequence c place left made n is entries o method (Some t) = λ r h. after_argument c entries place left made n is r h
+  counted_sequence c place left made n is entries o method None = tt
 
-  counted_from : (c : Callee) (entries : List TupleTerm) (place : ℕ) (left : List Value) (made : List IdlTerm) (n : ℕ) → n ≡ length made + suc (length left) → (o method : ObjRef) → Each (Counted list c n) (from_method c entries place left made o method)
-  counted_from c [] place left made n is o method = tt
-  counted_from c (entry ∷ more) place left made n is o method = counted_sequence c (entry ∷ more) place left made n is o method (element_within (type_at entry (length made)))
+  counted_from : (c : Callee) (place : ℕ) (left : List Value) (made : List IdlTerm) (n : ℕ) → n ≡ length made + suc (length left) → (o method : ObjRef) (entries : List TupleTerm) → Each (Counted list c n) (from_method list c place left made o method entries)
+  counted_from c place left made n is o method [] = tt
+  counted_from c place left made n is o method (entry ∷ more) = counted_sequence c place left made n is (entry ∷ more) o method (element_within (type_at entry (length made)))
 
-  counted_probed : (c : Callee) (entries : List TupleTerm) (place : ℕ) (o : ObjRef) (left : List Value) (made : List IdlTerm) (n : ℕ) → n ≡ length made + suc (length left) → (v : Value) → Each (Counted list c n) (probed built list c entries place o left made v)
-  counted_probed c entries place o left made n is values.Undefined = counted_without c entries place (values.Obj o) left made n (pick_of list entries (length made) (class_of (values.Obj o)) true) is
-  counted_probed c entries place o left made n is values.Null = counted_without c entries place (values.Obj o) left made n (pick_of list entries (length made) (class_of (values.Obj o)) true) is
-  counted_probed c entries place o left made n is (values.Obj f) = by f.shape
-    where
-      by : (s : Shape) → Each (Counted list c n) (if_callable s (if_sequences built (from_method c (looked_for entries (pick_of list entries (length made) (class_of (values.Obj o)) false)) place left made o f)) (fails code.NotCallable))
-      by shapes.Callable = each_if (Counted list c n) (built.to_type (SequenceType AnyType)) _ not_built (counted_from c (looked_for entries (pick_of list entries (length made) (class_of (values.Obj o)) false)) place left made n is o f) tt
-      by s = tt
-  counted_probed c entries place o left made n is v = tt
+  counted_kept : (c : Callee) (place : ℕ) (left : List Value) (made : List IdlTerm) (n : ℕ) → n ≡ length made + suc (length left) → (v : Value) (found : Option (ObjRef × ObjRef)) (entries : List TupleTerm) → Each (Counted list c n) (kept list c place left made v found entries)
+  counted_kept c place left made n is v None entries = counted_argument c place left made n is v entries
+  counted_kept c place left made n is v (Some found) entries = counted_from c place left made n is found.0 found.1 entries
 
   counted_normal : (c : Callee) (n : ℕ) (k : Value → Talk) → ((v : Value) → Each (Counted list c n) (k v)) → (a : AnswerTerm) → Each (Counted list c n) (normal k a)
   counted_normal c n k all (NormalAnswer v) = all v
   counted_normal c n k all (ThrownAnswer v) = tt
   counted_normal c n k all a = all values.Undefined
 
-  counted_picked : (c : Callee) (entries : List TupleTerm) (place : ℕ) (v : Value) (left : List Value) (made : List IdlTerm) (n : ℕ) (p : Pick) → n ≡ length made + suc (length left) → Each (Counted list c n) (picked built list c entries place v left made p)
-  counted_picked c entries place v left made n (Entry e) is = counted_argument c (entry_alone e entries) place v left made n is
-  counted_picked c entries place (values.Obj o) left made n (Probe e) is = λ a. counted_normal c n (probed built list c entries place o left made) (counted_probed c entries place o left made n is) a
-  counted_picked c entries place v left made n (Probe e) is = tt
-  counted_picked c entries place v left made n Refuse is = tt
-
-  counted_several : (c : Callee) (entries : List TupleTerm) (place : ℕ) (v : Value) (left : List Value) (made : List IdlTerm) → Each (Counted list c (length made + suc (length left))) (of_several built list c entries place v left made)
-  counted_several c entries place v left made = by (nat_eq (length made) place)
+  counted_method : (c : Callee) (n : ℕ) (d : Talk) (k : ObjRef → Talk) → Each (Counted list c n) d → ((method : ObjRef) → Each (Counted list c n) (k method)) → (v : Value) → Each (Counted list c n) (method_or d k v)
+  counted_method c n d k x all values.Undefined = x
+  counted_method c n d k x all values.Null = x
+  counted_method c n d k x all (values.Obj method) = by method.shape
     where
-      by : (b : Bool) → Each (Counted list c (length made + suc (length left))) (if b then picked built list c entries place v left made (pick_of list entries place (class_of v) false) else argument list c entries place v left made)
-      by true = counted_picked c entries place v left made (length made + suc (length left)) (pick_of list entries place (class_of v) false) refl
-      by false = counted_argument c entries place v left made (length made + suc (length left)) refl
+      by : (s : Shape) → Each (Counted list c n) (if_callable s (k method) (fails code.NotCallable))
+      by shapes.Callable = all method
+      by s = tt
+  counted_method c n d k x all v = tt
+
+  counted_by_entry : (c : Callee) (n : ℕ) (k : List TupleTerm → Talk) → ((entries : List TupleTerm) → Each (Counted list c n) (k entries)) → (entries : List TupleTerm) (p : Pick) → Each (Counted list c n) (by_entry k entries p)
+  counted_by_entry c n k all entries (Entry e) = all (entry_alone e entries)
+  counted_by_entry c n k all entries p = tt
+
+  counted_by_pick : (c : Callee) (n place : ℕ) (v : Value) (k : Option (ObjRef × ObjRef) → List TupleTerm → Talk) → ((found : Option (ObjRef × ObjRef)) (entries : List TupleTerm) → Each (Counted list c n) (k found entries)) → (entries : List TupleTerm) (p : Pick) → Each (Counted list c n) (by_pick built list place v k entries p)
+  counted_by_pick c n place v k all entries (Entry e) = all None (entry_alone e entries)
+  counted_by_pick c n place (values.Obj o) k all entries (Probe e) =
+      λ a. counted_normal c n
+      (method_or (by_entry (k None) entries (pick_of list entries place (class_of (values.Obj o)) true)) (λ method. if_sequences built (k (Some (o, method)) (entry_alone e entries))))
+      (counted_method c n _ _ (counted_by_entry c n (k None) (all None) entries (pick_of list entries place (class_of (values.Obj o)) true))
+      (λ method. each_if (Counted list c n) (built.to_type (SequenceType AnyType)) _ not_built (all (Some (o, method)) (entry_alone e entries)) tt)) a
+  counted_by_pick c n place v k all entries (Probe e) = tt
+  counted_by_pick c n place v k all entries Refuse = tt
+
+  counted_several : (c : Callee) (place : ℕ) (left : List Value) (made : List IdlTerm) (v : Value) (entries : List TupleTerm) → Each (Counted list c (length made + suc (length left))) (of_several built list c place left made v entries)
+  counted_several c place left made v entries =
+      each_if (Counted list c (length made + suc (length left))) (nat_eq (length made) place) _ _
+      (counted_by_pick c (length made + suc (length left)) place v _ (counted_kept c place left made (length made + suc (length left)) refl v) entries (pick_of list entries place (class_of v) false))
+      (counted_argument c place left made (length made + suc (length left)) refl v entries)
 
   few_count : (sigs : List SigTerm) (n : ℕ) → counted_args sigs n ≤ n
   few_count sigs n = by (list_any (λ (s : SigTerm). is_variadic_list s.args) sigs)
@@ -443,9 +450,9 @@ module _ (built : Built) (list : DefsTerm) where
   so_arguments : (c : Callee) (entries : List TupleTerm) (place : ℕ) (left : List Value) (made : List IdlTerm) → So (Arguments c entries place left made)
   so_arguments c [] place left made = tt
   so_arguments c (entry ∷ []) place [] made = λ r h. of_overload c entry.overload (length made) (length made + 0) r (omega arith) h
-  so_arguments c (entry ∷ []) place (v ∷ left) made = counted_argument c (entry ∷ []) place v left made (length made + suc (length left)) refl
+  so_arguments c (entry ∷ []) place (v ∷ left) made = counted_argument c place left made (length made + suc (length left)) refl v (entry ∷ [])
   so_arguments c (entry ∷ other ∷ more) place [] made = tt
-  so_arguments c (entry ∷ other ∷ more) place (v ∷ left) made = counted_several c (entry ∷ other ∷ more) place v left made
+  so_arguments c (entry ∷ other ∷ more) place (v ∷ left) made = counted_several c place left made v (entry ∷ other ∷ more)
 
   so_resolve : (c : Callee) (entries : List TupleTerm) (args : List Value) → Each (Counted list c (argcount_of list c (length args))) (with_entries list c entries (take (argcount_of list c (length args)) args))
   so_resolve c [] args = tt

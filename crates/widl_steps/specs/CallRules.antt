@@ -10,10 +10,9 @@ use Rattle.widl_steps.specs.Rules.{rule}
 use Rattle.widl_steps.specs.Words.{never_run, not_built}
 use Rattle.widl_steps.specs.ArrayFunctions.{array_values, array_iterator_next, iterator_itself}
 use Rattle.widl_steps.specs.BuiltCalls.{BuiltCalls}
-use Rattle.widl_steps.specs.CallTasks.{CallTask, Of, Function, Lines, CallTalk}
+use Rattle.widl_steps.specs.CallTasks.{CallTask, Of, Function, CallTalk}
 use Rattle.widl_steps.specs.ObjectFunctions.{object_to_string, object_value_of}
 use Rattle.widl_steps.specs.Operations.{StepsOf, operation}
-use Rattle.widl_steps.specs.StepLines.{lines}
 
 -- #8 `toString` and #9 `valueOf` of objects; #15 `toString` of functions, #16 `toString` of errors and #17 `then` of promises, which no run
 -- does; #12 `values` of arrays, #13 `next` of array iterators and #14, by which an iterator is iterated over itself. #10 and #11 of arrays have no
@@ -40,4 +39,3 @@ function list steps (builtins.Pairs iface what) this args = not_built
 abbrev pub call_rule : BuiltCalls → DefsTerm → StepsOf → CallTask → CallTalk
 call_rule built list steps (Of t) = rename Of (rule built.conversions list t)
 call_rule built list steps (Function f what this args construct) = if built.functions what then function list steps what this args else not_built
-call_rule built list steps (Lines t named ls) = lines built.conversions list t named ls

@@ -3,7 +3,7 @@
 use Rattle.std.specs.Prelude.{ℕ, Bool, true, false, if◌then◌else◌, List, [], slice_get, Option, None, Some, option_map}
 use Rattle.std.specs.List.{list_any}
 use Rattle.std.specs.Option.{option_and_then, option_map_or}
-use Rattle.widl_dialog.specs.Dialog.{End, Say, Steps}
+use Rattle.widl_dialog.specs.Dialog.{End, Say, Steps, bind}
 use Rattle.widl_idl.specs.declared.callee.Callee.{Callee}
 use Rattle.widl_idl.specs.declared.callee.Owner.{Owner}
 use Rattle.widl_idl.specs.declared.callee.Owner.TheVariants as owners
@@ -20,8 +20,8 @@ use Rattle.widl_trace.specs.EventTerms.{OperationEvent}
 use Rattle.widl_steps.specs.AskTerms.{NoteAsk}
 use Rattle.widl_steps.specs.Tasks.{Resolve, Out, Picks, TaskEnd}
 use Rattle.widl_steps.specs.Words.{done, given, not_built}
-use Rattle.widl_steps.specs.CallTasks.{Of, Lines, CallTalk}
-use Rattle.widl_steps.specs.StepLines.{Operation, lines_for, read_values}
+use Rattle.widl_steps.specs.CallTasks.{Of, CallTalk}
+use Rattle.widl_steps.specs.StepLines.{Operation, lines, lines_for}
 
 -- 1. What an operation is
 
@@ -63,9 +63,10 @@ returns_promise list callee = list_any (λ (s : SigTerm). is_promise s.returned)
 abbrev pub result : TypeTerm → TaskEnd → CallTalk
 result t = given (λ w. Steps (Of (Out t w)) End)
 
+-- the lines of its steps block are done, and what they give goes to script
 abbrev pub steps_of : DefsTerm → StepsOf → Callee → ℕ → List IdlTerm → CallTalk
 steps_of list steps callee overload ws =
-    Steps (Lines (result_type list callee overload) (read_values (steps callee overload) ws) (steps callee overload)) (result (result_type list callee overload))
+    bind (lines list (result_type list callee overload) ws (steps callee overload)) (result (result_type list callee overload))
 
 -- an overload is chosen and its arguments have their values: its line is written, and its steps are done
 abbrev pub chosen : DefsTerm → StepsOf → Callee → TaskEnd → CallTalk

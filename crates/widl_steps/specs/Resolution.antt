@@ -19,7 +19,7 @@ use Rattle.widl_value.specs.declared.value.Value.TheVariants as values
 use Rattle.widl_value.specs.IdlTerms.{IdlTerm}
 use Rattle.widl_trace.specs.declared.code.Code.TheVariants as code
 use Rattle.widl_tables.specs.declared.pick.Pick.{Pick}
-use Rattle.widl_tables.specs.declared.pick.Pick.TheVariants.{Entry, Probe, Refuse}
+use Rattle.widl_tables.specs.declared.pick.Pick.TheVariants.{Entry, Probe}
 use Rattle.widl_tables.specs.Kept.{argcount_of, entry_alone, kept_tuples, telling_place}
 use Rattle.widl_tables.specs.Picks.{pick_of}
 use Rattle.widl_steps.specs.AskTerms.{GetAsk}
@@ -28,8 +28,8 @@ use Rattle.widl_steps.specs.Sequences.{iterator_symbol, element_within, if_seque
 use Rattle.widl_steps.specs.Tasks.{Task, SequenceFrom, Arguments, Convert, Default, Defaults, Talk, TaskEnd}
 use Rattle.widl_steps.specs.Words.{fails, normal, object, method_or, given}
 
--- 1. Steps 1 to 8. Entries of one length are kept; where there is none, a TypeError is thrown. Where there are several, one place tells them
--- apart.
+-- 1. Steps 1 to 10. Entries of one length are kept; where there is none, a TypeError is thrown. Where there are several, one place tells them
+-- apart. No argument has its value yet.
 
 abbrev pub with_entries : DefsTerm → Callee → List TupleTerm → List Value → Talk
 with_entries list callee [] args = fails code.NoOverload
@@ -40,8 +40,8 @@ abbrev pub resolve : DefsTerm → Callee → List Value → Talk
 resolve list callee args =
     with_entries list callee (kept_tuples list callee (length args)) (take (argcount_of list callee (length args)) args)
 
--- 2. Steps 11 and 15: an argument by the type and the optionality value of an entry. An optional argument that is undefined gives its default
--- value, or is missing.
+-- 2. Steps 11 and 15: the next argument, V, by the type and the optionality value of an entry. An optional argument that is undefined gives its
+-- default value, or is missing; any other is converted.
 
 abbrev pub takes_default : Optionality → Value → Bool
 takes_default Optional values.Undefined = true
@@ -54,64 +54,62 @@ abbrev pub argument_task : DefsTerm → Callee → TupleTerm → ℕ → Value �
 argument_task list callee entry place v =
     if takes_default (optionality_at entry place) v then Default (type_at entry place) (default_at list callee entry.overload place) else Convert (type_at entry place) v
 
--- its value comes after those before it, and the arguments that are left go on
-abbrev pub argument_given : Callee → List TupleTerm → ℕ → List Value → List IdlTerm → TaskEnd → Talk
-argument_given callee entries place left made = given (λ w. Steps (Arguments callee entries place left (made ++ w ∷ [])) End)
+-- where the algorithm stands: the place that tells entries apart, the arguments after V, and the values of those before it
+module _ (list : DefsTerm) (callee : Callee) (place : ℕ) (left : List Value) (made : List IdlTerm) where
+  -- V's value comes after the others, and the arguments after V follow
+  abbrev pub argument_given : List TupleTerm → TaskEnd → Talk
+  argument_given entries = given (λ w. Steps (Arguments callee entries place left (made ++ w ∷ [])) End)
 
--- below the place that tells them apart all entries agree, so the first one serves
-abbrev pub argument : DefsTerm → Callee → List TupleTerm → ℕ → Value → List Value → List IdlTerm → Talk
-argument list callee [] place v left made = fails code.NoMatch
-argument list callee (entry ∷ more) place v left made =
-    Steps (argument_task list callee entry (length made) v) (argument_given callee (entry ∷ more) place left made)
+  -- by the first entry: before the place that tells them apart all agree, and after it one is left
+  abbrev pub argument : Value → List TupleTerm → Talk
+  argument v [] = fails code.NoMatch
+  argument v (entry ∷ more) = Steps (argument_task list callee entry (length made) v) (argument_given (entry ∷ more))
 
--- 3. Steps 12 to 14: the argument at that place. The first test that an entry meets keeps this entry alone.
+-- 3. Step 12: V at the place that tells the entries apart. The first test that one of them meets keeps this entry alone. One test looks for a
+-- sequence type, and reads V's method `@iterator` first; where V has none, the tests after it decide.
 
--- the entry that is kept takes the argument
-abbrev pub kept : DefsTerm → Callee → List TupleTerm → ℕ → ℕ → Value → List Value → List IdlTerm → Talk
-kept list callee entries e place v left made = argument list callee (entry_alone e entries) place v left made
+-- goes on with the entry that is picked
+abbrev pub by_entry : (List TupleTerm → Talk) → List TupleTerm → Pick → Talk
+by_entry k entries (Entry e) = k (entry_alone e entries)
+by_entry k entries _ = fails code.NoMatch
 
--- without a method `@iterator` the later tests are asked
-abbrev pub without_method : DefsTerm → Callee → List TupleTerm → ℕ → Value → List Value → List IdlTerm → Pick → Talk
-without_method list callee entries place v left made (Entry e) = kept list callee entries e place v left made
-without_method list callee entries place v left made (Probe e) = fails code.NoMatch
-without_method list callee entries place v left made Refuse = fails code.NoMatch
+-- goes on with it, and with V and the method where there is one
+abbrev pub by_pick : Built → DefsTerm → ℕ → Value → (Option (ObjRef × ObjRef) → List TupleTerm → Talk) → List TupleTerm → Pick → Talk
+by_pick built list place v k entries (Probe e) =
+    object code.NoMatch
+    (λ o. Say (GetAsk o (keys.Sym iterator_symbol)) (normal (method_or
+    (by_entry (k None) entries (pick_of list entries place (class_of v) true))
+    (λ method. if_sequences built (k (Some (o, method)) (entry_alone e entries)))))) v
+by_pick built list place v k entries pick = by_entry (k None) entries pick
 
--- with it, the entry is kept for whose sequence type it was looked, and the sequence is made from the object and the method, which isn't read
--- again
-abbrev pub looked_for : List TupleTerm → Pick → List TupleTerm
-looked_for entries (Probe e) = entry_alone e entries
-looked_for entries _ = []
+-- 4. Steps 13 to 15: the entry that is left takes V. With a method the value is the sequence that is made from V and it, in the entry's sequence
+-- type; the method isn't read again.
 
-abbrev pub sequence_given : Callee → List TupleTerm → ℕ → List Value → List IdlTerm → ObjRef → ObjRef → Option TypeTerm → Talk
-sequence_given callee entries place left made o method (Some t) = Steps (SequenceFrom t o method) (argument_given callee entries place left made)
-sequence_given callee entries place left made o method None = fails code.NoMatch
+module _ (list : DefsTerm) (callee : Callee) (place : ℕ) (left : List Value) (made : List IdlTerm) where
+  abbrev pub sequence_given : List TupleTerm → ObjRef → ObjRef → Option TypeTerm → Talk
+  sequence_given entries o method (Some t) = Steps (SequenceFrom t o method) (argument_given list callee place left made entries)
+  sequence_given entries o method None = fails code.NoMatch
 
-abbrev pub from_method : Callee → List TupleTerm → ℕ → List Value → List IdlTerm → ObjRef → ObjRef → Talk
-from_method callee [] place left made o method = fails code.NoMatch
-from_method callee (entry ∷ more) place left made o method = sequence_given callee (entry ∷ more) place left made o method (element_within (type_at entry (length made)))
+  abbrev pub from_method : ObjRef → ObjRef → List TupleTerm → Talk
+  from_method o method [] = fails code.NoMatch
+  from_method o method (entry ∷ more) = sequence_given (entry ∷ more) o method (element_within (type_at entry (length made)))
 
-abbrev pub probed : Built → DefsTerm → Callee → List TupleTerm → ℕ → ObjRef → List Value → List IdlTerm → Value → Talk
-probed built list callee entries place o left made =
-    method_or (without_method list callee entries place (values.Obj o) left made (pick_of list entries (length made) (class_of (values.Obj o)) true))
-    (λ method. if_sequences built (from_method callee (looked_for entries (pick_of list entries (length made) (class_of (values.Obj o)) false)) place left made o method))
+  abbrev pub kept : Value → Option (ObjRef × ObjRef) → List TupleTerm → Talk
+  kept v None entries = argument list callee place left made v entries
+  kept v (Some found) entries = from_method found.0 found.1 entries
 
-abbrev pub picked : Built → DefsTerm → Callee → List TupleTerm → ℕ → Value → List Value → List IdlTerm → Pick → Talk
-picked built list callee entries place v left made (Entry e) = kept list callee entries e place v left made
-picked built list callee entries place v left made (Probe e) =
-    object code.NoMatch (λ o. Say (GetAsk o (keys.Sym iterator_symbol)) (normal (probed built list callee entries place o left made))) v
-picked built list callee entries place v left made Refuse = fails code.NoMatch
+-- 5. The arguments in order, each of them V once. After them one entry is left, and its declared arguments beyond them follow (steps 16 and 17).
 
-abbrev pub of_several : Built → DefsTerm → Callee → List TupleTerm → ℕ → Value → List Value → List IdlTerm → Talk
-of_several built list callee entries place v left made =
+-- V, where several entries are left
+abbrev pub of_several : Built → DefsTerm → Callee → ℕ → List Value → List IdlTerm → Value → List TupleTerm → Talk
+of_several built list callee place left made v entries =
     if nat_eq (length made) place
-    then picked built list callee entries place v left made (pick_of list entries place (class_of v) false)
-    else argument list callee entries place v left made
-
--- 4. The arguments in order. With one entry left they are all taken by it, and its declared arguments beyond them follow.
+    then by_pick built list place v (kept list callee place left made v) entries (pick_of list entries place (class_of v) false)
+    else argument list callee place left made v entries
 
 abbrev pub arguments : Built → DefsTerm → Callee → List TupleTerm → ℕ → List Value → List IdlTerm → Talk
 arguments built list callee [] place left made = fails code.NoMatch
 arguments built list callee (entry ∷ []) place [] made = Steps (Defaults callee entry.overload made) End
-arguments built list callee (entry ∷ []) place (v ∷ left) made = argument list callee (entry ∷ []) place v left made
+arguments built list callee (entry ∷ []) place (v ∷ left) made = argument list callee place left made v (entry ∷ [])
 arguments built list callee (entry ∷ other ∷ more) place [] made = fails code.NoMatch
-arguments built list callee (entry ∷ other ∷ more) place (v ∷ left) made = of_several built list callee (entry ∷ other ∷ more) place v left made
+arguments built list callee (entry ∷ other ∷ more) place (v ∷ left) made = of_several built list callee place left made v (entry ∷ other ∷ more)

@@ -1,7 +1,7 @@
 -- Worked conversations with everything built: the functions of arrays and array iterators, and default results.
 use Rattle.std.specs.Prelude.{◌≡◌, ℕ, [], ◌∷◌, None, Some, Bool, true, false, codes, refl}
 use Rattle.std.specs.Fmt.{digits}
-use Rattle.widl_dialog.specs.Conversation.{Asks, Ends, Next}
+use Rattle.widl_dialog.specs.Conversation.{Asks, Comes, Ends, Next}
 use Rattle.widl_dialog.proofs.Nexts.{one_next}
 use Rattle.widl_text.specs.declared.key.Key.TheVariants as keys
 use Rattle.widl_idl.specs.declared.text_kind.TextKind.TheVariants as texts
@@ -25,7 +25,8 @@ use Rattle.widl_steps.specs.Tasks.{TaskEnd, Gives, Plain, Throw, Rethrow, Profil
 use Rattle.widl_steps.proofs.Worked.{number, integer, plain, function, gets_name, takes_unit, dictionary, required_member, with_dictionaries, derived, long, nothing_defined, everything_built}
 use Rattle.widl_steps.specs.BuiltCalls.{BuiltCalls}
 use Rattle.widl_steps.specs.CallRules.{call_rule}
-use Rattle.widl_steps.specs.CallTasks.{Function, Lines}
+use Rattle.widl_steps.specs.CallTasks.{Function}
+use Rattle.widl_steps.specs.DefaultResults.{default_result}
 use Rattle.widl_steps.specs.Operations.{StepsOf}
 
 abbrev all_built : BuiltCalls
@@ -160,7 +161,7 @@ not_ended x =
 -- 6. Results where no line returns
 
 abbrev Results : DefsTerm → TypeTerm → Said → Next AskTerm TaskEnd → Type 0
-Results list t said next = IsNext (call_rule all_built list no_steps) (Lines t [] []) said next
+Results list t said next = Comes (call_rule all_built list no_steps) Fits (default_result list t) said next
 
 null_of_nullable : Results nothing_defined (NullableType (SequenceType long)) [] (Ends (Gives NullValue))
 null_of_nullable = (60, refl)

@@ -1,9 +1,9 @@
 use Rattle.std.proofs.Common.{ap, false}
 use Rattle.widl_dialog.specs.Dialog.{Steps}
 use Rattle.widl_steps.specs.CallTasks.{Function}
-use Rattle.widl_runs.specs.Calls.{talked}
 use Rattle.widl_runs.specs.Jobs.{Doing, Talk}
 use Rattle.widl_engine.specs.declared.jobs.BuiltinCall.{BuiltinCall}
+use Rattle.widl_engine.specs.Calling.{talked}
 use Rattle.widl_engine.proofs.ContextLaws.{builtin_performed}
 use Rattle.widl_engine.proofs.entering.enter_builtin.Goals as goal
 
