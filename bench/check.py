@@ -114,6 +114,7 @@ def hostile():
         "4 typedefs of unions of 100 sequences of the one before": [unions(100, 4)],
         "the same of 40": [unions(40, 4)],
         "3 typedefs of unions of 1,000 sequences of the one before": [unions(1000, 3)],
+        "2 typedefs of unions of 8,000 sequences of the one before": [unions(8000, 2)],
         "the 4 in an attribute": [unions(100, 4) + "interface A{attribute sequence<T4> a;};"],
         "`?` after `?`, through 17 typedefs": pack(["typedef long? T0;"] + numbered("typedef T{this}? T{next};", 16)),
         "a typedef's name of 100,000 bytes, through another in 5,000 arguments": pack(

@@ -9,9 +9,9 @@ use Rattle.widl_idl.specs.declared.types.IdlType.{IdlType}
 use Rattle.widl_idl.specs.Terms.{type_term}
 use Rattle.widl_idl.proofs.Members.{terms_more}
 use Rattle.widl_overload.specs.declared.category.Category.{Category}
-use Rattle.widl_overload.specs.declared.category.Category.TheVariants.{Never, Interface}
+use Rattle.widl_overload.specs.declared.category.Category.TheVariants.{Interface}
 use Rattle.widl_overload.specs.sets.Distinct.{category}
-use Rattle.widl_type_rules.specs.IndistinguishableKinds.{is_met, nothing_seen, with_kind}
+use Rattle.widl_type_rules.specs.IndistinguishableKinds.{is_met, with_kind}
 use Rattle.widl_type_rules.specs.IndistinguishablePairs.{any_pair, clash, interface_number, listed}
 use Rattle.widl_type_rules.specs.declared.kinds_seen.KindsSeen.{KindsSeen}
 use Rattle.widl_type_rules.proofs.AnyPair.{any_pair_none, any_pair_push, any_pair_start, or_true}

@@ -1,5 +1,6 @@
 pub mod ResolvedUses
 pub mod SettledUses
+pub mod UnaskedUses
 pub mod ListedUses
 mod IndistinguishableKinds
 mod IndistinguishablePairs

@@ -1,5 +1,5 @@
 -- The rules on types ask no more of what a type means than its outline tells.
-use Rattle.std.proofs.Common.{◌≡◌, ℕ, ◌+◌, ◌<◌, ◌++◌, Bool, true, ◌||◌, List, [], ◌∷◌, map, nat_eq, not, Option, None, Some, refl, sym, ap, subst, ◌∙◌}
+use Rattle.std.proofs.Common.{◌≡◌, ◌+◌, ◌<◌, ◌++◌, Bool, true, ◌||◌, List, [], ◌∷◌, map, nat_eq, not, Option, None, Some, refl, sym, ap, subst, ◌∙◌}
 use Rattle.std.proofs.lemmas.List.{map-append}
 use Rattle.std.proofs.lemmas.Result.{IfOk-weaker}
 use Rattle.std.specs.Prelude.{IfOk, Result}
@@ -17,7 +17,6 @@ use Rattle.widl_idl.specs.Terms.{TypeTerm, TypeTerms, NullableType, UnionType, n
 use Rattle.widl_idl.specs.WrittenTypes.{annotation_of}
 use Rattle.widl_names.specs.declared.extent.Extent.TheVariants.{Outline}
 use Rattle.widl_names.specs.Extents.{made_members, outline}
-use Rattle.widl_overload.specs.declared.category.Category.{Category}
 use Rattle.widl_overload.specs.declared.validity_rule.ValidityRule.{ValidityRule}
 use Rattle.widl_overload.specs.declared.validity_rule.ValidityRule.TheVariants as rule
 use Rattle.widl_overload.specs.rules.OnTypes.{BreaksType, BreaksUse, type_rules, with_meaning}

@@ -78,7 +78,7 @@ settled_word definitions role PlainUndefined e = refl
 settled_word definitions role (PlainNamed name) e = of_meaning definitions role (meaning definitions name.text) (meant_kind definitions name.text) e
 settled_word definitions role form e = cc
 
-both_true : (a b : Bool) → (a && b) ≡ true → (a ≡ true) × (b ≡ true)
+pub both_true : (a b : Bool) → (a && b) ≡ true → (a ≡ true) × (b ≡ true)
 both_true true b e = (refl, e)
 both_true false b e = cc
 
@@ -90,7 +90,7 @@ not_true : (a : Bool) → not a ≡ true → a ≡ false
 not_true true e = cc
 not_true false e = refl
 
-none_is : (attributes : List PlainAttribute) → are_none attributes ≡ true → attributes ≡ []
+pub none_is : (attributes : List PlainAttribute) → are_none attributes ≡ true → attributes ≡ []
 none_is [] e = refl
 none_is (a ∷ more) e = cc
 
@@ -136,7 +136,7 @@ no_notes definitions role PlainUndefined inner e = refl
 no_notes definitions role (PlainNamed name) inner e = notes_of_meaning definitions role (meaning definitions name.text) (meant_kind definitions name.text) inner e
 no_notes definitions role form inner e = cc
 
-nothing_listed : {X : Type 0} (xs : List X) (x : X) → xs ≡ [] → Contains xs x → ⊥
+pub nothing_listed : {X : Type 0} (xs : List X) (x : X) → xs ≡ [] → Contains xs x → ⊥
 nothing_listed [] x e h = omega (arith, h.1)
 nothing_listed (y ∷ xs) x e h = cc
 

@@ -4,3 +4,4 @@ pub mod Misplaced
 pub mod IndistinguishableKinds
 pub mod IndistinguishablePairs
 pub mod Lineages
+pub mod UnaskedUses

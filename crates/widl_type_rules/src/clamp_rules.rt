@@ -5,21 +5,24 @@ ghost use Rattle.std.specs.Prelude.{◌≡◌, option_and_then, option_map};
 ghost use Rattle.widl_idl.specs.First.{FirstWhere, violation_at};
 ghost use Rattle.widl_idl.specs.PlainTrees.{plain_definitions};
 ghost use Rattle.widl_overload.specs.rules.TypeRules.{HasClampAndEnforceRange, later};
-ghost use Rattle.widl_type_rules.specs.UsesListed.{resolved_use};
+ghost use Rattle.widl_type_rules.specs.UsesListed.{use_of};
 
-use crate::resolved_uses::ResolvedUse;
+use crate::type_uses::TypeUse;
 use widl_idl::{Violation, comes_before};
 use widl_names::{Annotations, Resolver};
 use widl_text::Place;
 
 /// The first place at which a type has `[Clamp]` and `[EnforceRange]`, which is the name that stands
 /// later.
-pub fn clamp_and_enforce<'a>(resolver: &Resolver<'_, 'a>, ty: &ResolvedUse<'a>) -> Option<Violation>
-    ensures { FirstWhere (HasClampAndEnforceRange (plain_definitions resolver.now) (resolved_use ty.now).written) result }
+pub fn clamp_and_enforce<'a>(
+    resolver: &Resolver<'_, 'a>,
+    written: &TypeUse<'a>,
+) -> Option<Violation>
+    ensures { FirstWhere (HasClampAndEnforceRange (plain_definitions resolver.now) (use_of written.now)) result }
 {
-    let outer = Annotations::of(ty.written.outer);
-    let own = Annotations::of(ty.written.own);
-    let all = resolver.all_annotations(outer.followed_by(own), ty.written.ty);
+    let outer = Annotations::of(written.outer);
+    let own = Annotations::of(written.own);
+    let all = resolver.all_annotations(outer.followed_by(own), written.ty);
     later_of_both(all.clamp, all.enforce)
 }
 

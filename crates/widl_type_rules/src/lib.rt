@@ -16,6 +16,7 @@ mod resolved_uses;
 mod role_rules;
 mod type_refusals;
 mod type_uses;
+mod unasked_uses;
 mod union_rules;
 
 pub use type_refusals::find_in_types;

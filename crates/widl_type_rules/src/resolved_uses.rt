@@ -35,7 +35,7 @@ pub fn is_settled(meanings: &Meanings<'_, '_>, written: &TypeUse<'_>) -> bool
 }
 
 /// Whether there are no extended attributes.
-fn are_none(outer: &[ExtendedAttribute], own: &[ExtendedAttribute]) -> bool
+pub fn are_none(outer: &[ExtendedAttribute], own: &[ExtendedAttribute]) -> bool
     ensures { result ≡ are_none (map attribute_of outer.now ++ map attribute_of own.now) }
 {
     if outer.is_empty() {

@@ -23,6 +23,7 @@ use crate::nullable_rules::{
 use crate::resolved_uses::{ResolvedUse, is_settled, resolve_use};
 use crate::role_rules::{copied_attribute, other_constant_type, undefined_inside};
 use crate::type_uses::{TypeUse, list_type_uses};
+use crate::unasked_uses::{find_unasked, is_unasked};
 use crate::union_rules::indistinguishable_union;
 use std::alloc::{AllocError, Global};
 use widl_idl::tree::DefinitionKind;
@@ -74,7 +75,8 @@ fn find_in_definition<'a>(
     Ok(best)
 }
 
-/// The first refusal by a type where it is written. Most types break no rule, as is seen without what they mean.
+/// The first refusal by a type where it is written. Most types break no rule, as is seen without what they mean, and of
+/// others no rule asks that.
 fn find_in_use<'a>(
     alloc: Global,
     defs: &Defs,
@@ -87,6 +89,8 @@ fn find_in_use<'a>(
 {
     if is_settled(scope.meanings(), written) {
         Ok(None)
+    } else if is_unasked(written) {
+        Ok(find_unasked(scope.resolver(), written))
     } else {
         let resolver = scope.resolver();
         let ty = resolve_use(alloc, resolver, written)?;
@@ -109,7 +113,7 @@ fn find_in_type<'a>(
 {
     let found = indistinguishable_union(alloc, defs, lineages, ty)?;
     let best = first(None, ValidityRule::IndistinguishableUnionMembers, found);
-    let found = clamp_and_enforce(resolver, ty);
+    let found = clamp_and_enforce(resolver, &ty.written);
     let best = first(best, ValidityRule::ClampAndEnforceRange, found);
     let best = first(
         best,

@@ -12,7 +12,7 @@ use Rattle.widl_type_rules.proofs.clamp_rules.clamp_and_enforce.Goals as goal
 pub returns : goal.returns
 returns c =
     let definitions = plain_definitions c.args.resolver.now in
-    let written = c.args.ty.now.written in
+    let written = c.args.written.now in
     let outer = map attribute_of written.outer.now in
     let own = map attribute_of written.own.now in
     let all = c.all_annotations-all.result in

@@ -14,6 +14,14 @@ use Rattle.widl_type_rules.proofs.type_refusals.find_in_use.Goals as goal
 pub returns-then-is_settled : goal.returns-then-is_settled
 returns-then-is_settled c = λ r b. no_type_rule (plain_definitions c.args.scope.now) (use_of c.args.written.now) (ap (λ d. is_settled (plain_definitions d) (use_of c.args.written.now)) (sym c.meanings.ensures) ∙ sym c.is_settled.ensures ∙ c.if-is_settled.true) (defs_term c.args.defs.now).ifaces b.which (violation_of r) b.breaks
 
+pub returns-then-is_unasked : goal.returns-then-is_unasked
+returns-then-is_unasked c =
+    let ifaces = (defs_term c.args.defs.now).ifaces in
+    subst (λ ds. IsFirst (λ which. BreaksUse ifaces (plain_definitions ds) which (use_of c.args.written.now)) type_rules c.find_unasked.result) c.resolver.ensures (c.find_unasked.ensures ifaces)
+
+pub find_unasked-requires : goal.find_unasked-requires
+find_unasked-requires c = sym c.is_unasked.ensures ∙ c.if-is_unasked.true
+
 pub returns-in_ok-ty : goal.returns-in_ok-ty
 returns-in_ok-ty c =
     let ifaces = (defs_term c.args.defs.now).ifaces in
