@@ -17,7 +17,7 @@ ghost use Rattle.widl_engine.specs.Frames.{LeadsTo, after_charge, after_line, af
 ghost use Rattle.widl_engine.specs.ReadOver.{IsReadOver};
 
 use crate::charges::{AfterLine, Charge, Unit};
-use crate::due::{Due, Made, New, Then};
+use crate::due::{Due, Made, NewObject, Then};
 use crate::ends::{Completion, JobEnd};
 use crate::frames::{Frame, ValueFrame};
 use crate::jobs::{Calling, Job, KeyPart, RowUse};
