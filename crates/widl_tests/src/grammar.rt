@@ -46,29 +46,24 @@ fn expect_rules(rt: &impl Abort, alloc: Global, rules: &[Rule]) {
     }
 }
 
-const RULES: [&[Rule]; 15] = [
-    &definitions::DEFINITIONS,
-    &definitions::CALLBACKS,
-    &definitions::INTERFACES,
-    &definitions::PARTIALS,
-    &definitions::DICTIONARIES_AND_ENUMERATIONS,
-    &definitions::EXTENDED_ATTRIBUTES,
-    &members::MEMBERS,
-    &members::CONSTANTS,
-    &members::ATTRIBUTES_AND_OPERATIONS,
-    &members::ITERABLES,
-    &members::ARGUMENTS,
-    &types::TYPES,
-    &types::UNIONS,
-    &types::PRIMITIVE_TYPES,
-    &types::ENDS_TOO_EARLY,
-];
-
 #[test]
 fn rules(rt: HostRuntime) {
-    for table in &RULES {
-        expect_rules(&rt, rt.alloc(), table);
-    }
+    let alloc = rt.alloc();
+    expect_rules(&rt, alloc, &definitions::DEFINITIONS);
+    expect_rules(&rt, alloc, &definitions::CALLBACKS);
+    expect_rules(&rt, alloc, &definitions::INTERFACES);
+    expect_rules(&rt, alloc, &definitions::PARTIALS);
+    expect_rules(&rt, alloc, &definitions::DICTIONARIES_AND_ENUMERATIONS);
+    expect_rules(&rt, alloc, &definitions::EXTENDED_ATTRIBUTES);
+    expect_rules(&rt, alloc, &members::MEMBERS);
+    expect_rules(&rt, alloc, &members::CONSTANTS);
+    expect_rules(&rt, alloc, &members::ATTRIBUTES_AND_OPERATIONS);
+    expect_rules(&rt, alloc, &members::ITERABLES);
+    expect_rules(&rt, alloc, &members::ARGUMENTS);
+    expect_rules(&rt, alloc, &types::TYPES);
+    expect_rules(&rt, alloc, &types::UNIONS);
+    expect_rules(&rt, alloc, &types::PRIMITIVE_TYPES);
+    expect_rules(&rt, alloc, &types::ENDS_TOO_EARLY);
 }
 
 /// The answer for the file number 3, of this text.
@@ -81,4 +76,15 @@ fn check(rt: &impl Abort, alloc: Global, text: &str) -> Result<(), SyntaxFault> 
 /// A file of this text has this answer.
 fn expect_answer(rt: &impl Abort, alloc: Global, text: &str, answer: Result<(), SyntaxFault>) {
     expect(rt, check(rt, alloc, text) == answer, text);
+}
+
+#[test]
+fn files(rt: HostRuntime) {
+    let alloc = rt.alloc();
+    files::expect_faults(&rt, alloc, &files::FAULTS);
+    files::expect_sentences(&rt, alloc, &files::SENTENCES);
+    files::expect_deepest(&rt, alloc);
+    depth::expect_levels(&rt, alloc, &depth::LEVELS);
+    depth::expect_attribute_arguments(&rt, alloc);
+    terminals::expect_quoted(&rt, alloc, &terminals::SENTENCES);
 }

@@ -32,7 +32,7 @@ fn nested(
 
 /// What stands before a type, the type, what stands after it, and the byte of the first type that is too deep
 /// where it lies in 16 others. In the union inside 15 third members the first member is that type.
-const LEVELS: [((&str, &str, &str), u32); 5] = [
+pub const LEVELS: [((&str, &str, &str), u32); 5] = [
     (("Promise<", "any", ">"), 136),
     (("record<DOMString, ", "any", ">"), 296),
     (("sequence<", "long?", ">?"), 152),
@@ -52,28 +52,27 @@ fn expect_nested(
     expect_answer(rt, alloc, &text, answer);
 }
 
-#[test]
-fn a_type_in_16_others_is_too_deep(rt: HostRuntime) {
-    for (parts, at) in &LEVELS {
+/// A type in 16 others is too deep.
+pub fn expect_levels(rt: &impl Abort, alloc: Global, rows: &[((&str, &str, &str), u32)]) {
+    for (parts, at) in rows {
         let deep = SyntaxFault::TooDeep(Place { file: 3, at: *at });
-        expect_nested(&rt, rt.alloc(), 15, *parts, Ok(()));
-        expect_nested(&rt, rt.alloc(), 16, *parts, Err(deep));
+        expect_nested(rt, alloc, 15, *parts, Ok(()));
+        expect_nested(rt, alloc, 16, *parts, Err(deep));
     }
 }
 
-// Extended attributes in the arguments of extended attributes have no limit, and need no stack of the
-// program's.
-#[test]
-fn attribute_arguments_nest_without_a_limit(rt: HostRuntime) {
-    let mut terminals = Vec::new(rt.alloc());
-    let opening = [
-        Terminal::OpenBracket,
-        Terminal::Identifier,
-        Terminal::OpenParen,
-    ];
+const OPENING: [Terminal; 3] = [
+    Terminal::OpenBracket,
+    Terminal::Identifier,
+    Terminal::OpenParen,
+];
+
+/// Extended attributes in the arguments of extended attributes have no limit, and need no stack of the program's.
+pub fn expect_attribute_arguments(rt: &impl Abort, alloc: Global) {
+    let mut terminals = Vec::new(alloc);
     for _ in 0..350_000u32 {
-        sure(&rt, terminals.extend_from_slice(&opening));
+        sure(rt, terminals.extend_from_slice(&OPENING));
     }
-    let found = read_definitions(rt.alloc(), &terminals);
-    expect(&rt, found == Err(Fault::Syntax(1_050_000)), "the end");
+    let found = read_definitions(alloc, &terminals);
+    expect(rt, found == Err(Fault::Syntax(1_050_000)), "the end");
 }

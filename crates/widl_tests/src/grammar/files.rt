@@ -2,6 +2,8 @@
 
 use super::expect_answer;
 use crate::shared::sure;
+use std::alloc::Global;
+use std::process::Abort;
 use std::string::String;
 use widl_grammar::SyntaxFault;
 use widl_text::Place;
@@ -11,7 +13,7 @@ fn syntax(at: u32) -> Result<(), SyntaxFault> {
 }
 
 /// Texts, and the offsets of their faults.
-const FAULTS: [(&str, u32); 4] = [
+pub const FAULTS: [(&str, u32); 4] = [
     ("interface I { attribute long", 28),
     ("interface I { attribute long }", 29),
     ("typedef long T; // twice\nlong", 25),
@@ -19,7 +21,7 @@ const FAULTS: [(&str, u32); 4] = [
 ];
 
 /// Texts without a fault, which have each kind of token.
-const SENTENCES: [&str; 6] = [
+pub const SENTENCES: [&str; 6] = [
     "",
     "[A=_interface] typedef _long T;",
     "dictionary D { long a = -0x1F; };",
@@ -28,22 +30,23 @@ const SENTENCES: [&str; 6] = [
     "namespace N { long f(long... a); };",
 ];
 
-#[test]
-fn places_are_offsets_in_the_file(rt: HostRuntime) {
-    for (text, at) in &FAULTS {
-        expect_answer(&rt, rt.alloc(), text, syntax(*at));
-    }
-    for text in &SENTENCES {
-        expect_answer(&rt, rt.alloc(), text, Ok(()));
+pub fn expect_faults(rt: &impl Abort, alloc: Global, rows: &[(&str, u32)]) {
+    for (text, at) in rows {
+        expect_answer(rt, alloc, text, syntax(*at));
     }
 }
 
-// A file of 1 MiB, nested as deep as one can be.
-#[test]
-fn nesting_needs_no_stack(rt: HostRuntime) {
-    let mut text = String::new(rt.alloc());
-    for _ in 0..349_525u32 {
-        sure(&rt, text.push_str("[A("));
+pub fn expect_sentences(rt: &impl Abort, alloc: Global, rows: &[&str]) {
+    for text in rows {
+        expect_answer(rt, alloc, text, Ok(()));
     }
-    expect_answer(&rt, rt.alloc(), &text, syntax(1_048_575));
+}
+
+/// A file of 1 MiB, nested as deep as one can be.
+pub fn expect_deepest(rt: &impl Abort, alloc: Global) {
+    let mut text = String::new(alloc);
+    for _ in 0..349_525u32 {
+        sure(rt, text.push_str("[A("));
+    }
+    expect_answer(rt, alloc, &text, syntax(1_048_575));
 }

@@ -7,7 +7,7 @@ use std::process::Abort;
 use widl_grammar::{Terminal, quoted};
 
 /// Sentences that have each quoted terminal between them.
-const SENTENCES: [&str; 14] = [
+pub const SENTENCES: [&str; 14] = [
     "callback F = any ( ) ; callback interface C { } ; I includes M ; enum E { \"a\" , } ;",
     "partial interface I { } ; dictionary D : E { required long a ; D b = { } ; D c = null ; } ;",
     "interface I : J { constructor ( ) ; const long A = true ; const long B = false ; } ;",
@@ -38,12 +38,12 @@ fn add_quoted(rt: &impl Abort, found: &mut Vec<Terminal>, sentence: &str) {
     }
 }
 
-#[test]
-fn each_quoted_terminal_is_accepted(rt: HostRuntime) {
-    let mut found = Vec::new(rt.alloc());
-    for sentence in &SENTENCES {
-        expect(&rt, read(&rt, rt.alloc(), sentence).is_ok(), sentence);
-        add_quoted(&rt, &mut found, sentence);
+/// Each quoted terminal is accepted.
+pub fn expect_quoted(rt: &impl Abort, alloc: Global, sentences: &[&str]) {
+    let mut found = Vec::new(alloc);
+    for sentence in sentences {
+        expect(rt, read(rt, alloc, sentence).is_ok(), sentence);
+        add_quoted(rt, &mut found, sentence);
     }
-    expect(&rt, found.len() == QUOTED, "the quoted terminals");
+    expect(rt, found.len() == QUOTED, "the quoted terminals");
 }

@@ -52,20 +52,26 @@ fn many_values(rt: &impl Abort, alloc: Global, count: u16) -> Texts {
     values
 }
 
-#[test]
-fn finds_the_first_place(rt: HostRuntime) {
-    let defs = with_values(&rt, rt.alloc(), few_values(&rt, rt.alloc()));
-    for (choice, text, want) in &PLACES {
-        let found = enum_at(&defs, *choice, &units(&rt, rt.alloc(), text));
-        expect(&rt, found == *want, text);
+fn expect_places(rt: &impl Abort, alloc: Global, rows: &[(u32, &str, Option<u32>)]) {
+    let defs = with_values(rt, alloc, few_values(rt, alloc));
+    for (choice, text, want) in rows {
+        let found = enum_at(&defs, *choice, &units(rt, alloc, text));
+        expect(rt, found == *want, text);
     }
 }
 
+/// The last of so many values is found, and a value more isn't.
+fn expect_last(rt: &impl Abort, alloc: Global, count: u16) {
+    let defs = with_values(rt, alloc, many_values(rt, alloc, count));
+    let last = u32::from(count.saturating_sub(1));
+    let found = enum_at(&defs, 0, &numbered(rt, alloc, count.saturating_sub(1)));
+    expect(rt, found == Some(last), "the last value");
+    let found = enum_at(&defs, 0, &numbered(rt, alloc, count));
+    expect(rt, found.is_none(), "a value more");
+}
+
 #[test]
-fn finds_the_last_of_many_values(rt: HostRuntime) {
-    let defs = with_values(&rt, rt.alloc(), many_values(&rt, rt.alloc(), 50_000));
-    for (unit, want) in &[(49_999, Some(49_999)), (50_000, None)] {
-        let found = enum_at(&defs, 0, &numbered(&rt, rt.alloc(), *unit));
-        expect(&rt, found == *want, "one of many values");
-    }
+fn values_have_places(rt: HostRuntime) {
+    expect_places(&rt, rt.alloc(), &PLACES);
+    expect_last(&rt, rt.alloc(), 50_000);
 }

@@ -1,5 +1,6 @@
 //! Numbers to integers.
 
+use std::process::Abort;
 use widl_idl::{IntKind, Mode};
 use widl_scalar::{NotInRange, to_int};
 use widl_value::Number;
@@ -53,10 +54,13 @@ const INTEGERS: [(Number, IntKind, Mode, Result<i128, NotInRange>); 15] = [
     ),
 ];
 
+fn expect_integers(rt: &impl Abort, rows: &[(Number, IntKind, Mode, Result<i128, NotInRange>)]) {
+    for (number, kind, mode, want) in rows {
+        assert!(rt; to_int(*number, *kind, *mode) == *want, "{number:?}");
+    }
+}
+
 #[test]
 fn wraps_clamps_and_enforces(rt: HostRuntime) {
-    for (number, kind, mode, want) in &INTEGERS {
-        let found = to_int(*number, *kind, *mode);
-        assert!(rt; found == *want, "{number:?} to {kind:?} by {mode:?}");
-    }
+    expect_integers(&rt, &INTEGERS);
 }

@@ -46,20 +46,23 @@ const WORDS: [(Number, &str); 3] = [
     (Number::NegInf, "-Infinity"),
 ];
 
-#[test]
-fn writes_the_fewest_digits(rt: HostRuntime) {
-    for (v, want) in &FEWEST_DIGITS {
-        let number = rounded(*v).unwrap_or(Number::NaN);
-        expect_text(&rt, rt.alloc(), number, want);
+/// The texts of the Numbers nearest to integers, or of the integers themselves.
+fn expect_integers(rt: &impl Abort, alloc: Global, rows: &[(i128, &str)], exact: bool) {
+    for (v, want) in rows {
+        let nearest = if exact { None } else { rounded(*v) };
+        expect_text(rt, alloc, nearest.unwrap_or(Number::Whole(*v)), want);
+    }
+}
+
+fn expect_words(rt: &impl Abort, alloc: Global, rows: &[(Number, &str)]) {
+    for (number, want) in rows {
+        expect_text(rt, alloc, *number, want);
     }
 }
 
 #[test]
-fn writes_what_is_no_number_and_words(rt: HostRuntime) {
-    for (v, want) in &EXACT_DIGITS {
-        expect_text(&rt, rt.alloc(), Number::Whole(*v), want);
-    }
-    for (number, want) in &WORDS {
-        expect_text(&rt, rt.alloc(), *number, want);
-    }
+fn writes_the_fewest_digits_and_what_is_no_number(rt: HostRuntime) {
+    expect_integers(&rt, rt.alloc(), &FEWEST_DIGITS, false);
+    expect_integers(&rt, rt.alloc(), &EXACT_DIGITS, true);
+    expect_words(&rt, rt.alloc(), &WORDS);
 }

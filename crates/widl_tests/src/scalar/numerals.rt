@@ -47,61 +47,60 @@ const NUMERALS: [(&str, i128); 25] = [
     ("-1844674407370955161600e-2", -TOP),
 ];
 
-/// Numerals of what is no Number.
-const OUTSIDE: [&str; 10] = [
-    "1.5",
-    "-0.1",
-    "1e400",
-    "1e-1",
-    "1e-400",
-    "18446744073709551617",
-    "-18446744073709551617",
-    "0x10000000000000001",
-    "1e99999999999999999999999999999999999999999",
-    "1e-99999999999999999999999999999999999999999",
+/// Numerals of what is no Number; and texts that are no numerals, some for what is no white space, and what they are read as.
+const WORDS: [(&str, Read); 34] = [
+    ("1.5", Read::OutOfProfile),
+    ("-0.1", Read::OutOfProfile),
+    ("1e400", Read::OutOfProfile),
+    ("1e-1", Read::OutOfProfile),
+    ("1e-400", Read::OutOfProfile),
+    ("18446744073709551617", Read::OutOfProfile),
+    ("-18446744073709551617", Read::OutOfProfile),
+    ("0x10000000000000001", Read::OutOfProfile),
+    (
+        "1e99999999999999999999999999999999999999999",
+        Read::OutOfProfile,
+    ),
+    (
+        "1e-99999999999999999999999999999999999999999",
+        Read::OutOfProfile,
+    ),
+    ("Infinity", Read::Number(Number::PosInf)),
+    ("+Infinity", Read::Number(Number::PosInf)),
+    (" -Infinity ", Read::Number(Number::NegInf)),
+    ("infinity", Read::Number(Number::NaN)),
+    ("Infinityx", Read::Number(Number::NaN)),
+    ("NaN", Read::Number(Number::NaN)),
+    ("0b12", Read::Number(Number::NaN)),
+    ("0x", Read::Number(Number::NaN)),
+    ("-0x1", Read::Number(Number::NaN)),
+    ("1_000", Read::Number(Number::NaN)),
+    (".", Read::Number(Number::NaN)),
+    ("+", Read::Number(Number::NaN)),
+    ("--1", Read::Number(Number::NaN)),
+    ("e5", Read::Number(Number::NaN)),
+    ("1e", Read::Number(Number::NaN)),
+    ("1e+", Read::Number(Number::NaN)),
+    ("1e5.", Read::Number(Number::NaN)),
+    ("1.2.3", Read::Number(Number::NaN)),
+    ("12 34", Read::Number(Number::NaN)),
+    ("1n", Read::Number(Number::NaN)),
+    ("\u{180E}7", Read::Number(Number::NaN)),
+    ("7\u{200B}", Read::Number(Number::NaN)),
+    ("\u{85}7", Read::Number(Number::NaN)),
+    ("7\u{8}", Read::Number(Number::NaN)),
 ];
 
-/// Texts that are no numerals, some for what is no white space, and what they are read as.
-const NUMBER_WORDS: [(&str, Number); 24] = [
-    ("Infinity", Number::PosInf),
-    ("+Infinity", Number::PosInf),
-    (" -Infinity ", Number::NegInf),
-    ("infinity", Number::NaN),
-    ("Infinityx", Number::NaN),
-    ("NaN", Number::NaN),
-    ("0b12", Number::NaN),
-    ("0x", Number::NaN),
-    ("-0x1", Number::NaN),
-    ("1_000", Number::NaN),
-    (".", Number::NaN),
-    ("+", Number::NaN),
-    ("--1", Number::NaN),
-    ("e5", Number::NaN),
-    ("1e", Number::NaN),
-    ("1e+", Number::NaN),
-    ("1e5.", Number::NaN),
-    ("1.2.3", Number::NaN),
-    ("12 34", Number::NaN),
-    ("1n", Number::NaN),
-    ("\u{180E}7", Number::NaN),
-    ("7\u{200B}", Number::NaN),
-    ("\u{85}7", Number::NaN),
-    ("7\u{8}", Number::NaN),
-];
-
-#[test]
-fn reads_texts(rt: HostRuntime) {
-    for (text, want) in &NUMERALS {
+fn expect_numerals(rt: &impl Abort, alloc: Global, rows: &[(&str, i128)]) {
+    for (text, want) in rows {
         let want = Read::Number(Number::Whole(*want));
-        expect_read(&rt, rt.alloc(), &units(&rt, rt.alloc(), text), want, text);
+        expect_read(rt, alloc, &units(rt, alloc, text), want, text);
     }
-    for text in &OUTSIDE {
-        let want = Read::OutOfProfile;
-        expect_read(&rt, rt.alloc(), &units(&rt, rt.alloc(), text), want, text);
-    }
-    for (text, want) in &NUMBER_WORDS {
-        let want = Read::Number(*want);
-        expect_read(&rt, rt.alloc(), &units(&rt, rt.alloc(), text), want, text);
+}
+
+fn expect_words(rt: &impl Abort, alloc: Global, rows: &[(&str, Read)]) {
+    for (text, want) in rows {
+        expect_read(rt, alloc, &units(rt, alloc, text), *want, text);
     }
 }
 
@@ -119,16 +118,16 @@ fn expect_read_back(rt: &impl Abort, alloc: Global, v: i128, number: i128) {
     }
 }
 
-#[test]
-fn reads_back_the_powers_and_their_neighbours(rt: HostRuntime) {
+/// Powers of two and their neighbours.
+fn expect_powers(rt: &impl Abort, alloc: Global) {
     let mut power: i128 = 1;
     for bits in 0..65 {
         let (below, above) = (power.wrapping_sub(1), power.wrapping_add(1));
         let read_below = if bits > 53 { power } else { below };
         let read_above = if bits >= 53 { power } else { above };
-        expect_read_back(&rt, rt.alloc(), below, read_below);
-        expect_read_back(&rt, rt.alloc(), power, power);
-        expect_read_back(&rt, rt.alloc(), above, read_above);
+        expect_read_back(rt, alloc, below, read_below);
+        expect_read_back(rt, alloc, power, power);
+        expect_read_back(rt, alloc, above, read_above);
         power = power.wrapping_mul(2);
     }
 }
@@ -142,32 +141,29 @@ fn repeat(rt: &impl Abort, text: &mut Units, part: &str, count: u32) {
     }
 }
 
-/// Fronts that stand 500,000 times, ends, and what they are read as.
-const LONG_TEXTS: [(&str, &str, Read); 5] = [
-    (" ", "", Read::Number(Number::Whole(0))),
-    ("0", ".5e1", Read::Number(Number::Whole(5))),
-    ("7", "", Read::OutOfProfile),
-    ("7", "x", Read::Number(Number::NaN)),
-    ("0", "1", Read::Number(Number::Whole(1))),
+/// Texts, parts that follow 500,000 times, ends, and what all is read as. In the last one many zeros are taken back.
+const LONG_TEXTS: [(&str, &str, &str, Read); 6] = [
+    ("", " ", "", Read::Number(Number::Whole(0))),
+    ("", "0", ".5e1", Read::Number(Number::Whole(5))),
+    ("", "7", "", Read::OutOfProfile),
+    ("", "7", "x", Read::Number(Number::NaN)),
+    ("", "0", "1", Read::Number(Number::Whole(1))),
+    ("1", "0", "e-499999", Read::Number(Number::Whole(10))),
 ];
 
-#[test]
-fn reads_long_texts(rt: HostRuntime) {
-    for (front, end, want) in &LONG_TEXTS {
-        let mut text = units(&rt, rt.alloc(), "");
-        repeat(&rt, &mut text, front, 500_000);
-        repeat(&rt, &mut text, end, 1);
-        expect_read(&rt, rt.alloc(), &text, *want, end);
+fn expect_long(rt: &impl Abort, alloc: Global, rows: &[(&str, &str, &str, Read)]) {
+    for (front, part, end, want) in rows {
+        let mut text = units(rt, alloc, front);
+        repeat(rt, &mut text, part, 500_000);
+        repeat(rt, &mut text, end, 1);
+        expect_read(rt, alloc, &text, *want, end);
     }
-    let mut text = units(&rt, rt.alloc(), "1");
-    repeat(&rt, &mut text, "0", 500_000);
-    repeat(&rt, &mut text, "e-499999", 1);
-    let ten = Read::Number(Number::Whole(10));
-    expect_read(
-        &rt,
-        rt.alloc(),
-        &text,
-        ten,
-        "many zeros that are taken back",
-    );
+}
+
+#[test]
+fn reads_texts(rt: HostRuntime) {
+    expect_numerals(&rt, rt.alloc(), &NUMERALS);
+    expect_words(&rt, rt.alloc(), &WORDS);
+    expect_powers(&rt, rt.alloc());
+    expect_long(&rt, rt.alloc(), &LONG_TEXTS);
 }

@@ -54,28 +54,22 @@ fn of_text(rt: &impl Abort, alloc: Global, text: &str) -> ManuallyDrop<Value> {
     ManuallyDrop::new(Value::Str(units(rt, alloc, text)))
 }
 
-#[test]
-fn tells_truth(rt: HostRuntime) {
+fn expect_truths(rt: &impl Abort, alloc: Global) {
     for (value, want) in &TRUTHS {
-        expect(&rt, truth(value) == *want, "the truth of a value");
+        expect(rt, truth(value) == *want, "the truth of a value");
     }
     for (text, want) in &TEXT_TRUTHS {
-        expect(&rt, truth(&of_text(&rt, rt.alloc(), text)) == *want, text);
+        expect(rt, truth(&of_text(rt, alloc, text)) == *want, text);
     }
 }
 
-#[test]
-fn tells_numbers(rt: HostRuntime) {
+fn expect_numbers(rt: &impl Abort, alloc: Global) {
     for (value, want) in &NUMBERS {
-        expect(
-            &rt,
-            number_in_value(value) == *want,
-            "the Number in a value",
-        );
+        expect(rt, number_in_value(value) == *want, "the Number in a value");
     }
     for (text, want) in &TEXT_NUMBERS {
-        let value = of_text(&rt, rt.alloc(), text);
-        expect(&rt, number_in_value(&value) == *want, text);
+        let value = of_text(rt, alloc, text);
+        expect(rt, number_in_value(&value) == *want, text);
     }
 }
 
@@ -107,13 +101,11 @@ fn expect_text(rt: &impl Abort, alloc: Global, value: &Value, want: &str) {
     );
 }
 
-#[test]
-fn tells_texts(rt: HostRuntime) {
-    for (value, want) in &TEXTS {
-        expect_text(&rt, rt.alloc(), value, want);
+fn expect_texts(rt: &impl Abort, alloc: Global, rows: &[(Value, &str)]) {
+    for (value, want) in rows {
+        expect_text(rt, alloc, value, want);
     }
-    let value = of_text(&rt, rt.alloc(), "as it is");
-    expect_text(&rt, rt.alloc(), &value, "as it is");
+    expect_text(rt, alloc, &of_text(rt, alloc, "as it is"), "as it is");
 }
 
 /// Numbers and the lengths that they are.
@@ -131,9 +123,16 @@ const LENGTHS: [(Number, u64); 8] = [
     ),
 ];
 
-#[test]
-fn brings_lengths_into_their_range(rt: HostRuntime) {
-    for (number, want) in &LENGTHS {
+fn expect_lengths(rt: &impl Abort, rows: &[(Number, u64)]) {
+    for (number, want) in rows {
         assert!(rt; length_of_number(*number) == *want, "{number:?}");
     }
+}
+
+#[test]
+fn tells_truth_numbers_texts_and_lengths(rt: HostRuntime) {
+    expect_truths(&rt, rt.alloc());
+    expect_numbers(&rt, rt.alloc());
+    expect_texts(&rt, rt.alloc(), &TEXTS);
+    expect_lengths(&rt, &LENGTHS);
 }

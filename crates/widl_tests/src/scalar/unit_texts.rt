@@ -24,14 +24,14 @@ fn expect_replaced(rt: &impl Abort, alloc: Global) {
 
 const BYTE_TEXTS: [(&str, bool); 3] = [("", true), ("a\u{FF}", true), ("a\u{100}", false)];
 
+fn expect_bytes(rt: &impl Abort, alloc: Global, rows: &[(&str, bool)]) {
+    for (text, want) in rows {
+        expect(rt, is_byte_text(&units(rt, alloc, text)) == *want, text);
+    }
+}
+
 #[test]
 fn replaces_lone_surrogates_and_tells_texts_of_bytes(rt: HostRuntime) {
     expect_replaced(&rt, rt.alloc());
-    for (text, want) in &BYTE_TEXTS {
-        expect(
-            &rt,
-            is_byte_text(&units(&rt, rt.alloc(), text)) == *want,
-            text,
-        );
-    }
+    expect_bytes(&rt, rt.alloc(), &BYTE_TEXTS);
 }
