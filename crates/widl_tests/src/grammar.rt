@@ -79,7 +79,7 @@ fn expect_answer(rt: &impl Abort, alloc: Global, text: &str, answer: Result<(), 
 }
 
 #[test]
-fn files(rt: HostRuntime) {
+fn files_and_depths(rt: HostRuntime) {
     let alloc = rt.alloc();
     files::expect_faults(&rt, alloc, &files::FAULTS);
     files::expect_sentences(&rt, alloc, &files::SENTENCES);

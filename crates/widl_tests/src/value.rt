@@ -2,7 +2,7 @@
 
 use crate::shared::{expect, object, rounded, sure, units};
 use std::alloc::Global;
-use std::mem::{self, ManuallyDrop};
+use std::mem::ManuallyDrop;
 use std::process::Abort;
 use widl_text::Units;
 use widl_value::{
@@ -62,31 +62,28 @@ fn expect_copy(rt: &impl Abort, value: IdlValue) {
     drop(copy);
 }
 
-#[test]
-fn copies_each_variant_at_three_levels(rt: HostRuntime) {
-    let alloc = rt.alloc();
-    let mut value = IdlValue::List(one_of_each(&rt, alloc));
+/// A value of each variant that has no parts, at three levels of each that has some.
+fn expect_variants(rt: &impl Abort, alloc: Global) {
+    let mut value = IdlValue::List(one_of_each(rt, alloc));
     for _ in 0..3 {
-        let list = list_of(&rt, alloc, value);
-        value = dictionary_of(&rt, alloc, record_of(&rt, alloc, list));
+        let list = list_of(rt, alloc, value);
+        value = dictionary_of(rt, alloc, record_of(rt, alloc, list));
     }
-    expect_copy(&rt, value);
+    expect_copy(rt, value);
 }
 
-/// 256 dictionaries, each with a type of 16 levels.
-#[test]
-fn copies_and_drops_4096_levels(rt: HostRuntime) {
-    let alloc = rt.alloc();
+/// 4,096 levels: 256 dictionaries, each with a type of 16 levels.
+fn expect_levels(rt: &impl Abort, alloc: Global) {
     let mut value = IdlValue::Int(1);
     for _ in 0..256 {
         for _ in 0..7 {
-            let list = list_of(&rt, alloc, value);
-            value = record_of(&rt, alloc, list);
+            let list = list_of(rt, alloc, value);
+            value = record_of(rt, alloc, list);
         }
-        let list = list_of(&rt, alloc, value);
-        value = dictionary_of(&rt, alloc, list);
+        let list = list_of(rt, alloc, value);
+        value = dictionary_of(rt, alloc, list);
     }
-    expect_copy(&rt, value);
+    expect_copy(rt, value);
 }
 
 fn change_values(rt: &impl Abort, alloc: Global) {
@@ -139,12 +136,15 @@ fn copy_pairs(rt: &impl Abort, alloc: Global) {
 }
 
 #[test]
-fn changes_lists(rt: HostRuntime) {
-    change_values(&rt, rt.alloc());
-    change_entries(&rt, rt.alloc());
-    change_members(&rt, rt.alloc());
-    change_slots(&rt, rt.alloc());
-    copy_pairs(&rt, rt.alloc());
+fn idl_values_and_lists(rt: HostRuntime) {
+    let alloc = rt.alloc();
+    expect_variants(&rt, alloc);
+    expect_levels(&rt, alloc);
+    change_values(&rt, alloc);
+    change_entries(&rt, alloc);
+    change_members(&rt, alloc);
+    change_slots(&rt, alloc);
+    copy_pairs(&rt, alloc);
 }
 
 /// A value has this class, and a copy is the same.
@@ -153,28 +153,41 @@ fn expect_class(rt: &impl Abort, value: &Value, class: Class) {
     assert!(rt; value.class() == class && *copy == *value, "{class:?}");
 }
 
-/// An object of this shape.
-fn shaped(shape: Shape) -> Value {
-    Value::Obj(ObjRef { id: 7, shape })
-}
+const CLASSES: [(Value, Class); 8] = [
+    (Value::Undefined, Class::Undefined),
+    (Value::Null, Class::Null),
+    (Value::Bool(false), Class::Bool),
+    (Value::Num(Number::Whole(-3)), Class::Num),
+    (Value::Sym(1), Class::Sym),
+    (
+        Value::Obj(ObjRef {
+            id: 7,
+            shape: Shape::Platform(4),
+        }),
+        Class::Platform(4),
+    ),
+    (
+        Value::Obj(ObjRef {
+            id: 7,
+            shape: Shape::Callable,
+        }),
+        Class::Callable,
+    ),
+    (
+        Value::Obj(ObjRef {
+            id: 7,
+            shape: Shape::Plain,
+        }),
+        Class::Plain,
+    ),
+];
 
-#[test]
-fn copies_and_classes(rt: HostRuntime) {
-    let rows = [
-        (Value::Undefined, Class::Undefined),
-        (Value::Null, Class::Null),
-        (Value::Bool(false), Class::Bool),
-        (Value::Num(Number::Whole(-3)), Class::Num),
-        (Value::Str(units(&rt, rt.alloc(), "no")), Class::Str),
-        (Value::Sym(1), Class::Sym),
-        (shaped(Shape::Platform(4)), Class::Platform(4)),
-        (shaped(Shape::Callable), Class::Callable),
-        (shaped(Shape::Plain), Class::Plain),
-    ];
-    for (value, class) in &rows {
-        expect_class(&rt, value, *class);
+fn expect_classes(rt: &impl Abort, alloc: Global, rows: &[(Value, Class)]) {
+    for (value, class) in rows {
+        expect_class(rt, value, *class);
     }
-    mem::forget(rows);
+    let text = ManuallyDrop::new(Value::Str(units(rt, alloc, "no")));
+    expect_class(rt, &text, Class::Str);
 }
 
 /// Integers and the Numbers nearest to them.
@@ -200,23 +213,29 @@ fn expect_nearest(rt: &impl Abort, v: i128, want: i128) {
     );
 }
 
-#[test]
-fn rounds_to_the_nearest_number(rt: HostRuntime) {
-    for (v, want) in &NEAREST {
-        expect_nearest(&rt, *v, *want);
+fn expect_all_nearest(rt: &impl Abort, rows: &[(i128, i128)]) {
+    for (v, want) in rows {
+        expect_nearest(rt, *v, *want);
+    }
+}
+
+/// The powers of two and their neighbours.
+fn expect_powers(rt: &impl Abort) {
+    let mut power: i128 = 1;
+    for bits in 0..65 {
+        let (below, above) = (power.wrapping_sub(1), power.wrapping_add(1));
+        expect_nearest(rt, below, if bits > 53 { power } else { below });
+        expect_nearest(rt, power, power);
+        if bits < 64 {
+            expect_nearest(rt, above, if bits >= 53 { power } else { above });
+        }
+        power = power.wrapping_mul(2);
     }
 }
 
 #[test]
-fn rounds_the_neighbours_of_powers(rt: HostRuntime) {
-    let mut power: i128 = 1;
-    for bits in 0..65 {
-        let (below, above) = (power.wrapping_sub(1), power.wrapping_add(1));
-        expect_nearest(&rt, below, if bits > 53 { power } else { below });
-        expect_nearest(&rt, power, power);
-        if bits < 64 {
-            expect_nearest(&rt, above, if bits >= 53 { power } else { above });
-        }
-        power = power.wrapping_mul(2);
-    }
+fn values_have_classes_and_nearest_numbers(rt: HostRuntime) {
+    expect_classes(&rt, rt.alloc(), &CLASSES);
+    expect_all_nearest(&rt, &NEAREST);
+    expect_powers(&rt);
 }
