@@ -332,8 +332,16 @@ const ELLIPSIS: Parts = &[
     ("); };", 1),
 ];
 
+/// A file of 1 MiB, nested as deep as one can be: the arguments of extended attributes have no limit, and need no stack of the program's.
+const ATTRIBUTES: Parts = &[("[A(", 349_525)];
+
 /// The sets, their statuses and what is written.
-const SIZES: [Check; 10] = [
+const SIZES: [Check; 11] = [
+    (
+        ATTRIBUTES,
+        Status::Refused,
+        &[("refused syntax 0 1048575\n", 1)],
+    ),
     (QUESTIONS, Status::Refused, &[("refused 21 0 26\n", 1)]),
     (LONG_NAME, Status::Done, ACCEPTED),
     (LONG_TEXT, Status::Done, ACCEPTED),
