@@ -15,7 +15,7 @@ use widl_idl::{
     Spaces, Stringify, TextKind,
 };
 use widl_text::{Place, Units};
-use widl_value::{Number, ObjRef, Shape, Value, nearest};
+use widl_value::{Number, ObjRef, Shape, Value};
 
 pub const NOWHERE: Place = Place { file: 0, at: 0 };
 
@@ -258,15 +258,6 @@ pub fn object(id: u32) -> ObjRef {
     ObjRef {
         id,
         shape: Shape::Plain,
-    }
-}
-
-/// The nearest Number of a v of magnitude at most 2^64.
-pub fn rounded(v: i128) -> Option<Number> {
-    if v < -(1 << 64) || v > 1 << 64 {
-        None
-    } else {
-        Some(nearest(v))
     }
 }
 

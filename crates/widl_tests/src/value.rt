@@ -1,6 +1,6 @@
-//! Each call on values once, with ample memory, IDL values as deep as they can be, and the nearest Numbers.
+//! Each call on values once, with ample memory, and IDL values as deep as they can be.
 
-use crate::shared::{expect, object, rounded, sure, units};
+use crate::shared::{expect, object, sure, units};
 use std::alloc::Global;
 use std::mem::ManuallyDrop;
 use std::process::Abort;
@@ -190,52 +190,7 @@ fn expect_classes(rt: &impl Abort, alloc: Global, rows: &[(Value, Class)]) {
     expect_class(rt, &text, Class::Str);
 }
 
-/// Integers and the Numbers nearest to them.
-const NEAREST: [(i128, i128); 11] = [
-    (0, 0),
-    (9_007_199_254_740_993, 9_007_199_254_740_992),
-    (9_007_199_254_740_995, 9_007_199_254_740_996),
-    (-9_007_199_254_740_993, -9_007_199_254_740_992),
-    (-9_007_199_254_740_995, -9_007_199_254_740_996),
-    (36_028_797_018_963_972, 36_028_797_018_963_968),
-    (36_028_797_018_963_973, 36_028_797_018_963_976),
-    (18_446_744_073_709_550_591, 18_446_744_073_709_549_568),
-    (18_446_744_073_709_550_592, 18_446_744_073_709_551_616),
-    (18_446_744_073_709_551_615, 18_446_744_073_709_551_616),
-    (-18_446_744_073_709_551_616, -18_446_744_073_709_551_616),
-];
-
-/// The Number nearest to an integer is this one.
-fn expect_nearest(rt: &impl Abort, v: i128, want: i128) {
-    assert!(rt;
-        rounded(v) == Some(Number::Whole(want)),
-        "the nearest of {v}"
-    );
-}
-
-fn expect_all_nearest(rt: &impl Abort, rows: &[(i128, i128)]) {
-    for (v, want) in rows {
-        expect_nearest(rt, *v, *want);
-    }
-}
-
-/// The powers of two and their neighbours.
-fn expect_powers(rt: &impl Abort) {
-    let mut power: i128 = 1;
-    for bits in 0..65 {
-        let (below, above) = (power.wrapping_sub(1), power.wrapping_add(1));
-        expect_nearest(rt, below, if bits > 53 { power } else { below });
-        expect_nearest(rt, power, power);
-        if bits < 64 {
-            expect_nearest(rt, above, if bits >= 53 { power } else { above });
-        }
-        power = power.wrapping_mul(2);
-    }
-}
-
 #[test]
-fn values_have_classes_and_nearest_numbers(rt: HostRuntime) {
+fn values_have_classes(rt: HostRuntime) {
     expect_classes(&rt, rt.alloc(), &CLASSES);
-    expect_all_nearest(&rt, &NEAREST);
-    expect_powers(&rt);
 }
