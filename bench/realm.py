@@ -7,8 +7,7 @@ Run at the top of the repository, after `rt run` in crates/widl_bench has built 
 
 It prints, for one namespace of 10,000, 100,000 and 999,000 operations and for 999 namespaces of 1,000, the milliseconds
 that the first store takes, those for each 1,000 objects, and the bytes of memory an object. Times are the least of some
-runs, with the store made some number of times more than in the run that it is compared with, and with the time to give its
-memory back. Memory is that of the second store, when the first has taken what the check of the files left.
+runs, with the store made some number of times more than in the run that it is compared with. Memory is that of the second store, when the first has taken what the check of the files left.
 """
 import os
 import tempfile

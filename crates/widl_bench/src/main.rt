@@ -2,27 +2,22 @@
 //! part: `tokens`, `syntax` and `tree` read files of Web IDL so far, `script` and `statements` read scripts so
 //! far, `whole` reads scripts whole over a set of one file, `nodes` puts a million nodes into the tables of a
 //! script, `lines`, `texts` and `text` write lines of a trace or make a text for one, `store` changes and reads
-//! the properties of objects, `realm` makes the first store of a set of files and `compile` its tables, `choice`
-//! chooses overloads, members of unions and values of enumerations, `convert` converts values, `resolve` converts the
-//! arguments of the overload that is chosen, and `call` calls an operation. It stands on the crates of these parts and
-//! serves to measure them: the programs in `bench/` run it.
+//! the properties of objects, `realm` makes the first store of a set of files and `compile` its tables, and `choice`
+//! chooses overloads, members of unions and values of enumerations. Conversions and calls are measured in whole runs of
+//! `widl`. It stands on the crates of these parts and serves to measure them: the programs in `bench/` run it.
 //!
-//! Values of many forms are dropped by name, as an ask or a script is: what stands behind a drop at the end of a scope is proved
-//! once for each form of the value. What a run makes once, as a set or a store, is left to the end of the program.
+//! What a word makes of many forms, as a tree, a set, a script or a store, is left to the end of the program: the proof of a
+//! drop of such a value takes longer than that of all else in its module.
 #![tactic(auto)]
 
-mod calls;
 mod choices;
 mod compiled;
-mod conversions;
 mod files;
 mod first;
 mod lines;
 mod nodes;
 mod numbers;
 mod realm;
-mod replies;
-mod resolutions;
 mod script;
 mod sets;
 mod statements;
@@ -52,13 +47,10 @@ enum Word {
     Realm,
     Compile,
     Choice,
-    Convert,
-    Resolve,
-    Call,
 }
 
 /// How each part is asked for.
-const WORDS: [(&str, Word); 17] = [
+const WORDS: [(&str, Word); 14] = [
     ("tokens", Word::Tokens),
     ("syntax", Word::Syntax),
     ("tree", Word::Tree),
@@ -73,9 +65,6 @@ const WORDS: [(&str, Word); 17] = [
     ("realm", Word::Realm),
     ("compile", Word::Compile),
     ("choice", Word::Choice),
-    ("convert", Word::Convert),
-    ("resolve", Word::Resolve),
-    ("call", Word::Call),
 ];
 
 /// The part that a text asks for.
@@ -105,9 +94,6 @@ fn run(rt: &HostRuntime, word: Word, args: &[String]) -> Result<()> {
         Word::Realm => realm::run(rt, args),
         Word::Compile => compiled::run(rt, args),
         Word::Choice => choices::run(rt, args),
-        Word::Convert => conversions::run(rt, args),
-        Word::Resolve => resolutions::run(rt, args),
-        Word::Call => calls::run(rt, args),
     }
 }
 

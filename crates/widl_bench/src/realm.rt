@@ -3,21 +3,25 @@
 ghost use Rattle.widl_idl.specs.DefinitionTerms.{defs_term};
 ghost use Rattle.widl_overload.specs.OperationsAlone.{HasOperationsAlone};
 
+use crate::numbers::number_of;
 use crate::sets::set_of;
 use anyhow::{Result, bail};
-use std::alloc::Global;
+use std::alloc::{AllocError, Global};
+use std::mem;
 use widl_overload::{Accepted, has_operations_alone};
-use widl_store::{Store, realm};
+use widl_store::realm;
 
-/// So many first stores of a list.
-fn stores_of(alloc: Global, list: &Accepted, count: usize) -> Result<Vec<Store>>
+/// Makes so many first stores of a list, and leaves them all to the end of the program.
+fn make_stores(alloc: Global, list: &Accepted, count: usize) -> Result<(), AllocError>
     requires { HasOperationsAlone (defs_term list.now.defs) }
 {
-    let mut stores: Vec<Store> = Vec::new(alloc);
     for _ in 0..count {
-        stores.push(realm(alloc, list)?)?;
+        match realm(alloc, list) {
+            Ok(store) => mem::forget(store),
+            Err(error) => return Err(error),
+        }
     }
-    Ok(stores)
+    Ok(())
 }
 
 /// Makes as many stores of the set of the files as the first argument says, keeps them all, and prints their number.
@@ -25,14 +29,12 @@ pub fn run(rt: &HostRuntime, args: &[String]) -> Result<()> {
     let [count, names @ ..] = args else {
         bail!("a count and names of files are wanted");
     };
-    let Ok(count) = count.parse::<usize>() else {
-        bail!("{count} is no count");
-    };
+    let count = number_of(count.as_str())?;
     let set = set_of(rt, names)?;
     let list: &Accepted = &set;
     if has_operations_alone(list) {
-        let stores = stores_of(rt.alloc(), list, count)?;
-        println!(rt; "{} stores", stores.len())?;
+        make_stores(rt.alloc(), list, count)?;
+        println!(rt; "{count} stores")?;
         Ok(())
     } else {
         bail!("the first store of the set of files is not supported")

@@ -3,15 +3,14 @@
 use crate::files::{read_short, words_of};
 use anyhow::Result;
 use std::alloc::Global;
+use std::mem::ManuallyDrop;
 use widl_lines::ScriptWords;
 use widl_script_reader::build;
 
-/// How many statements stand in the tables of a script.
+/// How many statements stand in the tables of a script, which are left to the end of the program.
 fn statements_of(alloc: Global, words: &ScriptWords<'_>) -> Result<usize> {
-    let built = build(alloc, words)?;
-    let count = built.tables.statement_count() as usize;
-    drop(built);
-    Ok(count)
+    let built = ManuallyDrop::new(build(alloc, words)?);
+    Ok(built.tables.statement_count() as usize)
 }
 
 /// Prints how many bytes the scripts have, how many lines with words, and how many statements stand in their tables

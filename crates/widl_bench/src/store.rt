@@ -8,7 +8,7 @@ use crate::numbers::number_of;
 use crate::sets::no_files;
 use anyhow::{Result, bail};
 use std::alloc::Global;
-use std::mem;
+use std::mem::{self, ManuallyDrop};
 use widl_overload::{Accepted, has_operations_alone};
 use widl_store::laws::{first_store_is_bounded, references_stay_live};
 use widl_store::{Found, Inner, Put, Store, realm};
@@ -110,8 +110,8 @@ fn delete_key(store: &mut Store, obj: ObjRef, key: &Key) -> Result<()>
 }
 
 /// As many keys as `few` of numbers below `count`, none of them near the one before.
-fn scattered(alloc: Global, count: usize, few: usize) -> Result<Vec<Key>> {
-    let mut keys = Vec::new(alloc);
+fn scattered(alloc: Global, count: usize, few: usize) -> Result<ManuallyDrop<Vec<Key>>> {
+    let mut keys = ManuallyDrop::new(Vec::new(alloc));
     for place in 0..few {
         let number = place.wrapping_mul(2_654_435_761).checked_rem(count);
         keys.push(key(alloc, number.unwrap_or(0))?)?;
@@ -129,16 +129,22 @@ fn keys(alloc: Global, store: &mut Store, count: usize, few: usize, rounds: usiz
     Ok(find_keys(store, obj, keys.as_slice(), rounds))
 }
 
+/// The keys of the numbers below `count`.
+fn first_keys(alloc: Global, count: usize) -> Result<ManuallyDrop<Vec<Key>>> {
+    let mut keys = ManuallyDrop::new(Vec::new(alloc));
+    for number in 0..count {
+        keys.push(key(alloc, number)?)?;
+    }
+    Ok(keys)
+}
+
 /// Puts `count` properties, finds each, and deletes each, in their order.
 fn deletions(alloc: Global, store: &mut Store, count: usize) -> Result<usize>
     requires { length store.old.objects ≤ 1000018 }
 {
     let obj = add_plain(store, None)?;
     put_keys(alloc, store, obj, count)?;
-    let mut keys = Vec::new(alloc);
-    for number in 0..count {
-        keys.push(key(alloc, number)?)?;
-    }
+    let keys = first_keys(alloc, count)?;
     let found = find_keys(store, obj, keys.as_slice(), 1);
     for key in keys.as_slice() {
         delete_key(store, obj, key)?;
@@ -170,10 +176,7 @@ fn prototypes(alloc: Global, store: &mut Store, count: usize, rounds: usize) -> 
     let first = add_plain(store, None)?;
     let last = add_below(store, first, count)?;
     put_key(alloc, store, first, 0)?;
-    let mut keys = Vec::new(alloc);
-    for number in 0..2 {
-        keys.push(key(alloc, number)?)?;
-    }
+    let keys = first_keys(alloc, 2)?;
     Ok(find_keys(store, last, keys.as_slice(), rounds))
 }
 

@@ -3,13 +3,14 @@
 use crate::files::{read, tokens_of};
 use anyhow::{Result, bail};
 use std::alloc::Global;
+use std::mem::ManuallyDrop;
 use widl_lex::Tokens;
 use widl_syntax::parse;
 
-/// How many definitions the tokens have.
+/// How many definitions the tokens have. Their tree is left to the end of the program.
 fn definitions(alloc: Global, name: &str, tokens: &Tokens<'_>) -> Result<usize> {
     match parse(alloc, tokens) {
-        Ok(fragment) => Ok(fragment.definitions.len()),
+        Ok(fragment) => Ok(ManuallyDrop::new(fragment).definitions.len()),
         Err(fault) => bail!("{name}: {fault:?}"),
     }
 }

@@ -9,18 +9,19 @@ use crate::files::read_short;
 use crate::sets::set_of;
 use anyhow::{Result, bail};
 use std::alloc::Global;
+use std::mem;
 use widl_lines::ScriptFault;
 use widl_overload::{Accepted, has_operations_alone};
 use widl_script::read_script;
 
-/// Whether a script breaks no rule.
+/// Whether a script breaks no rule. Its tables are left to the end of the program.
 fn is_unbroken(alloc: Global, script: &[u8], list: &Accepted) -> Result<bool>
     requires short { length script.now ≤ most_file_bytes }
     requires rules { HasOperationsAlone (defs_term list.now.defs) }
 {
     match read_script(alloc, script, list) {
         Ok(read) => {
-            drop(read);
+            mem::forget(read);
             Ok(true)
         }
         Err(ScriptFault::Refused(_)) => Ok(false),

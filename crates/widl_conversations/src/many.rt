@@ -10,6 +10,7 @@ use crate::fault::Fault;
 use crate::rows::Row;
 use crate::task::many_of;
 use std::alloc::Global;
+use std::mem::ManuallyDrop;
 use widl_convert::{Answer, Ask, Asker};
 use widl_tables::Tables;
 
@@ -68,24 +69,42 @@ fn told_by(
     Ok(told)
 }
 
-/// Tells what each of many conversions tells that wait at once.
+/// What a conversion that waits tells is what the first told, of which nothing is kept yet where it is the first.
+fn tell_same(
+    alloc: Global,
+    tables: &Tables,
+    waiting: Waiting,
+    row: &Row<'_>,
+    first: &mut String,
+) -> Result<(), Fault> {
+    let one = told_by(alloc, tables, waiting, row)?;
+    if first.is_empty() {
+        return Ok(first.push_str(one.as_str())?);
+    }
+    if first.as_str() == one.as_str() {
+        Ok(())
+    } else {
+        Err(Fault::Line("the conversations tell different things"))
+    }
+}
+
+/// Tells what each of many conversions tells that wait at once. Where one can't be told, those that still wait are left to the end
+/// of the program, which a fault ends.
 pub fn tell_many(
     alloc: Global,
     tables: &Tables,
     row: &Row<'_>,
     told: &mut String,
 ) -> Result<(), Fault> {
-    let mut all = Vec::new(alloc);
-    for _ in 0..many_of(row.of).0.parse::<u32>()? {
+    let count = many_of(row.of).0.parse::<u32>()?;
+    let mut all = ManuallyDrop::new(Vec::new(alloc));
+    for _ in 0..count {
         all.push(wait(alloc, tables, row)?)?;
     }
     let mut first = String::new(alloc);
-    for waiting in all {
-        let one = told_by(alloc, tables, waiting, row)?;
-        if first.is_empty() {
-            first = one;
-        } else if first.as_str() != one.as_str() {
-            return Err(Fault::Line("the conversations tell different things"));
+    for _ in 0..count {
+        if let Some(waiting) = all.pop() {
+            tell_same(alloc, tables, waiting, row, &mut first)?;
         }
     }
     Ok(told.push_str(first.as_str())?)

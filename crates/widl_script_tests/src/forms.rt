@@ -37,16 +37,10 @@ fn expect_lines(rt: &impl Abort, found: &str, lines: &str) {
     assert!(rt; found.next().is_none(), "a row more");
 }
 
-const FORMS: [&[Form]; 4] = [
-    &blocks::BLOCKS,
-    &expressions::EXPRESSIONS,
-    &lines::LINES,
-    &scripts::SCRIPTS,
-];
-
 #[test]
 fn scripts_have_nodes(rt: HostRuntime) {
-    for forms in &FORMS {
-        expect_rows(&rt, rt.alloc(), forms);
-    }
+    expect_rows(&rt, rt.alloc(), &blocks::BLOCKS);
+    expect_rows(&rt, rt.alloc(), &expressions::EXPRESSIONS);
+    expect_rows(&rt, rt.alloc(), &lines::LINES);
+    expect_rows(&rt, rt.alloc(), &scripts::SCRIPTS);
 }

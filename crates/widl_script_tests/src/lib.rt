@@ -1,9 +1,11 @@
-//! Tests of the tables of scripts: what each form of a script puts into them, and those of scripts that can't be run yet or are long. It
-//! stands on `widl_script_reader`, and has no code but that of its tests.
+//! Tests of the tables of scripts: what each form of a script puts into them, those of scripts that can't be run yet or are long, and what
+//! a script that is made of them answers. It stands on `widl_script_reader`, and has no code but that of its tests.
 #![tactic(auto)]
 
 #[cfg(test)]
 mod built;
+#[cfg(test)]
+mod finished;
 #[cfg(test)]
 mod forms;
 #[cfg(test)]

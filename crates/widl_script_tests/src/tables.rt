@@ -75,10 +75,9 @@ const BLOCKS: [(&str, &str); 12] = [
     ),
 ];
 
-#[test]
-fn steps_blocks_have_targets_and_lines(rt: HostRuntime) {
-    for (script, text) in &BLOCKS {
-        expect_blocks(&rt, rt.alloc(), script, text);
+fn expect_all_blocks(rt: &impl Abort, alloc: Global, rows: &[(&str, &str)]) {
+    for (script, text) in rows {
+        expect_blocks(rt, alloc, script, text);
     }
 }
 
@@ -121,25 +120,21 @@ fn expect_long(rt: &impl Abort, alloc: Global, parts: (&str, usize, &str, &str),
     expect_counts(rt, alloc, script.as_str(), counts);
 }
 
-#[test]
-fn long_scripts_have_tables(rt: HostRuntime) {
-    for (head, count, text, tail, counts) in &LONG {
-        expect_long(&rt, rt.alloc(), (head, *count, text, tail), *counts);
+type Long = (&'static str, usize, &'static str, &'static str, Counts);
+
+fn expect_all_long(rt: &impl Abort, alloc: Global, rows: &[Long]) {
+    for (head, count, text, tail, counts) in rows {
+        expect_long(rt, alloc, (head, *count, text, tail), *counts);
     }
 }
 
-#[test]
-fn open_blocks_have_many_lines(rt: HostRuntime) {
-    let mut script = String::new(rt.alloc());
-    put_many(&rt, &mut script, 32, "if 1 is 1\n");
-    put_many(&rt, &mut script, 200_000, "do 1\n");
-    put_many(&rt, &mut script, 32, "end\n");
-    expect_counts(
-        &rt,
-        rt.alloc(),
-        script.as_str(),
-        [200_064, 400_064, 0, 0, 0],
-    );
+/// 32 open blocks with 200,000 lines.
+fn expect_open_blocks(rt: &impl Abort, alloc: Global) {
+    let mut script = String::new(alloc);
+    put_many(rt, &mut script, 32, "if 1 is 1\n");
+    put_many(rt, &mut script, 200_000, "do 1\n");
+    put_many(rt, &mut script, 32, "end\n");
+    expect_counts(rt, alloc, script.as_str(), [200_064, 400_064, 0, 0, 0]);
 }
 
 /// A function with so many parameters of different names.
@@ -156,7 +151,11 @@ fn many_parameters(rt: &impl Abort, alloc: Global, count: u32) -> String {
 }
 
 #[test]
-fn each_of_many_names_has_a_number(rt: HostRuntime) {
-    let script = many_parameters(&rt, rt.alloc(), 200_000);
-    expect_counts(&rt, rt.alloc(), script.as_str(), [0, 2, 1, 0, 200_001]);
+fn blocks_have_targets_and_long_scripts_tables(rt: HostRuntime) {
+    let alloc = rt.alloc();
+    expect_all_blocks(&rt, alloc, &BLOCKS);
+    expect_all_long(&rt, alloc, &LONG);
+    expect_open_blocks(&rt, alloc);
+    let script = many_parameters(&rt, alloc, 200_000);
+    expect_counts(&rt, alloc, script.as_str(), [0, 2, 1, 0, 200_001]);
 }

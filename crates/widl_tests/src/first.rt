@@ -1,5 +1,6 @@
 //! Firsts by keys.
 
+use std::process::Abort;
 use widl_first::{Keyed, first_of};
 
 #[derive(Clone, Copy, PartialEq, Eq)]
@@ -32,12 +33,13 @@ const FIRSTS: [(Option<(u32, u32)>, u32, u32); 3] = [
     (None, 1, 9),
 ];
 
+fn expect_firsts(rt: &impl Abort, rows: &[(Option<(u32, u32)>, u32, u32)]) {
+    for (former, line, column) in rows {
+        assert!(rt; is_first(*former, *line, *column), "column {column}");
+    }
+}
+
 #[test]
 fn the_lower_key_is_first(rt: HostRuntime) {
-    for (former, line, column) in &FIRSTS {
-        assert!(rt;
-            is_first(*former, *line, *column),
-            "line {line}, column {column}"
-        );
-    }
+    expect_firsts(&rt, &FIRSTS);
 }

@@ -75,13 +75,9 @@ fn fetch_with_failures(rt: &impl Abort, alloc: Global) {
 }
 
 #[test]
-fn the_first_file_with_a_name_counts_and_a_listed_call_fails(rt: HostRuntime) {
+fn the_first_file_counts_a_listed_call_fails_and_the_disk_gives_a_file(rt: HostRuntime) {
     fetch_surely(&rt, rt.alloc());
     fetch_with_failures(&rt, rt.alloc());
-}
-
-#[test]
-fn the_disk_gives_a_file_and_tells_what_is_missing(rt: HostRuntime) {
     sure(&rt, fs::write(&rt, "greeting.txt", "hello\n"));
     let mut folder = DiskFolder::new(&rt);
     expect_fetch(&rt, rt.alloc(), &mut folder, "greeting.txt", "hello\n");

@@ -1,84 +1,41 @@
-//! Sentences and faults, with the terminals written as words between spaces.
-
-mod definitions;
-mod depth;
-mod files;
-mod members;
-mod terminals;
-mod types;
+//! The two calls that check syntax. What the grammar has and hasn't stands on the page `grammar.md` of `widl_rows`.
 
 use crate::shared::{expect, sure};
 use std::alloc::Global;
 use std::process::Abort;
-use widl_grammar::{SyntaxFault, Terminal, check_syntax, quoted, read_definitions};
+use widl_grammar::{SyntaxFault, Terminal, check_syntax, read_definitions};
 use widl_lex::Tokens;
 use widl_predictive::Fault;
+use widl_text::Place;
 
-/// A sentence, a near miss, and the syntax place of the latter: the number of a word.
-pub type Rule = (&'static str, &'static str, usize);
-
-/// The class of a word that the grammar doesn't quote, by its first byte.
-fn class_of(word: &str) -> Terminal {
-    match word.as_bytes().first() {
-        Some(b'0'..=b'9') if word.contains('.') => Terminal::Decimal,
-        Some(b'0'..=b'9') => Terminal::Integer,
-        Some(b'"') => Terminal::String,
-        Some(b'#') => Terminal::Other,
-        _ => Terminal::Identifier,
-    }
-}
-
-/// The answer for the terminals that the words of a text stand for.
-fn read(rt: &impl Abort, alloc: Global, text: &str) -> Result<(), Fault> {
-    let mut terminals = Vec::new(alloc);
-    for word in text.split(' ') {
-        let terminal = quoted(word.as_bytes()).unwrap_or(class_of(word));
-        sure(rt, terminals.push(terminal));
-    }
-    read_definitions(alloc, &terminals)
-}
-
-fn expect_rules(rt: &impl Abort, alloc: Global, rules: &[Rule]) {
-    for (sentence, near_miss, place) in rules {
-        expect(rt, read(rt, alloc, sentence).is_ok(), sentence);
-        let found = read(rt, alloc, near_miss);
-        expect(rt, found == Err(Fault::Syntax(*place)), near_miss);
-    }
-}
-
-const RULES: [&[Rule]; 15] = [
-    &definitions::DEFINITIONS,
-    &definitions::CALLBACKS,
-    &definitions::INTERFACES,
-    &definitions::PARTIALS,
-    &definitions::DICTIONARIES_AND_ENUMERATIONS,
-    &definitions::EXTENDED_ATTRIBUTES,
-    &members::MEMBERS,
-    &members::CONSTANTS,
-    &members::ATTRIBUTES_AND_OPERATIONS,
-    &members::ITERABLES,
-    &members::ARGUMENTS,
-    &types::TYPES,
-    &types::UNIONS,
-    &types::PRIMITIVE_TYPES,
-    &types::ENDS_TOO_EARLY,
-];
-
-#[test]
-fn rules(rt: HostRuntime) {
-    for table in &RULES {
-        expect_rules(&rt, rt.alloc(), table);
-    }
-}
-
-/// The answer for the file number 3, of this text.
-fn check(rt: &impl Abort, alloc: Global, text: &str) -> Result<(), SyntaxFault> {
+/// The file number 3, of this text, has this answer.
+fn expect_answer(rt: &impl Abort, alloc: Global, text: &str, answer: Result<(), SyntaxFault>) {
     assert!(rt; text.len() <= 1_048_576);
     let tokens = sure(rt, Tokens::read(alloc, 3, text.as_bytes()));
-    check_syntax(alloc, &tokens)
+    expect(rt, check_syntax(alloc, &tokens) == answer, text);
 }
 
-/// A file of this text has this answer.
-fn expect_answer(rt: &impl Abort, alloc: Global, text: &str, answer: Result<(), SyntaxFault>) {
-    expect(rt, check(rt, alloc, text) == answer, text);
+const OPENING: [Terminal; 3] = [
+    Terminal::OpenBracket,
+    Terminal::Identifier,
+    Terminal::OpenParen,
+];
+
+/// Extended attributes in the arguments of extended attributes have no limit, and need no stack of the program's.
+fn expect_attribute_arguments(rt: &impl Abort, alloc: Global) {
+    let mut terminals = Vec::new(alloc);
+    for _ in 0..350_000u32 {
+        sure(rt, terminals.extend_from_slice(&OPENING));
+    }
+    let found = read_definitions(alloc, &terminals);
+    expect(rt, found == Err(Fault::Syntax(1_050_000)), "the end");
+}
+
+const SIGN: SyntaxFault = SyntaxFault::Syntax(Place { file: 3, at: 14 });
+
+#[test]
+fn syntax_is_checked(rt: HostRuntime) {
+    expect_answer(&rt, rt.alloc(), "typedef long T;", Ok(()));
+    expect_answer(&rt, rt.alloc(), "typedef long T!", Err(SIGN));
+    expect_attribute_arguments(&rt, rt.alloc());
 }

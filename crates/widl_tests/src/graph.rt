@@ -79,19 +79,14 @@ fn expect_walk(rt: &impl Abort, alloc: Global, row: &Walked) {
     }
     let found = walk(rt, alloc, &graph);
     let order = found.order.as_slice();
-    expect(rt, found.cyclic.as_slice() == row.cyclic, row.what);
-    expect(rt, order.len() == row.nodes.len(), row.what);
-    expect(
-        rt,
-        order.starts_with(row.start) && order.ends_with(row.end),
-        row.what,
-    );
+    let is_whole = order.len() == row.nodes.len() && found.cyclic.as_slice() == row.cyclic;
+    let has_ends = order.starts_with(row.start) && order.ends_with(row.end);
+    expect(rt, is_whole && has_ends, row.what);
 }
 
-#[test]
-fn small_graphs(rt: HostRuntime) {
-    for row in &WALKS {
-        expect_walk(&rt, rt.alloc(), row);
+fn expect_walks(rt: &impl Abort, alloc: Global, rows: &[Walked]) {
+    for row in rows {
+        expect_walk(rt, alloc, row);
     }
 }
 
@@ -106,15 +101,19 @@ fn long_chain(rt: &impl Abort, alloc: Global, count: usize) -> Graph {
     graph
 }
 
-#[test]
-fn a_long_chain(rt: HostRuntime) {
-    let graph = long_chain(&rt, rt.alloc(), 200_000);
-    let found = walk(&rt, rt.alloc(), &graph);
-    expect(&rt, found.order.len() == 200_001, "the order's length");
+fn expect_long_chain(rt: &impl Abort, alloc: Global, count: usize) {
+    let found = walk(rt, alloc, &long_chain(rt, alloc, count));
+    let order = found.order.as_slice();
+    expect(rt, order.len() == count.saturating_add(1), "the length");
     expect(
-        &rt,
-        found.order.starts_with(&[200_000]),
-        "the order's start",
+        rt,
+        order.starts_with(&[count]) && order.ends_with(&[0]),
+        "the ends",
     );
-    expect(&rt, found.order.ends_with(&[0]), "the order's end");
+}
+
+#[test]
+fn graphs_are_walked(rt: HostRuntime) {
+    expect_walks(&rt, rt.alloc(), &WALKS);
+    expect_long_chain(&rt, rt.alloc(), 200_000);
 }

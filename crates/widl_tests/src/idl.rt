@@ -152,13 +152,6 @@ fn expect_inner_unions(rt: &impl Abort, alloc: Global) {
     );
 }
 
-#[test]
-fn members_of_unions(rt: HostRuntime) {
-    expect_plain_members(&rt, rt.alloc());
-    expect_nullable_members(&rt, rt.alloc());
-    expect_inner_unions(&rt, rt.alloc());
-}
-
 /// A union of nullable types has so many members, and a copy of it is the same.
 fn expect_many(rt: &impl Abort, alloc: Global, t: &IdlType, count: usize)
     requires { IsUnion (type_term t.now) }
@@ -170,15 +163,12 @@ fn expect_many(rt: &impl Abort, alloc: Global, t: &IdlType, count: usize)
     expect(rt, sure(rt, flattened(alloc, t)).len() == count, "members");
 }
 
-#[test]
-fn three_hundred_thousand_members(rt: HostRuntime) {
-    let alloc = rt.alloc();
+fn expect_many_members(rt: &impl Abort, alloc: Global, count: u32) {
     let mut members = IdlTypes::new(alloc);
-    for number in 0..300_000 {
-        let member = nullable(&rt, alloc, IdlType::Dict(number));
-        sure(&rt, members.push(member));
+    for number in 0..count {
+        sure(rt, members.push(nullable(rt, alloc, IdlType::Dict(number))));
     }
-    expect_many(&rt, alloc, &IdlType::Union(members), 300_000);
+    expect_many(rt, alloc, &IdlType::Union(members), count as usize);
 }
 
 fn expect_differences(rt: &impl Abort, alloc: Global) {
@@ -236,14 +226,6 @@ fn expect_the_empty_set(rt: &impl Abort, alloc: Global) {
     expect(rt, merged.fragments().len() == 0, "no fragments");
 }
 
-#[test]
-fn types_and_lists(rt: HostRuntime) {
-    expect_differences(&rt, rt.alloc());
-    expect_types_in_a_list(&rt, rt.alloc());
-    expect_items_in_a_list(&rt, rt.alloc());
-    expect_the_empty_set(&rt, rt.alloc());
-}
-
 /// A file, a place in it, and another place in it that the violation speaks of.
 type Broken = (u16, u32, Option<u32>);
 
@@ -289,15 +271,32 @@ const LEFT: Refusal = Refusal {
     other: None,
 };
 
-#[test]
-fn the_earlier_violation_is_chosen(rt: HostRuntime) {
-    for (a, b, want) in &EARLIER {
+fn expect_earlier(rt: &impl Abort, rows: &[(Option<Broken>, Option<Broken>, Broken)]) {
+    for (a, b, want) in rows {
         let found = earlier_violation(a.map(violation), b.map(violation));
-        assert!(rt; found == Some(violation(*want)), "{a:?} and {b:?}");
+        assert!(rt; found == Some(violation(*want)), "{want:?}");
     }
+}
+
+fn expect_joined(rt: &impl Abort, rows: &[(u8, Option<Broken>)]) {
     let mut best = None;
-    for (rule, broken) in &JOINED {
+    for (rule, broken) in rows {
         best = joined(*rule, broken.map(violation), best);
     }
-    assert!(rt; best == Some(LEFT));
+    expect(rt, best == Some(LEFT), "what is left");
+}
+
+#[test]
+fn types_lists_and_violations(rt: HostRuntime) {
+    let alloc = rt.alloc();
+    expect_plain_members(&rt, alloc);
+    expect_nullable_members(&rt, alloc);
+    expect_inner_unions(&rt, alloc);
+    expect_many_members(&rt, alloc, 300_000);
+    expect_differences(&rt, alloc);
+    expect_types_in_a_list(&rt, alloc);
+    expect_items_in_a_list(&rt, alloc);
+    expect_the_empty_set(&rt, alloc);
+    expect_earlier(&rt, &EARLIER);
+    expect_joined(&rt, &JOINED);
 }

@@ -84,11 +84,10 @@ const PATTERNS: [(&str, &str); 46] = [
     ("a\u{C}b", "n0+1 o1+1 n2+1 "),
 ];
 
-#[test]
-fn patterns_at_their_edges(rt: HostRuntime) {
-    for (text, wanted) in &PATTERNS {
-        let found = spelled(&rt, rt.alloc(), text.as_bytes());
-        expect(&rt, found.as_str() == *wanted, text);
+fn expect_patterns(rt: &impl Abort, alloc: Global, rows: &[(&str, &str)]) {
+    for (text, wanted) in rows {
+        let found = spelled(rt, alloc, text.as_bytes());
+        expect(rt, found.as_str() == *wanted, text);
     }
 }
 
@@ -119,27 +118,29 @@ const FAULTS: [(&[u8], u32); 14] = [
     (b"\"\xEF\xBF\xBF\"\xFF", 5),
 ];
 
-#[test]
-fn faults_of_utf8_at_their_places(rt: HostRuntime) {
-    for (text, wanted) in &FAULTS {
-        assert!(rt; fault_at(&rt, rt.alloc(), text) == *wanted, "{text:?}");
+fn expect_faults(rt: &impl Abort, alloc: Global, rows: &[(&[u8], u32)]) {
+    for (text, wanted) in rows {
+        assert!(rt; fault_at(rt, alloc, text) == *wanted, "{text:?}");
     }
 }
 
-fn expect_places(rt: &impl Abort, tokens: &Tokens<'_>) {
-    expect(rt, tokens.file() == 7, "the file");
-    expect(rt, tokens.end() == 12, "the end");
+fn expect_places(rt: &impl Abort, alloc: Global) {
+    let tokens = sure(rt, Tokens::read(alloc, 7, b"a // the end"));
     assert!(rt; tokens.len() == 1);
     let token = tokens.at(0);
+    expect(
+        rt,
+        tokens.file() == 7 && tokens.end() == 12,
+        "the file and the end",
+    );
     expect(rt, token.at.file == 7, "the token's file");
     expect(rt, token.text == b"a".as_slice(), "the token's text");
 }
 
 #[test]
-fn tokens_know_their_file(rt: HostRuntime) {
+fn tokens_and_faults_have_places(rt: HostRuntime) {
     each_text_has_one_cut();
-    expect_places(
-        &rt,
-        &sure(&rt, Tokens::read(rt.alloc(), 7, b"a // the end")),
-    );
+    expect_patterns(&rt, rt.alloc(), &PATTERNS);
+    expect_faults(&rt, rt.alloc(), &FAULTS);
+    expect_places(&rt, rt.alloc());
 }

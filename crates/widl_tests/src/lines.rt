@@ -57,10 +57,9 @@ fn expect_terminal(rt: &impl Abort, form: WordForm, word: &[u8], terminal: Termi
     assert!(rt; terminal_of(form, word) == terminal, "{word:?}");
 }
 
-#[test]
-fn words_have_their_terminals(rt: HostRuntime) {
-    for (word, terminal) in &WORDS {
-        expect_terminal(&rt, WordForm::Bare, word, *terminal);
+fn expect_terminals(rt: &impl Abort, rows: &[(&[u8], Terminal)]) {
+    for (word, terminal) in rows {
+        expect_terminal(rt, WordForm::Bare, word, *terminal);
     }
 }
 
@@ -101,19 +100,21 @@ fn expect_units(
     assert!(rt; is_so, "{word:?}");
 }
 
-#[test]
-fn texts_have_their_units(rt: HostRuntime) {
-    for (word, units) in &TEXTS {
-        expect_terminal(&rt, WordForm::Text, word, Terminal::Text);
-        expect_units(&rt, rt.alloc(), WordForm::Text, word, Some(units));
-    }
-    for word in &MALFORMED {
-        expect_terminal(&rt, WordForm::Text, word, Terminal::Unknown);
-        expect_terminal(&rt, WordForm::RawText, word, Terminal::Text);
-        expect_units(&rt, rt.alloc(), WordForm::Text, word, None);
+fn expect_texts(rt: &impl Abort, alloc: Global, rows: &[(&[u8], &[u16])]) {
+    for (word, units) in rows {
+        expect_terminal(rt, WordForm::Text, word, Terminal::Text);
+        expect_units(rt, alloc, WordForm::Text, word, Some(units));
     }
     let raw = b"\"\\n\"";
-    expect_units(&rt, rt.alloc(), WordForm::RawText, raw, Some(&[92, 110]));
+    expect_units(rt, alloc, WordForm::RawText, raw, Some(&[92, 110]));
+}
+
+fn expect_malformed(rt: &impl Abort, alloc: Global, rows: &[&[u8]]) {
+    for word in rows {
+        expect_terminal(rt, WordForm::Text, word, Terminal::Unknown);
+        expect_terminal(rt, WordForm::RawText, word, Terminal::Text);
+        expect_units(rt, alloc, WordForm::Text, word, None);
+    }
 }
 
 /// A word of this form is too large or not.
@@ -141,12 +142,19 @@ fn expect_large_texts(rt: &impl Abort, alloc: Global) {
     expect_large(rt, WordForm::Unclosed, &longer, false);
 }
 
-#[test]
-fn literals_have_their_limits(rt: HostRuntime) {
-    for (word, value, large) in &INTEGERS {
+fn expect_integers(rt: &impl Abort, rows: &[(&[u8], i128, bool)]) {
+    for (word, value, large) in rows {
         assert!(rt; integer_of(word) == *value, "{word:?}");
-        expect_large(&rt, WordForm::Bare, word, *large);
+        expect_large(rt, WordForm::Bare, word, *large);
     }
+}
+
+#[test]
+fn words_have_terminals_units_and_limits(rt: HostRuntime) {
+    expect_terminals(&rt, &WORDS);
+    expect_texts(&rt, rt.alloc(), &TEXTS);
+    expect_malformed(&rt, rt.alloc(), &MALFORMED);
+    expect_integers(&rt, &INTEGERS);
     expect_large_texts(&rt, rt.alloc());
 }
 
@@ -233,13 +241,9 @@ const FIRST_BREAKS_IN_BLOCKS: [(&[u8], &str); 3] = [
     ),
 ];
 
-#[test]
-fn first_words_that_fit_no_form(rt: HostRuntime) {
-    for (script, wanted) in &FIRST_BREAKS {
-        expect_answer(&rt, rt.alloc(), script, wanted);
-    }
-    for (script, wanted) in &FIRST_BREAKS_IN_BLOCKS {
-        expect_answer(&rt, rt.alloc(), script, wanted);
+fn expect_breaks(rt: &impl Abort, alloc: Global, rows: &[(&[u8], &str)]) {
+    for (script, wanted) in rows {
+        expect_answer(rt, alloc, script, wanted);
     }
 }
 
@@ -306,28 +310,29 @@ const HOSTILE_EXPRESSIONS: [Repeated; 5] = [
     (b"do \"", b"\\u0000", 174_761, b"\"", "S4 1 4"),
 ];
 
-const REPEATED: [&[Repeated]; 4] = [
-    &LIMITS,
-    &HOSTILE_LINES,
-    &HOSTILE_WORDS,
-    &HOSTILE_EXPRESSIONS,
-];
-
-#[test]
-fn limits_and_hostile_scripts(rt: HostRuntime) {
-    for table in &REPEATED {
-        for (head, body, count, tail, wanted) in *table {
-            let script = script_of(&rt, rt.alloc(), head, body, *count, tail);
-            expect_answer(&rt, rt.alloc(), &script, wanted);
-        }
+fn expect_repeated(rt: &impl Abort, alloc: Global, rows: &[Repeated]) {
+    for (head, body, count, tail, wanted) in rows {
+        let script = script_of(rt, alloc, head, body, *count, tail);
+        expect_answer(rt, alloc, &script, wanted);
     }
 }
 
 /// 32 open blocks, and 200,000 lines in them.
+fn expect_blocks(rt: &impl Abort, alloc: Global) {
+    let opened = script_of(rt, alloc, b"", b"if 1 is 1\n", 32, b"");
+    let closed = script_of(rt, alloc, b"", b"end\n", 32, b"");
+    let script = script_of(rt, alloc, &opened, b"do 1\n", 200_000, &closed);
+    expect_answer(rt, alloc, &script, "fits 200064");
+}
+
 #[test]
-fn hostile_blocks(rt: HostRuntime) {
-    let opened = script_of(&rt, rt.alloc(), b"", b"if 1 is 1\n", 32, b"");
-    let closed = script_of(&rt, rt.alloc(), b"", b"end\n", 32, b"");
-    let script = script_of(&rt, rt.alloc(), &opened, b"do 1\n", 200_000, &closed);
-    expect_answer(&rt, rt.alloc(), &script, "fits 200064");
+fn first_breaks_of_small_and_hostile_scripts(rt: HostRuntime) {
+    let alloc = rt.alloc();
+    expect_breaks(&rt, alloc, &FIRST_BREAKS);
+    expect_breaks(&rt, alloc, &FIRST_BREAKS_IN_BLOCKS);
+    expect_repeated(&rt, alloc, &LIMITS);
+    expect_repeated(&rt, alloc, &HOSTILE_LINES);
+    expect_repeated(&rt, alloc, &HOSTILE_WORDS);
+    expect_repeated(&rt, alloc, &HOSTILE_EXPRESSIONS);
+    expect_blocks(&rt, alloc);
 }

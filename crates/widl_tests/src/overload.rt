@@ -1,5 +1,4 @@
-//! The standard's categories against each other, and worked overload sets.
+//! Distinguishable types and effective overload sets.
 
 mod apart;
 mod sets;
-mod violations;

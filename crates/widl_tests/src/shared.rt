@@ -1,13 +1,13 @@
 //! Definitions, types and values that several modules make.
 
 pub mod accepted_sets;
-pub mod numbered;
 
 ghost use Rattle.std.specs.Prelude.{◌≡◌, IsTrue, Ok};
 ghost use Rattle.widl_idl.specs.Flattened.{IsUnion};
 ghost use Rattle.widl_idl.specs.Terms.{type_term};
 
 use std::alloc::Global;
+use std::mem::ManuallyDrop;
 use std::process::Abort;
 use widl_idl::{
     Arg, Args, Attrs, Callbacks, Callee, Choices, Constants, Defs, Dicts, IdlType, IdlTypes, Iface,
@@ -15,7 +15,7 @@ use widl_idl::{
     Spaces, Stringify, TextKind,
 };
 use widl_text::{Place, Units};
-use widl_value::{Number, ObjRef, Shape, Value, nearest};
+use widl_value::{Number, ObjRef, Shape, Value};
 
 pub const NOWHERE: Place = Place { file: 0, at: 0 };
 
@@ -73,6 +73,8 @@ pub fn of_kind(rt: &impl Abort, alloc: Global, kind: &str) -> IdlType {
         "sequence" => IdlType::Seq(boxed(rt, alloc, clamped())),
         "record" => IdlType::Rec(TextKind::Dom, boxed(rt, alloc, clamped())),
         "promise" => IdlType::Promise(boxed(rt, alloc, clamped())),
+        "long?" => nullable(rt, alloc, long()),
+        "DOMString?" => nullable(rt, alloc, text()),
         _ => without_parts(kind),
     }
 }
@@ -102,6 +104,15 @@ pub fn nullable(rt: &impl Abort, alloc: Global, t: IdlType) -> IdlType {
     IdlType::Nullable(boxed(rt, alloc, t))
 }
 
+/// A type of each of these kinds.
+pub fn of_kinds(rt: &impl Abort, alloc: Global, kinds: &[&str]) -> IdlTypes {
+    let mut types = IdlTypes::new(alloc);
+    for kind in kinds {
+        sure(rt, types.push(of_kind(rt, alloc, kind)));
+    }
+    types
+}
+
 pub fn union(rt: &impl Abort, alloc: Global, a: IdlType, b: IdlType) -> IdlType
     ensures { IsUnion (type_term result) }
 {
@@ -111,42 +122,34 @@ pub fn union(rt: &impl Abort, alloc: Global, a: IdlType, b: IdlType) -> IdlType
     IdlType::Union(members)
 }
 
-pub fn interface(
-    alloc: Global,
-    name: Units,
-    parent: Option<u32>,
-    ctors: Sigs,
-    ops: OpNames,
-) -> Iface {
-    Iface {
+/// Adds an interface without a name and members.
+pub fn add_interface(rt: &impl Abort, alloc: Global, ifaces: &mut Ifaces, parent: Option<u32>) {
+    let iface = Iface {
         at: NOWHERE,
-        name,
+        name: Units::new(alloc),
         parent,
-        ctors,
-        ops,
+        ctors: Sigs::new(alloc),
+        ops: OpNames::new(alloc),
         attrs: Attrs::new(alloc),
         consts: Constants::new(alloc),
         text: Stringify::No,
         pairs: None,
         order: Slots::new(alloc),
-    }
-}
-
-/// Adds an interface without members.
-fn add_interface(rt: &impl Abort, alloc: Global, ifaces: &mut Ifaces, parent: Option<u32>) {
-    let (ctors, ops) = (Sigs::new(alloc), OpNames::new(alloc));
-    let iface = interface(alloc, Units::new(alloc), parent, ctors, ops);
+    };
     sure(rt, ifaces.push(iface));
 }
 
-/// Interface 1 inherits from 0, and 2 from none.
-pub fn three_interfaces(rt: &impl Abort, alloc: Global) -> Ifaces {
+/// Interfaces with these parents.
+pub fn with_parents(rt: &impl Abort, alloc: Global, parents: &[Option<u32>]) -> Ifaces {
     let mut ifaces = Ifaces::new(alloc);
-    for parent in &[None, Some(0), None] {
+    for parent in parents {
         add_interface(rt, alloc, &mut ifaces, *parent);
     }
     ifaces
 }
+
+/// Interface 1 inherits from 0, and 2 from none.
+pub const THREE: [Option<u32>; 3] = [None, Some(0), None];
 
 /// So many interfaces, each of which inherits from the one before or from none.
 pub fn many_interfaces(rt: &impl Abort, alloc: Global, count: u32, chained: bool) -> Ifaces {
@@ -156,17 +159,6 @@ pub fn many_interfaces(rt: &impl Abort, alloc: Global, count: u32, chained: bool
         add_interface(rt, alloc, &mut ifaces, parent);
     }
     ifaces
-}
-
-pub fn namespace(alloc: Global, name: Units, ops: OpNames) -> Space {
-    Space {
-        at: NOWHERE,
-        name,
-        ops,
-        attrs: Attrs::new(alloc),
-        consts: Constants::new(alloc),
-        order: Slots::new(alloc),
-    }
 }
 
 /// A list with these interfaces and namespaces alone.
@@ -181,26 +173,25 @@ pub fn list_of(alloc: Global, ifaces: Ifaces, spaces: Spaces) -> Defs {
     }
 }
 
-/// The operations of one name, which have these overloads.
-pub fn one_operation(rt: &impl Abort, alloc: Global, name: &str, sigs: Sigs) -> OpNames {
+/// A namespace whose one operation has these overloads.
+fn namespace(rt: &impl Abort, alloc: Global, sigs: Sigs) -> Space {
     let mut ops = OpNames::new(alloc);
-    add_operation(rt, &mut ops, units(rt, alloc, name), false, sigs);
-    ops
-}
-
-/// Adds the operations of one name.
-pub fn add_operation(rt: &impl Abort, ops: &mut OpNames, name: Units, fixed: bool, sigs: Sigs) {
+    let (name, fixed) = (units(rt, alloc, "f"), false);
     sure(rt, ops.push(OpName { name, fixed, sigs }));
+    Space {
+        at: NOWHERE,
+        name: units(rt, alloc, "N"),
+        ops,
+        attrs: Attrs::new(alloc),
+        consts: Constants::new(alloc),
+        order: Slots::new(alloc),
+    }
 }
 
 /// A list with these interfaces and one namespace, whose one operation has these overloads.
 pub fn list_with(rt: &impl Abort, alloc: Global, ifaces: Ifaces, sigs: Sigs) -> Defs {
-    let ops = one_operation(rt, alloc, "f", sigs);
     let mut spaces = Spaces::new(alloc);
-    sure(
-        rt,
-        spaces.push(namespace(alloc, units(rt, alloc, "N"), ops)),
-    );
+    sure(rt, spaces.push(namespace(rt, alloc, sigs)));
     list_of(alloc, ifaces, spaces)
 }
 
@@ -224,17 +215,10 @@ pub fn add_argument(
     );
 }
 
-pub fn overload(args: Args) -> Sig {
-    Sig {
-        at: NOWHERE,
-        args,
-        result: IdlType::Undefined,
-    }
-}
-
 /// Adds an overload with these arguments.
 pub fn add_overload(rt: &impl Abort, sigs: &mut Sigs, args: Args) {
-    sure(rt, sigs.push(overload(args)));
+    let (at, result) = (NOWHERE, IdlType::Undefined);
+    sure(rt, sigs.push(Sig { at, args, result }));
 }
 
 /// Adds an overload of one argument.
@@ -244,20 +228,36 @@ pub fn add_of_one(rt: &impl Abort, alloc: Global, sigs: &mut Sigs, ty: IdlType, 
     add_overload(rt, sigs, args);
 }
 
+/// Numbers, and at the end an interface of this number.
+fn sixty_four_arguments(rt: &impl Abort, alloc: Global, number: u32, opt: Optionality) -> Args {
+    let mut args = Args::new(alloc);
+    for _place in 0..63 {
+        add_argument(rt, alloc, &mut args, long(), opt);
+    }
+    add_argument(rt, alloc, &mut args, IdlType::Interface(number), opt);
+    args
+}
+
+/// A list with 64 overloads of 64 arguments: the first 63 are of one type, and the last is of an interface of its own.
+pub fn sixty_four_overloads(
+    rt: &impl Abort,
+    alloc: Global,
+    opt: Optionality,
+) -> ManuallyDrop<Defs> {
+    let mut sigs = Sigs::new(alloc);
+    for number in 0..64 {
+        let args = sixty_four_arguments(rt, alloc, number, opt);
+        add_overload(rt, &mut sigs, args);
+    }
+    let ifaces = many_interfaces(rt, alloc, 64, false);
+    ManuallyDrop::new(list_with(rt, alloc, ifaces, sigs))
+}
+
 /// An ordinary object.
 pub fn object(id: u32) -> ObjRef {
     ObjRef {
         id,
         shape: Shape::Plain,
-    }
-}
-
-/// The nearest Number of a v of magnitude at most 2^64.
-pub fn rounded(v: i128) -> Option<Number> {
-    if v < -(1 << 64) || v > 1 << 64 {
-        None
-    } else {
-        Some(nearest(v))
     }
 }
 

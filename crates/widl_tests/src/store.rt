@@ -31,13 +31,12 @@ const LENGTHS: [(&str, &str, i128); 8] = [
     ("length", "length", 4_294_967_295),
 ];
 
-#[test]
-fn raises_the_length_of_arrays(rt: HostRuntime) {
-    let alloc = rt.alloc();
-    let mut store = realm_over(&rt, alloc, &[]);
-    for (text, answer, length) in &LENGTHS {
-        expect_put(&rt, alloc, &mut store, ARRAY, text, answer);
-        expect_number(&rt, alloc, &store, ARRAY, "length", *length);
+/// The length of an array is raised.
+fn expect_lengths(rt: &impl Abort, alloc: Global, rows: &[(&str, &str, i128)]) {
+    let mut store = realm_over(rt, alloc, &[]);
+    for (text, answer, length) in rows {
+        expect_put(rt, alloc, &mut store, ARRAY, text, answer);
+        expect_number(rt, alloc, &store, ARRAY, "length", *length);
     }
 }
 
@@ -72,15 +71,15 @@ fn refuse_all(rt: &impl Abort, alloc: Global, store: &mut Objects, obj: ObjRef) 
     expect_delete(rt, alloc, store, ARRAY, "length", "not configurable");
 }
 
-#[test]
-fn changes_nothing_where_it_refuses(rt: HostRuntime) {
-    let mut store = realm_over(&rt, rt.alloc(), &[]);
-    set_all(&rt, rt.alloc(), &mut store);
-    let obj = heir(&rt, &mut store, FIRST);
-    let before = written(&rt, rt.alloc(), &mut store, 0);
-    refuse_all(&rt, rt.alloc(), &mut store, obj);
-    let after = written(&rt, rt.alloc(), &mut store, 0);
-    expect(&rt, before.as_str() == after.as_str(), "the objects");
+/// Nothing changes where a change is refused.
+fn expect_refusals(rt: &impl Abort, alloc: Global) {
+    let mut store = realm_over(rt, alloc, &[]);
+    set_all(rt, alloc, &mut store);
+    let obj = heir(rt, &mut store, FIRST);
+    let before = written(rt, alloc, &mut store, 0);
+    refuse_all(rt, alloc, &mut store, obj);
+    let after = written(rt, alloc, &mut store, 0);
+    expect(rt, before.as_str() == after.as_str(), "the objects");
 }
 
 /// What is found at names of the first object.
@@ -91,25 +90,25 @@ const SHOWN: [(&str, &str); 4] = [
     ("none", "nothing"),
 ];
 
-#[test]
-fn looks_along_prototypes(rt: HostRuntime) {
-    let mut store = realm_over(&rt, rt.alloc(), &[]);
-    set_all(&rt, rt.alloc(), &mut store);
-    let obj = heir(&rt, &mut store, ARRAY);
-    for (text, found) in &SHOWN {
-        expect_found(&rt, rt.alloc(), &store, obj, text, found);
-        expect_own(&rt, rt.alloc(), &store, obj, text, None);
+/// Properties are looked for along prototypes.
+fn expect_shown(rt: &impl Abort, alloc: Global, rows: &[(&str, &str)]) {
+    let mut store = realm_over(rt, alloc, &[]);
+    set_all(rt, alloc, &mut store);
+    let obj = heir(rt, &mut store, ARRAY);
+    for (text, found) in rows {
+        expect_found(rt, alloc, &store, obj, text, found);
+        expect_own(rt, alloc, &store, obj, text, None);
     }
 }
 
-#[test]
-fn shadows_the_length_of_an_array(rt: HostRuntime) {
-    let mut store = realm_over(&rt, rt.alloc(), &[]);
-    let obj = heir(&rt, &mut store, ARRAY);
-    expect_put(&rt, rt.alloc(), &mut store, obj, "length", "done");
-    expect_put(&rt, rt.alloc(), &mut store, obj, "5", "done");
-    expect_number(&rt, rt.alloc(), &store, obj, "length", 1);
-    expect_number(&rt, rt.alloc(), &store, ARRAY, "length", 0);
+/// An heir of an array has a length of its own.
+fn expect_own_length(rt: &impl Abort, alloc: Global) {
+    let mut store = realm_over(rt, alloc, &[]);
+    let obj = heir(rt, &mut store, ARRAY);
+    expect_put(rt, alloc, &mut store, obj, "length", "done");
+    expect_put(rt, alloc, &mut store, obj, "5", "done");
+    expect_number(rt, alloc, &store, obj, "length", 1);
+    expect_number(rt, alloc, &store, ARRAY, "length", 0);
 }
 
 fn hidden() -> Prop {
@@ -157,13 +156,22 @@ const ORDERS: [(&[&str], &str); 2] = [
     ),
 ];
 
-#[test]
-fn orders_own_keys(rt: HostRuntime) {
-    let mut store = realm_over(&rt, rt.alloc(), &[]);
-    for (more, order) in &ORDERS {
-        let obj = heir(&rt, &mut store, FIRST);
-        put_mixed(&rt, rt.alloc(), &mut store, obj, more);
-        put_again(&rt, rt.alloc(), &mut store, obj);
-        expect_keys(&rt, rt.alloc(), &store, obj, order);
+/// Own keys have their order.
+fn expect_orders(rt: &impl Abort, alloc: Global, rows: &[(&[&str], &str)]) {
+    let mut store = realm_over(rt, alloc, &[]);
+    for (more, order) in rows {
+        let obj = heir(rt, &mut store, FIRST);
+        put_mixed(rt, alloc, &mut store, obj, more);
+        put_again(rt, alloc, &mut store, obj);
+        expect_keys(rt, alloc, &store, obj, order);
     }
+}
+
+#[test]
+fn properties_are_found_put_and_deleted(rt: HostRuntime) {
+    expect_lengths(&rt, rt.alloc(), &LENGTHS);
+    expect_refusals(&rt, rt.alloc());
+    expect_shown(&rt, rt.alloc(), &SHOWN);
+    expect_own_length(&rt, rt.alloc());
+    expect_orders(&rt, rt.alloc(), &ORDERS);
 }

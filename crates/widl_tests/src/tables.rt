@@ -3,14 +3,12 @@
 mod hostile;
 mod kinds;
 
-use crate::shared::{
-    THE_OPERATION, add_argument, add_of_one, add_overload, expect, list_with, of_kind, sure,
-    three_interfaces,
-};
+use crate::shared::accepted_sets::accepted;
+use crate::shared::{THE_OPERATION, THREE, expect, list_of, of_kinds, sure, with_parents};
 use std::alloc::Global;
 use std::mem::ManuallyDrop;
 use std::process::Abort;
-use widl_idl::{Args, Callee, Defs, IdlTypes, Optionality, Owner, Part, Sigs};
+use widl_idl::{Callee, Defs, Owner, Part, Spaces};
 use widl_overload::{overload_list, type_at};
 use widl_tables::{Kept, Pick, kept, pick_member, pick_overload};
 use widl_value::Class;
@@ -27,58 +25,22 @@ const CLASSES: [Class; 9] = [
     Class::Plain,
 ];
 
-/// A list with three interfaces and an operation with these overloads.
-fn beside_three_interfaces(rt: &impl Abort, alloc: Global, sigs: Sigs) -> ManuallyDrop<Defs> {
-    let ifaces = three_interfaces(rt, alloc);
-    ManuallyDrop::new(list_with(rt, alloc, ifaces, sigs))
-}
-
-/// A list of an operation with overloads of one required argument, each of a kind.
-fn one_of(rt: &impl Abort, alloc: Global, kinds: &[&str]) -> ManuallyDrop<Defs> {
-    let mut sigs = Sigs::new(alloc);
-    for kind in kinds {
-        let ty = of_kind(rt, alloc, kind);
-        add_of_one(rt, alloc, &mut sigs, ty, Optionality::Required);
-    }
-    beside_three_interfaces(rt, alloc, sigs)
-}
-
 /// What `args` arguments keep of the overloads of the one operation.
 fn kept_for(rt: &impl Abort, alloc: Global, defs: &Defs, args: u32) -> ManuallyDrop<Kept> {
     assert!(rt; overload_list(defs, &THE_OPERATION).len() < 4_294_967_296);
     ManuallyDrop::new(sure(rt, kept(alloc, defs, &THE_OPERATION, args)))
 }
 
-/// What so many arguments keep: these overloads, so many of the arguments, told apart at this place.
-#[derive(Clone, Copy)]
-struct Wanted {
-    args: u32,
-    overloads: &'static [u32],
-    argcount: u32,
-    place: Option<u32>,
-    /// The picks of the classes, where no value was probed.
-    picks: &'static str,
-}
-
-/// The classes pick these of the overloads that are kept, a letter each: `-` for none, `p` for a probe of
-/// the second.
-fn expect_picks(rt: &impl Abort, defs: &Defs, kept: &Kept, probed: bool, wanted: &str) {
-    expect(rt, wanted.len() == CLASSES.len(), wanted);
-    for (class, want) in CLASSES.iter().zip(wanted.as_bytes().iter()) {
-        let pick = pick_overload(defs, kept, *class, probed);
-        assert!(rt; letter_of(pick) == *want, "{class:?} picks of {wanted}");
-    }
-}
-
-fn expect_kept(rt: &impl Abort, alloc: Global, defs: &Defs, wanted: &Wanted) {
-    let kept = kept_for(rt, alloc, defs, wanted.args);
-    let has_overloads = kept.overloads.as_slice() == wanted.overloads;
-    let has_rest = kept.argcount == wanted.argcount && kept.place == wanted.place;
-    assert!(rt; has_overloads && has_rest, "{} arguments", wanted.args);
-    if !wanted.picks.is_empty() {
-        expect_picks(rt, defs, &kept, false, wanted.picks);
-    }
-}
+/// What so many arguments keep: these overloads, so many of the arguments, told apart at this place; and the picks of the classes,
+/// where no value was probed, and where one was. A pick that is left out isn't compared.
+type Wanted = (
+    u32,
+    &'static [u32],
+    u32,
+    Option<u32>,
+    &'static str,
+    &'static str,
+);
 
 fn letter_of(pick: Pick) -> u8 {
     match pick {
@@ -92,171 +54,106 @@ fn letter_of(pick: Pick) -> u8 {
     }
 }
 
-/// `f(long... a); f(DOMString s, long b);`
-fn variadic_beside_two(rt: &impl Abort, alloc: Global) -> ManuallyDrop<Defs> {
-    let mut sigs = Sigs::new(alloc);
-    let long = of_kind(rt, alloc, "long");
-    add_of_one(rt, alloc, &mut sigs, long, Optionality::Variadic);
-    let mut args = Args::new(alloc);
-    for kind in &["DOMString", "long"] {
-        let ty = of_kind(rt, alloc, kind);
-        add_argument(rt, alloc, &mut args, ty, Optionality::Required);
-    }
-    add_overload(rt, &mut sigs, args);
-    beside_three_interfaces(rt, alloc, sigs)
-}
-
-/// What two arguments keep of these overloads.
-const VARIADIC_OR_TEXT: Wanted = Wanted {
-    args: 2,
-    overloads: &[0, 1],
-    argcount: 2,
-    place: Some(0),
-    picks: "111011111",
-};
-
-/// Counts of arguments that keep the first overload alone.
-const VARIADIC: [u32; 6] = [0, 1, 3, 6, 300_000, 4_294_967_295];
-
-#[test]
-fn variadic_or_text(rt: HostRuntime) {
-    let defs = variadic_beside_two(&rt, rt.alloc());
-    expect_kept(&rt, rt.alloc(), &defs, &VARIADIC_OR_TEXT);
-    for args in &VARIADIC {
-        let wanted = Wanted {
-            args: *args,
-            overloads: &[0],
-            argcount: *args,
-            place: None,
-            picks: "000000000",
-        };
-        expect_kept(&rt, rt.alloc(), &defs, &wanted);
+/// The classes pick these of the overloads that are kept, a letter each: `-` for none, `p` for a probe of
+/// the second.
+fn expect_picks(rt: &impl Abort, defs: &Defs, kept: &Kept, probed: bool, wanted: &str) {
+    for (class, want) in CLASSES.iter().zip(wanted.as_bytes().iter()) {
+        let pick = pick_overload(defs, kept, *class, probed);
+        assert!(rt; letter_of(pick) == *want, "{class:?} picks of {wanted}");
     }
 }
 
-/// One argument or two of `f(DOMString s); f(sequence<long> q);`, or none.
-const TEXT_OR_SEQUENCE: [Wanted; 3] = [
-    Wanted {
-        args: 1,
-        overloads: &[0, 1],
-        argcount: 1,
-        place: Some(0),
-        picks: "000000ppp",
-    },
-    Wanted {
-        args: 2,
-        overloads: &[0, 1],
-        argcount: 1,
-        place: Some(0),
-        picks: "000000ppp",
-    },
-    Wanted {
-        args: 0,
-        overloads: &[],
-        argcount: 0,
-        place: None,
-        picks: "---------",
-    },
+fn expect_kept(rt: &impl Abort, alloc: Global, defs: &Defs, wanted: &Wanted) {
+    let (args, overloads, argcount, place, picks, probed) = *wanted;
+    let kept = kept_for(rt, alloc, defs, args);
+    assert!(rt; kept.overloads.as_slice() == overloads, "{args} arguments");
+    assert!(rt;
+        kept.argcount == argcount && kept.place == place,
+        "{args} arguments"
+    );
+    expect_picks(rt, defs, &kept, false, picks);
+    expect_picks(rt, defs, &kept, true, probed);
+}
+
+/// A file, and what is kept of the overloads of its operation.
+type File = (&'static str, &'static [Wanted]);
+
+/// Without a string entry a text is taken for a number, and without a number for a truth.
+const FILES: [File; 6] = [
+    (
+        "namespace N { undefined f(long... a); undefined f(DOMString s, long b); };",
+        &[
+            (2, &[0, 1], 2, Some(0), "111011111", ""),
+            (0, &[0], 0, None, "000000000", ""),
+            (1, &[0], 1, None, "000000000", ""),
+            (3, &[0], 3, None, "000000000", ""),
+            (6, &[0], 6, None, "000000000", ""),
+            (300_000, &[0], 300_000, None, "000000000", ""),
+            (4_294_967_295, &[0], 4_294_967_295, None, "000000000", ""),
+        ],
+    ),
+    (
+        "namespace N { undefined f(DOMString s); undefined f(sequence<long> q); };",
+        &[
+            (1, &[0, 1], 1, Some(0), "000000ppp", "000000000"),
+            (2, &[0, 1], 1, Some(0), "000000ppp", "000000000"),
+            (0, &[], 0, None, "---------", ""),
+        ],
+    ),
+    (
+        "namespace N { undefined f(boolean a); undefined f(long a); };",
+        &[(1, &[0, 1], 1, Some(0), "110111111", "")],
+    ),
+    (
+        "interface I { }; interface J : I { }; namespace N { undefined f(boolean a); undefined f(I a); };",
+        &[(1, &[0, 1], 1, Some(0), "000000100", "")],
+    ),
+    (
+        "dictionary D { required long a; }; interface I { }; interface J : I { }; namespace N { undefined f(D a); undefined f(I a); };",
+        &[(1, &[0, 1], 1, Some(0), "00----100", "")],
+    ),
+    (
+        "namespace N { undefined f(long a); };",
+        &[
+            (0, &[], 0, None, "", ""),
+            (1, &[0], 1, None, "", ""),
+            (3, &[0], 1, None, "", ""),
+        ],
+    ),
 ];
 
-#[test]
-fn text_or_sequence(rt: HostRuntime) {
-    let defs = one_of(&rt, rt.alloc(), &["DOMString", "sequence"]);
-    for wanted in &TEXT_OR_SEQUENCE {
-        expect_kept(&rt, rt.alloc(), &defs, wanted);
-    }
-    for args in [1, 2] {
-        let both = kept_for(&rt, rt.alloc(), &defs, args);
-        expect_picks(&rt, &defs, &both, true, "000000000");
-    }
-}
-
-/// Overloads of one argument of two kinds, and what the classes pick. Without a string entry a text is taken
-/// for a number, and without a number for a truth.
-const PAIRS: [(&[&str], &str); 3] = [
-    (&["boolean", "long"], "110111111"),
-    (&["boolean", "interface"], "000000100"),
-    (&["dictionary", "interface"], "00----100"),
-];
-
-#[test]
-fn two_overloads(rt: HostRuntime) {
-    for (kinds, picks) in &PAIRS {
-        let defs = one_of(&rt, rt.alloc(), kinds);
-        let wanted = Wanted {
-            args: 1,
-            overloads: &[0, 1],
-            argcount: 1,
-            place: Some(0),
-            picks,
-        };
-        expect_kept(&rt, rt.alloc(), &defs, &wanted);
-    }
-}
-
-/// Arguments of `f(long a)`.
-const ONE_OR_NONE: [(u32, &[u32], u32); 3] = [(0, &[], 0), (1, &[0], 1), (3, &[0], 1)];
-
-#[test]
-fn one_overload_or_none(rt: HostRuntime) {
-    let defs = one_of(&rt, rt.alloc(), &["long"]);
-    for (args, overloads, argcount) in &ONE_OR_NONE {
-        let wanted = Wanted {
-            args: *args,
-            overloads,
-            argcount: *argcount,
-            place: None,
-            picks: "",
-        };
-        expect_kept(&rt, rt.alloc(), &defs, &wanted);
+fn expect_files(rt: &impl Abort, alloc: Global, files: &[File]) {
+    for (file, rows) in files {
+        let list = ManuallyDrop::new(accepted(rt, alloc, &[*file]));
+        for wanted in *rows {
+            expect_kept(rt, alloc, list.defs(), wanted);
+        }
     }
 }
 
 const PARTS: [Part; 4] = [Part::Op(1), Part::Constructor, Part::Get(0), Part::Text];
 
-#[test]
-fn callees_that_a_list_has_not(rt: HostRuntime) {
-    let defs = one_of(&rt, rt.alloc(), &["long"]);
-    for part in &PARTS {
+/// What a list of the operation `f(long a)` hasn't, and its one argument.
+fn expect_no_callees(rt: &impl Abort, alloc: Global, parts: &[Part]) {
+    let file = "namespace N { undefined f(long a); };";
+    let list = ManuallyDrop::new(accepted(rt, alloc, &[file]));
+    let defs = list.defs();
+    for part in parts {
         let callee = Callee {
             owner: Owner::Space(0),
             part: *part,
         };
-        expect(
-            &rt,
-            overload_list(&defs, &callee).len() == 0,
-            "no overloads",
-        );
-        expect(&rt, type_at(&defs, &callee, 0, 0).is_none(), "no type");
+        expect(rt, overload_list(defs, &callee).is_empty(), "no overloads");
+        expect(rt, type_at(defs, &callee, 0, 0).is_none(), "no type");
     }
-    expect(
-        &rt,
-        type_at(&defs, &THE_OPERATION, 0, 7).is_some(),
-        "a type",
-    );
-    expect(
-        &rt,
-        type_at(&defs, &THE_OPERATION, 1, 0).is_none(),
-        "no second overload",
-    );
+    expect(rt, type_at(defs, &THE_OPERATION, 0, 7).is_some(), "a type");
+    expect(rt, type_at(defs, &THE_OPERATION, 1, 0).is_none(), "no type");
 }
 
-/// The classes pick these members of a union of kinds, a letter each.
-fn expect_member(rt: &impl Abort, alloc: Global, kinds: &[&str], probed: bool, wanted: &str) {
-    let defs = beside_three_interfaces(rt, alloc, Sigs::new(alloc));
-    let mut members = ManuallyDrop::new(IdlTypes::new(alloc));
-    for kind in kinds {
-        sure(rt, members.push(of_kind(rt, alloc, kind)));
-    }
-    expect(rt, wanted.len() == CLASSES.len(), wanted);
-    for (class, want) in CLASSES.iter().zip(wanted.as_bytes().iter()) {
-        let pick = pick_member(&defs, &members, *class, probed);
-        assert!(rt; letter_of(pick) == *want, "{class:?} picks of {kinds:?}");
-    }
-}
+/// Kinds of members, whether the value was probed, and what the classes pick, a letter each.
+type Union = (&'static [&'static str], bool, &'static str);
 
-/// Kinds of members, whether the value was probed, and what the classes pick.
-const UNIONS: [(&[&str], bool, &str); 13] = [
+const UNIONS: [Union; 13] = [
     (&["DOMString", "dictionary"], false, "110000111"),
     (&["DOMString", "boolean", "long"], false, "001200000"),
     (&["boolean", "long"], false, "110111111"),
@@ -272,9 +169,21 @@ const UNIONS: [(&[&str], bool, &str); 13] = [
     (&["undefined", "promise", "any"], false, "---------"),
 ];
 
-#[test]
-fn members_of_unions(rt: HostRuntime) {
-    for (kinds, probed, wanted) in &UNIONS {
-        expect_member(&rt, rt.alloc(), kinds, *probed, wanted);
+fn expect_unions(rt: &impl Abort, alloc: Global, rows: &[Union]) {
+    let ifaces = with_parents(rt, alloc, &THREE);
+    let defs = ManuallyDrop::new(list_of(alloc, ifaces, Spaces::new(alloc)));
+    for (kinds, probed, wanted) in rows {
+        let members = ManuallyDrop::new(of_kinds(rt, alloc, kinds));
+        for (class, want) in CLASSES.iter().zip(wanted.as_bytes().iter()) {
+            let pick = pick_member(&defs, &members, *class, *probed);
+            assert!(rt; letter_of(pick) == *want, "{class:?} picks of {kinds:?}");
+        }
     }
+}
+
+#[test]
+fn overloads_and_members_are_picked(rt: HostRuntime) {
+    expect_files(&rt, rt.alloc(), &FILES);
+    expect_no_callees(&rt, rt.alloc(), &PARTS);
+    expect_unions(&rt, rt.alloc(), &UNIONS);
 }

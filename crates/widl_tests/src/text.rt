@@ -44,11 +44,6 @@ fn smile(rt: &impl Abort, alloc: Global) -> Units {
     units(rt, alloc, "a\u{1F600}")
 }
 
-/// The units of a text are these.
-fn expect_units(rt: &impl Abort, text: &Units, want: &[u16], what: &str) {
-    expect(rt, text.as_slice() == want, what);
-}
-
 /// Puts three keys, of which none is another.
 fn put_keys(rt: &impl Abort, alloc: Global, map: &mut HashMap<Key, u32>) {
     sure(rt, map.insert(Key::Name(smile(rt, alloc)), 1));
@@ -85,25 +80,32 @@ fn expect_own_copies(rt: &impl Abort, alloc: Global) {
     );
 }
 
-#[test]
-fn finds_array_indices(rt: HostRuntime) {
-    for (text, want) in &INDICES {
-        let key = Key::Name(units(&rt, rt.alloc(), text));
-        expect_index(&rt, key, *want, text);
+fn expect_indices(rt: &impl Abort, alloc: Global, rows: &[(&str, Option<u32>)]) {
+    for (text, want) in rows {
+        expect_index(rt, Key::Name(units(rt, alloc, text)), *want, text);
     }
-    expect_index(&rt, Key::Sym(1), None, "a symbol");
+    expect_index(rt, Key::Sym(1), None, "a symbol");
+}
+
+fn expect_surrogates(rt: &impl Abort, alloc: Global) {
+    let smile = smile(rt, alloc);
+    expect(
+        rt,
+        smile.as_slice() == [0x61, 0xD83D, 0xDE00].as_slice(),
+        "a pair",
+    );
+    let half = half_a_pair(rt, alloc);
+    expect(
+        rt,
+        half.as_slice() == [0x61, 0xD83D].as_slice(),
+        "half a pair",
+    );
 }
 
 #[test]
-fn has_units_and_tells_keys_apart(rt: HostRuntime) {
-    let alloc = rt.alloc();
-    expect_units(&rt, &smile(&rt, alloc), &[0x61, 0xD83D, 0xDE00], "a pair");
-    expect_units(
-        &rt,
-        &half_a_pair(&rt, alloc),
-        &[0x61, 0xD83D],
-        "half a pair",
-    );
-    expect_own_copies(&rt, alloc);
-    expect_keys_apart(&rt, alloc);
+fn has_units_indices_and_keys(rt: HostRuntime) {
+    expect_indices(&rt, rt.alloc(), &INDICES);
+    expect_surrogates(&rt, rt.alloc());
+    expect_own_copies(&rt, rt.alloc());
+    expect_keys_apart(&rt, rt.alloc());
 }

@@ -13,7 +13,7 @@ use widl_idl::{Callee, Owner, Part};
 use widl_overload::Accepted;
 use widl_text::{Key, Units};
 use widl_trace::{Code, Event};
-use widl_value::{IdlValues, Number, Value, Values};
+use widl_value::{IdlValues, Number, ObjRef, Shape, Value, Values};
 
 const DEFINITIONS: &str = "namespace N { undefined f(); readonly attribute any h; }; \
     interface I { static undefined _object(); undefined g(); attribute any e; stringifier; }; \
@@ -23,12 +23,119 @@ fn definitions(rt: &impl Abort, alloc: Global) -> ManuallyDrop<Accepted> {
     ManuallyDrop::new(accepted(rt, alloc, &[DEFINITIONS]))
 }
 
+/// The line of an event is this one.
+fn expect_line(rt: &impl Abort, alloc: Global, list: &Accepted, event: &Event, line: &str) {
+    let written = sure(rt, widl_trace::line(alloc, list, event));
+    expect(rt, written.bytes() == line.as_bytes(), line);
+}
+
+/// The line of an event that is left to the end of the test is this one.
+fn expect_made(rt: &impl Abort, alloc: Global, list: &Accepted, event: Event, line: &str) {
+    expect_line(rt, alloc, list, &ManuallyDrop::new(event), line);
+}
+
+const FIRST: ObjRef = ObjRef {
+    id: 20,
+    shape: Shape::Plain,
+};
+
+const SECOND: ObjRef = ObjRef {
+    id: 21,
+    shape: Shape::Plain,
+};
+
+const METHOD: ObjRef = ObjRef {
+    id: 19,
+    shape: Shape::Plain,
+};
+
+const EVENTS: [(Event, &str); 24] = [
+    (
+        Event::Get {
+            obj: SECOND,
+            key: Key::Sym(1),
+        },
+        "get #21 @toPrimitive",
+    ),
+    (
+        Event::Get {
+            obj: SECOND,
+            key: Key::Sym(3),
+        },
+        "get #21 @3",
+    ),
+    (Event::Keys { obj: FIRST }, "keys #20"),
+    (
+        Event::Ret(Value::Num(Number::Whole(18_446_744_073_709_551_616))),
+        "ret 18446744073709551616",
+    ),
+    (Event::Show(Value::Undefined), "show undefined"),
+    (Event::Show(Value::Null), "show null"),
+    (Event::Show(Value::Bool(true)), "show true"),
+    (Event::Show(Value::Bool(false)), "show false"),
+    (Event::Show(Value::Num(Number::NaN)), "show NaN"),
+    (Event::Show(Value::Num(Number::PosInf)), "show Infinity"),
+    (Event::Show(Value::Num(Number::NegInf)), "show -Infinity"),
+    (
+        Event::Show(Value::Num(Number::Whole(-9_007_199_254_740_993))),
+        "show -9007199254740993",
+    ),
+    (Event::Show(Value::Num(Number::Whole(0))), "show 0"),
+    (Event::Show(Value::Sym(0)), "show @iterator"),
+    (Event::Show(Value::Sym(2)), "show @toStringTag"),
+    (
+        Event::Fulfilled {
+            promise: FIRST,
+            value: Value::Num(Number::Whole(1)),
+        },
+        "promise #20 fulfilled 1",
+    ),
+    (
+        Event::Rejected {
+            promise: FIRST,
+            value: Value::Obj(SECOND),
+        },
+        "promise #20 rejected #21",
+    ),
+    (
+        Event::Waits {
+            promise: SECOND,
+            on: FIRST,
+            method: METHOD,
+        },
+        "promise #21 waits #20 #19",
+    ),
+    (
+        Event::Job {
+            promise: SECOND,
+            on: FIRST,
+            method: METHOD,
+        },
+        "job #21 #20 #19",
+    ),
+    (Event::Done, "done"),
+    (Event::Uncaught(Value::Obj(FIRST)), "uncaught #20"),
+    (Event::StopBudget, "stop budget"),
+    (Event::StopDepth, "stop depth"),
+    (Event::StopProfile(99), "stop profile 99"),
+];
+
+fn expect_events(rt: &impl Abort, alloc: Global, list: &Accepted, rows: &[(Event, &str)]) {
+    for (event, line) in rows {
+        expect_line(rt, alloc, list, event, line);
+    }
+}
+
 fn text(rt: &impl Abort, alloc: Global, text: &str) -> Value {
     Value::Str(units(rt, alloc, text))
 }
 
-fn key(rt: &impl Abort, alloc: Global, text: &str) -> Key {
-    Key::Name(units(rt, alloc, text))
+/// Events with names of properties.
+fn expect_named(rt: &impl Abort, alloc: Global, list: &Accepted) {
+    let (obj, key) = (SECOND, Key::Name(units(rt, alloc, "b")));
+    expect_made(rt, alloc, list, Event::Get { obj, key }, "get #21 \"b\"");
+    let (obj, key) = (FIRST, Key::Name(units(rt, alloc, "10")));
+    expect_made(rt, alloc, list, Event::Own { obj, key }, "own #20 \"10\"");
 }
 
 /// Whole numbers.
@@ -40,84 +147,16 @@ fn numbers(rt: &impl Abort, alloc: Global, all: &[i128]) -> Values {
     values
 }
 
-/// The line of an event is this one.
-fn expect_line(rt: &impl Abort, alloc: Global, list: &Accepted, event: Event, line: &str) {
-    let event = ManuallyDrop::new(event);
-    let written = sure(rt, widl_trace::line(alloc, list, &event));
-    expect(rt, written.bytes() == line.as_bytes(), line);
-}
-
-/// The line of a read of this key.
-fn expect_get(rt: &impl Abort, alloc: Global, list: &Accepted, key: Key, line: &str) {
-    let obj = object(21);
-    expect_line(rt, alloc, list, Event::Get { obj, key }, line);
-}
-
-fn expect_reads(rt: &impl Abort, alloc: Global, list: &Accepted) {
-    expect_get(rt, alloc, list, key(rt, alloc, "b"), "get #21 \"b\"");
-    expect_get(rt, alloc, list, Key::Sym(1), "get #21 @toPrimitive");
-    expect_get(rt, alloc, list, Key::Sym(3), "get #21 @3");
-    let obj = object(20);
-    expect_line(rt, alloc, list, Event::Keys { obj }, "keys #20");
-    let key = key(rt, alloc, "10");
-    expect_line(rt, alloc, list, Event::Own { obj, key }, "own #20 \"10\"");
-}
-
-/// The line of a call.
-fn expect_call(
-    rt: &impl Abort,
-    alloc: Global,
-    list: &Accepted,
-    this: Value,
-    args: &[i128],
-    line: &str,
-) {
-    let (f, args) = (object(19), numbers(rt, alloc, args));
-    expect_line(rt, alloc, list, Event::Call { f, this, args }, line);
-}
-
 fn expect_calls(rt: &impl Abort, alloc: Global, list: &Accepted) {
-    let this = Value::Obj(object(18));
-    expect_call(
-        rt,
-        alloc,
-        list,
-        this,
-        &[300, 200],
-        "call #19 this #18 (300, 200)",
-    );
-    expect_call(rt, alloc, list, Value::Null, &[], "call #19 this null ()");
-    let (f, args) = (object(19), numbers(rt, alloc, &[1]));
-    expect_line(rt, alloc, list, Event::New { f, args }, "new #19 (1)");
-    let ret = Event::Ret(number(18_446_744_073_709_551_616));
-    expect_line(rt, alloc, list, ret, "ret 18446744073709551616");
-    let thr = Event::Thr(text(rt, alloc, "x"));
-    expect_line(rt, alloc, list, thr, "thr \"x\"");
-}
-
-/// A value is shown so.
-fn expect_show(rt: &impl Abort, alloc: Global, list: &Accepted, value: Value, line: &str) {
-    expect_line(rt, alloc, list, Event::Show(value), line);
-}
-
-/// Values without parts are shown so.
-fn expect_shown(rt: &impl Abort, alloc: Global, list: &Accepted) {
-    let rows = [
-        (Value::Undefined, "show undefined"),
-        (Value::Null, "show null"),
-        (Value::Bool(true), "show true"),
-        (Value::Bool(false), "show false"),
-        (Value::Num(Number::NaN), "show NaN"),
-        (Value::Num(Number::PosInf), "show Infinity"),
-        (Value::Num(Number::NegInf), "show -Infinity"),
-        (number(-9_007_199_254_740_993), "show -9007199254740993"),
-        (number(0), "show 0"),
-        (Value::Sym(0), "show @iterator"),
-        (Value::Sym(2), "show @toStringTag"),
-    ];
-    for (value, line) in rows {
-        expect_show(rt, alloc, list, value, line);
-    }
+    let (f, this) = (METHOD, Value::Obj(object(18)));
+    let args = numbers(rt, alloc, &[300, 200]);
+    let line = "call #19 this #18 (300, 200)";
+    expect_made(rt, alloc, list, Event::Call { f, this, args }, line);
+    let (this, args) = (Value::Null, Values::new(alloc));
+    let line = "call #19 this null ()";
+    expect_made(rt, alloc, list, Event::Call { f, this, args }, line);
+    let args = numbers(rt, alloc, &[1]);
+    expect_made(rt, alloc, list, Event::New { f, args }, "new #19 (1)");
 }
 
 /// Texts, and how they are shown.
@@ -129,26 +168,22 @@ const TEXTS: [(&str, &str); 2] = [
     ),
 ];
 
-fn expect_texts(rt: &impl Abort, alloc: Global, list: &Accepted) {
-    for (shown, line) in &TEXTS {
-        expect_show(rt, alloc, list, text(rt, alloc, shown), line);
+fn expect_texts(rt: &impl Abort, alloc: Global, list: &Accepted, rows: &[(&str, &str)]) {
+    for (shown, line) in rows {
+        expect_made(rt, alloc, list, Event::Show(text(rt, alloc, shown)), line);
     }
     let mut lone = Units::new(alloc);
     sure(rt, lone.push(0xDEAD));
-    expect_show(rt, alloc, list, Value::Str(lone), "show \"\\udead\"");
+    let shown = Event::Show(Value::Str(lone));
+    expect_made(rt, alloc, list, shown, "show \"\\udead\"");
+    let thrown = Event::Thr(text(rt, alloc, "x"));
+    expect_made(rt, alloc, list, thrown, "thr \"x\"");
 }
 
-#[test]
-fn reads_calls_and_shown_values(rt: HostRuntime) {
-    let list = definitions(&rt, rt.alloc());
-    expect_reads(&rt, rt.alloc(), &list);
-    expect_calls(&rt, rt.alloc(), &list);
-    expect_shown(&rt, rt.alloc(), &list);
-    expect_texts(&rt, rt.alloc(), &list);
-}
+/// A member, an overload, and the line where the steps begin, without values.
+type Member = (Owner, Part, Option<u32>, &'static str);
 
-/// Members, and the line where the steps of each begin, without values.
-const CALLEES: [(Owner, Part, Option<u32>, &str); 10] = [
+const CALLEES: [Member; 10] = [
     (Owner::Space(0), Part::Op(0), Some(1), "op N.f#1 ()"),
     (
         Owner::Iface(0),
@@ -171,56 +206,17 @@ const CALLEES: [(Owner, Part, Option<u32>, &str); 10] = [
     (Owner::Space(9), Part::Op(0), Some(3), "op #3 ()"),
 ];
 
-#[test]
-fn callees(rt: HostRuntime) {
-    let list = definitions(&rt, rt.alloc());
-    for (owner, part, overload, line) in &CALLEES {
+fn expect_callees(rt: &impl Abort, alloc: Global, list: &Accepted, rows: &[Member]) {
+    for (owner, part, overload, line) in rows {
         let event = Event::Op {
             callee: Callee {
                 owner: *owner,
                 part: *part,
             },
             overload: *overload,
-            values: IdlValues::new(rt.alloc()),
+            values: IdlValues::new(alloc),
         };
-        expect_line(&rt, rt.alloc(), &list, event, line);
-    }
-}
-
-fn expect_promises(rt: &impl Abort, alloc: Global, list: &Accepted) {
-    let (method, on, promise) = (object(19), object(20), object(21));
-    let value = number(1);
-    let fulfilled = Event::Fulfilled { promise: on, value };
-    expect_line(rt, alloc, list, fulfilled, "promise #20 fulfilled 1");
-    let rejected = Event::Rejected {
-        promise: object(22),
-        value: Value::Obj(promise),
-    };
-    expect_line(rt, alloc, list, rejected, "promise #22 rejected #21");
-    let waits = Event::Waits {
-        promise,
-        on,
-        method,
-    };
-    expect_line(rt, alloc, list, waits, "promise #21 waits #20 #19");
-    let job = Event::Job {
-        promise,
-        on,
-        method,
-    };
-    expect_line(rt, alloc, list, job, "job #21 #20 #19");
-}
-
-fn expect_ends(rt: &impl Abort, alloc: Global, list: &Accepted) {
-    let rows = [
-        (Event::Done, "done"),
-        (Event::Uncaught(Value::Obj(object(20))), "uncaught #20"),
-        (Event::StopBudget, "stop budget"),
-        (Event::StopDepth, "stop depth"),
-        (Event::StopProfile(99), "stop profile 99"),
-    ];
-    for (event, line) in rows {
-        expect_line(rt, alloc, list, event, line);
+        expect_made(rt, alloc, list, event, line);
     }
 }
 
@@ -253,14 +249,24 @@ const CODES: [(Code, &str); 26] = [
     (Code::Key, "error #20 key"),
 ];
 
-#[test]
-fn promises_ends_and_errors(rt: HostRuntime) {
-    let list = definitions(&rt, rt.alloc());
-    expect_promises(&rt, rt.alloc(), &list);
-    expect_ends(&rt, rt.alloc(), &list);
-    let obj = object(20);
-    for (code, line) in &CODES {
-        let code = *code;
-        expect_line(&rt, rt.alloc(), &list, Event::Error { obj, code }, line);
+fn expect_codes(rt: &impl Abort, alloc: Global, list: &Accepted, rows: &[(Code, &str)]) {
+    for (code, line) in rows {
+        let (obj, code) = (FIRST, *code);
+        expect_line(rt, alloc, list, &Event::Error { obj, code }, line);
     }
+}
+
+#[test]
+fn events_have_lines(rt: HostRuntime) {
+    let alloc = rt.alloc();
+    let list = definitions(&rt, alloc);
+    expect_events(&rt, alloc, &list, &EVENTS);
+    expect_named(&rt, alloc, &list);
+    expect_calls(&rt, alloc, &list);
+    expect_texts(&rt, alloc, &list, &TEXTS);
+    expect_callees(&rt, alloc, &list, &CALLEES);
+    expect_codes(&rt, alloc, &list, &CODES);
+    lists::expect_values(&rt, alloc, &list);
+    short::expect_short(&rt, alloc, &list);
+    long::expect_long(&rt, alloc, &list);
 }

@@ -1,8 +1,8 @@
-//! Each call on values once, with ample memory, IDL values as deep as they can be, and the nearest Numbers.
+//! Each call on values once, with ample memory, and IDL values as deep as they can be.
 
-use crate::shared::{expect, object, rounded, sure, units};
+use crate::shared::{expect, object, sure, units};
 use std::alloc::Global;
-use std::mem::{self, ManuallyDrop};
+use std::mem::ManuallyDrop;
 use std::process::Abort;
 use widl_text::Units;
 use widl_value::{
@@ -62,31 +62,28 @@ fn expect_copy(rt: &impl Abort, value: IdlValue) {
     drop(copy);
 }
 
-#[test]
-fn copies_each_variant_at_three_levels(rt: HostRuntime) {
-    let alloc = rt.alloc();
-    let mut value = IdlValue::List(one_of_each(&rt, alloc));
+/// A value of each variant that has no parts, at three levels of each that has some.
+fn expect_variants(rt: &impl Abort, alloc: Global) {
+    let mut value = IdlValue::List(one_of_each(rt, alloc));
     for _ in 0..3 {
-        let list = list_of(&rt, alloc, value);
-        value = dictionary_of(&rt, alloc, record_of(&rt, alloc, list));
+        let list = list_of(rt, alloc, value);
+        value = dictionary_of(rt, alloc, record_of(rt, alloc, list));
     }
-    expect_copy(&rt, value);
+    expect_copy(rt, value);
 }
 
-/// 256 dictionaries, each with a type of 16 levels.
-#[test]
-fn copies_and_drops_4096_levels(rt: HostRuntime) {
-    let alloc = rt.alloc();
+/// 4,096 levels: 256 dictionaries, each with a type of 16 levels.
+fn expect_levels(rt: &impl Abort, alloc: Global) {
     let mut value = IdlValue::Int(1);
     for _ in 0..256 {
         for _ in 0..7 {
-            let list = list_of(&rt, alloc, value);
-            value = record_of(&rt, alloc, list);
+            let list = list_of(rt, alloc, value);
+            value = record_of(rt, alloc, list);
         }
-        let list = list_of(&rt, alloc, value);
-        value = dictionary_of(&rt, alloc, list);
+        let list = list_of(rt, alloc, value);
+        value = dictionary_of(rt, alloc, list);
     }
-    expect_copy(&rt, value);
+    expect_copy(rt, value);
 }
 
 fn change_values(rt: &impl Abort, alloc: Global) {
@@ -139,12 +136,15 @@ fn copy_pairs(rt: &impl Abort, alloc: Global) {
 }
 
 #[test]
-fn changes_lists(rt: HostRuntime) {
-    change_values(&rt, rt.alloc());
-    change_entries(&rt, rt.alloc());
-    change_members(&rt, rt.alloc());
-    change_slots(&rt, rt.alloc());
-    copy_pairs(&rt, rt.alloc());
+fn idl_values_and_lists(rt: HostRuntime) {
+    let alloc = rt.alloc();
+    expect_variants(&rt, alloc);
+    expect_levels(&rt, alloc);
+    change_values(&rt, alloc);
+    change_entries(&rt, alloc);
+    change_members(&rt, alloc);
+    change_slots(&rt, alloc);
+    copy_pairs(&rt, alloc);
 }
 
 /// A value has this class, and a copy is the same.
@@ -153,70 +153,44 @@ fn expect_class(rt: &impl Abort, value: &Value, class: Class) {
     assert!(rt; value.class() == class && *copy == *value, "{class:?}");
 }
 
-/// An object of this shape.
-fn shaped(shape: Shape) -> Value {
-    Value::Obj(ObjRef { id: 7, shape })
-}
-
-#[test]
-fn copies_and_classes(rt: HostRuntime) {
-    let rows = [
-        (Value::Undefined, Class::Undefined),
-        (Value::Null, Class::Null),
-        (Value::Bool(false), Class::Bool),
-        (Value::Num(Number::Whole(-3)), Class::Num),
-        (Value::Str(units(&rt, rt.alloc(), "no")), Class::Str),
-        (Value::Sym(1), Class::Sym),
-        (shaped(Shape::Platform(4)), Class::Platform(4)),
-        (shaped(Shape::Callable), Class::Callable),
-        (shaped(Shape::Plain), Class::Plain),
-    ];
-    for (value, class) in &rows {
-        expect_class(&rt, value, *class);
-    }
-    mem::forget(rows);
-}
-
-/// Integers and the Numbers nearest to them.
-const NEAREST: [(i128, i128); 11] = [
-    (0, 0),
-    (9_007_199_254_740_993, 9_007_199_254_740_992),
-    (9_007_199_254_740_995, 9_007_199_254_740_996),
-    (-9_007_199_254_740_993, -9_007_199_254_740_992),
-    (-9_007_199_254_740_995, -9_007_199_254_740_996),
-    (36_028_797_018_963_972, 36_028_797_018_963_968),
-    (36_028_797_018_963_973, 36_028_797_018_963_976),
-    (18_446_744_073_709_550_591, 18_446_744_073_709_549_568),
-    (18_446_744_073_709_550_592, 18_446_744_073_709_551_616),
-    (18_446_744_073_709_551_615, 18_446_744_073_709_551_616),
-    (-18_446_744_073_709_551_616, -18_446_744_073_709_551_616),
+const CLASSES: [(Value, Class); 8] = [
+    (Value::Undefined, Class::Undefined),
+    (Value::Null, Class::Null),
+    (Value::Bool(false), Class::Bool),
+    (Value::Num(Number::Whole(-3)), Class::Num),
+    (Value::Sym(1), Class::Sym),
+    (
+        Value::Obj(ObjRef {
+            id: 7,
+            shape: Shape::Platform(4),
+        }),
+        Class::Platform(4),
+    ),
+    (
+        Value::Obj(ObjRef {
+            id: 7,
+            shape: Shape::Callable,
+        }),
+        Class::Callable,
+    ),
+    (
+        Value::Obj(ObjRef {
+            id: 7,
+            shape: Shape::Plain,
+        }),
+        Class::Plain,
+    ),
 ];
 
-/// The Number nearest to an integer is this one.
-fn expect_nearest(rt: &impl Abort, v: i128, want: i128) {
-    assert!(rt;
-        rounded(v) == Some(Number::Whole(want)),
-        "the nearest of {v}"
-    );
+fn expect_classes(rt: &impl Abort, alloc: Global, rows: &[(Value, Class)]) {
+    for (value, class) in rows {
+        expect_class(rt, value, *class);
+    }
+    let text = ManuallyDrop::new(Value::Str(units(rt, alloc, "no")));
+    expect_class(rt, &text, Class::Str);
 }
 
 #[test]
-fn rounds_to_the_nearest_number(rt: HostRuntime) {
-    for (v, want) in &NEAREST {
-        expect_nearest(&rt, *v, *want);
-    }
-}
-
-#[test]
-fn rounds_the_neighbours_of_powers(rt: HostRuntime) {
-    let mut power: i128 = 1;
-    for bits in 0..65 {
-        let (below, above) = (power.wrapping_sub(1), power.wrapping_add(1));
-        expect_nearest(&rt, below, if bits > 53 { power } else { below });
-        expect_nearest(&rt, power, power);
-        if bits < 64 {
-            expect_nearest(&rt, above, if bits >= 53 { power } else { above });
-        }
-        power = power.wrapping_mul(2);
-    }
+fn values_have_classes(rt: HostRuntime) {
+    expect_classes(&rt, rt.alloc(), &CLASSES);
 }

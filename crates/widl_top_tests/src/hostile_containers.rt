@@ -1,59 +1,29 @@
 //! Runs of hostile scripts whose operations take containers: deep ones, long ones, and such that change while they are read.
 
-use crate::ends::{EndRow, MOST, expect_end, expect_ends};
-use crate::made::{Parts, add, add_many, add_numbered, add_overload, add_parts, made};
-use crate::shared::bytes_of;
-use std::alloc::Global;
-use std::process::Abort;
+use crate::made::Parts;
+use crate::shared::{MOST, Output, Run, expect_runs};
 use widl_top::Status;
 
-/// An operation that takes a sequence of numbers.
-const SEQUENCE: Parts = &[("namespace N { undefined f(sequence<long> q); };", 1)];
+/// Dictionaries that nest as deep as they may, each in as many records as a type may have.
+const DEEPEST_RECORDS: Parts = &[
+    (
+        "dictionary D`n` { record<DOMString, record<DOMString, record<DOMString, record<DOMString, record<DOMString, record<DOMString, record<DOMString, record<DOMString, record<DOMString, record<DOMString, record<DOMString, record<DOMString, record<DOMString, record<DOMString, record<DOMString, D`m`>>>>>>>>>>>>>>> m; };\n",
+        255,
+    ),
+    (
+        "dictionary D255 { long m; }; namespace N { undefined f(optional D0 d = {}); };",
+        1,
+    ),
+];
 
-/// An operation that takes a record of numbers.
-const RECORD: Parts = &[(
-    "namespace N { undefined f(record<DOMString, long> r); };",
+/// An object that holds itself, and whose value calls the operation again.
+const HOLDS_ITSELF: Parts = &[(
+    "function t()\ndo N.f(o)\nend\nlet p = object()\ndefine p.valueOf = t\nlet o = object(p)\nset o.m = o\ndo N.f(o)\n",
     1,
 )];
 
-/// Dictionaries that nest as deep as they may, each in as many records as a type may have.
-fn deepest_records(rt: &impl Abort, alloc: Global) -> Vec<u8> {
-    let mut text = Vec::new(alloc);
-    for number in 0..255usize {
-        add_numbered(rt, alloc, &mut text, "dictionary D# { ", number);
-        add_many(rt, &mut text, "record<DOMString, ", 15);
-        let member = "D#>>>>>>>>>>>>>>> m; };\n";
-        add_numbered(rt, alloc, &mut text, member, number.saturating_add(1));
-    }
-    add(
-        rt,
-        &mut text,
-        "dictionary D255 { long m; }; namespace N { undefined f(optional D0 d = {}); };",
-    );
-    text
-}
-
-/// An object that holds itself, and whose value calls the operation again.
-const HOLDS_ITSELF: &str =
-    "function t()\ndo N.f(o)\nend\nlet p = object()\ndefine p.valueOf = t\nlet o = object(p)\nset o.m = o\ndo N.f(o)\n";
-
-/// In each second one of a hundred open calls 4,096 levels wait.
-#[test]
-fn the_deepest_types_wait_in_every_call(rt: HostRuntime) {
-    let alloc = rt.alloc();
-    let script = bytes_of(&rt, alloc, HOLDS_ITSELF);
-    let end = "get #22 \"valueOf\"\ncall #20 this #22 ()\nstop depth\n";
-    let fragment = deepest_records(&rt, alloc);
-    expect_end(
-        &rt,
-        alloc,
-        fragment,
-        script,
-        MOST,
-        Status::Stopped,
-        end.as_bytes(),
-    );
-}
+/// An operation that takes a sequence of numbers.
+const SEQUENCE: Parts = &[("namespace N { undefined f(sequence<long> q); };", 1)];
 
 /// An iterator whose `next` calls the operation again.
 const CALLS_FROM_NEXT: Parts = &[(
@@ -61,17 +31,34 @@ const CALLS_FROM_NEXT: Parts = &[(
     1,
 )];
 
-const FROM_NEXT: [EndRow; 1] = [(
-    CALLS_FROM_NEXT,
-    MOST,
-    Status::Stopped,
-    "get #22 \"next\"\ncall #21 this #22 ()\nstop depth\n",
-)];
+/// In each second one of a hundred open calls 4,096 levels wait, or an iterator.
+const AGAIN: [Run; 2] = [
+    (
+        DEEPEST_RECORDS,
+        HOLDS_ITSELF,
+        MOST,
+        Status::Stopped,
+        Output::End(&[("get #22 \"valueOf\"\ncall #20 this #22 ()\nstop depth\n", 1)]),
+    ),
+    (
+        SEQUENCE,
+        CALLS_FROM_NEXT,
+        MOST,
+        Status::Stopped,
+        Output::End(&[("get #22 \"next\"\ncall #21 this #22 ()\nstop depth\n", 1)]),
+    ),
+];
 
 #[test]
-fn an_iterator_calls_again(rt: HostRuntime) {
-    expect_ends(&rt, rt.alloc(), SEQUENCE, &FROM_NEXT);
+fn conversions_wait_in_every_call(rt: HostRuntime) {
+    expect_runs(&rt, rt.alloc(), &AGAIN);
 }
+
+/// An operation that takes a record of numbers.
+const RECORD: Parts = &[(
+    "namespace N { undefined f(record<DOMString, long> r); };",
+    1,
+)];
 
 /// An array of 65,536 items as a record. A thousand items have getters, and one of the last deletes the item after it, hides the
 /// next, puts another value in the place of the third, and adds a property.
@@ -82,16 +69,9 @@ const CHANGES: Parts = &[
     ),
     (",1", 65_535),
     (")\n", 1),
-    ("define a[\"#\"] get h\n", 1_000),
+    ("define a[\"`n`\"] get h\n", 1_000),
     ("define a[\"65530\"] get g\ndo N.f(a)\n", 1),
 ];
-
-const CHANGING: [EndRow; 1] = [(
-    CHANGES,
-    MOST,
-    Status::Done,
-    "\"65529\": 1, \"65530\": 1, \"65533\": 7, \"65534\": 1, \"65535\": 1})\nret undefined\ndone\n",
-)];
 
 /// Each of 1,024 turns of an iterator hides 64 symbols in the object, of which a record is made then.
 const SYMBOLS: Parts = &[
@@ -113,73 +93,112 @@ const BOTH: Parts = &[(
     1,
 )];
 
-const HIDING: [EndRow; 1] = [(
-    SYMBOLS,
-    MOST,
-    Status::Done,
-    "0, 0], {})\nret undefined\ndone\n",
-)];
+const CHANGING: [Run; 2] = [
+    (
+        RECORD,
+        CHANGES,
+        MOST,
+        Status::Done,
+        Output::End(&[(
+            "\"65529\": 1, \"65530\": 1, \"65533\": 7, \"65534\": 1, \"65535\": 1})\nret undefined\ndone\n",
+            1,
+        )]),
+    ),
+    (
+        BOTH,
+        SYMBOLS,
+        MOST,
+        Status::Done,
+        Output::End(&[("0, 0], {})\nret undefined\ndone\n", 1)]),
+    ),
+];
 
 #[test]
 fn records_have_many_keys_that_change(rt: HostRuntime) {
-    let alloc = rt.alloc();
-    expect_ends(&rt, alloc, RECORD, &CHANGING);
-    expect_ends(&rt, alloc, BOTH, &HIDING);
+    expect_runs(&rt, rt.alloc(), &CHANGING);
 }
 
 const MEMBERS: Parts = &[
     ("dictionary D { ", 1),
-    ("long m#; ", 30_000),
+    ("long m`n`; ", 30_000),
     ("}; namespace N { undefined f(optional D d = {}); };", 1),
 ];
 
 /// Nearly all units that there are, for members of nothing.
 const NOTHING: Parts = &[("do N.f()\n", 60)];
 
-const OF_NOTHING: [EndRow; 1] = [(
-    NOTHING,
-    MOST,
-    Status::Done,
-    "op N.f#0 (D{})\nret undefined\ndone\n",
-)];
-
-#[test]
-fn many_members_of_nothing_are_paid_for(rt: HostRuntime) {
-    expect_ends(&rt, rt.alloc(), MEMBERS, &OF_NOTHING);
-}
-
 /// A script of 1 MiB of one call's arguments.
 const ARGUMENTS: Parts = &[("do N.f(1", 1), (",1", 524_283), (")\n", 1)];
 
 const NUMBERS: Parts = &[("namespace N { undefined f(octet... a); };", 1)];
 
-const ONE_LINE: [EndRow; 1] = [(
-    ARGUMENTS,
-    MOST,
-    Status::Done,
-    "1, 1, 1)\nret undefined\ndone\n",
-)];
-
-#[test]
-fn one_line_has_all_bytes_of_a_script(rt: HostRuntime) {
-    expect_ends(&rt, rt.alloc(), NUMBERS, &ONE_LINE);
-}
-
 /// A script of 1 MiB with as many brackets in one another as a line may have, and 4,360 arrays in each but two.
-fn brackets(rt: &impl Abort, alloc: Global) -> Vec<u8> {
-    let mut script = bytes_of(rt, alloc, "do N.f(");
-    for _ in 0..30 {
-        add(rt, &mut script, "array(");
-        add_many(rt, &mut script, "array(),", 4_360);
-    }
-    add_parts(
-        rt,
-        alloc,
-        &mut script,
-        &[("1", 1), (")", 31), ("\n", 1_957)],
-    );
-    script
-}
+const BRACKETS: Parts = &[
+    ("do N.f(", 1),
+    ("array(", 1),
+    ("array(),", 4_360),
+    ("array(", 1),
+    ("array(),", 4_360),
+    ("array(", 1),
+    ("array(),", 4_360),
+    ("array(", 1),
+    ("array(),", 4_360),
+    ("array(", 1),
+    ("array(),", 4_360),
+    ("array(", 1),
+    ("array(),", 4_360),
+    ("array(", 1),
+    ("array(),", 4_360),
+    ("array(", 1),
+    ("array(),", 4_360),
+    ("array(", 1),
+    ("array(),", 4_360),
+    ("array(", 1),
+    ("array(),", 4_360),
+    ("array(", 1),
+    ("array(),", 4_360),
+    ("array(", 1),
+    ("array(),", 4_360),
+    ("array(", 1),
+    ("array(),", 4_360),
+    ("array(", 1),
+    ("array(),", 4_360),
+    ("array(", 1),
+    ("array(),", 4_360),
+    ("array(", 1),
+    ("array(),", 4_360),
+    ("array(", 1),
+    ("array(),", 4_360),
+    ("array(", 1),
+    ("array(),", 4_360),
+    ("array(", 1),
+    ("array(),", 4_360),
+    ("array(", 1),
+    ("array(),", 4_360),
+    ("array(", 1),
+    ("array(),", 4_360),
+    ("array(", 1),
+    ("array(),", 4_360),
+    ("array(", 1),
+    ("array(),", 4_360),
+    ("array(", 1),
+    ("array(),", 4_360),
+    ("array(", 1),
+    ("array(),", 4_360),
+    ("array(", 1),
+    ("array(),", 4_360),
+    ("array(", 1),
+    ("array(),", 4_360),
+    ("array(", 1),
+    ("array(),", 4_360),
+    ("array(", 1),
+    ("array(),", 4_360),
+    ("array(", 1),
+    ("array(),", 4_360),
+    ("1", 1),
+    (")", 31),
+    ("\n", 1_957),
+];
 
 /// An operation that takes arrays in arrays, as many as may be.
 const DEEP: Parts = &[
@@ -189,15 +208,6 @@ const DEEP: Parts = &[
     (">", 15),
     (" q); };", 1),
 ];
-
-#[test]
-fn brackets_hold_arrays(rt: HostRuntime) {
-    let alloc = rt.alloc();
-    let fragment = made(&rt, alloc, DEEP);
-    let script = brackets(&rt, alloc);
-    let end = b"]]]]]]]]]]]]]]])\nret undefined\ndone\n";
-    expect_end(&rt, alloc, fragment, script, MOST, Status::Done, end);
-}
 
 /// Sixteen levels of unions and sequences.
 const UNIONS: Parts = &[
@@ -215,48 +225,60 @@ const SHARED: Parts = &[
     ("do N.f(a)\n", 1),
 ];
 
-const DEEP_UNIONS: [EndRow; 1] = [(
-    SHARED,
-    MOST,
-    Status::Done,
-    "44, 44]]]]]]])\nret undefined\ndone\n",
-)];
-
-#[test]
-fn deep_unions_are_converted_to(rt: HostRuntime) {
-    expect_ends(&rt, rt.alloc(), UNIONS, &DEEP_UNIONS);
-}
-
-/// What four overloads of one length are told apart by.
-const WITH_RECORD: [&str; 4] = [
-    "sequence<long>",
-    "record<DOMString, long>",
-    "DOMString",
-    "long",
+const LONG: [Run; 4] = [
+    (
+        MEMBERS,
+        NOTHING,
+        MOST,
+        Status::Done,
+        Output::End(&[("op N.f#0 (D{})\nret undefined\ndone\n", 1)]),
+    ),
+    (
+        NUMBERS,
+        ARGUMENTS,
+        MOST,
+        Status::Done,
+        Output::End(&[("1, 1, 1)\nret undefined\ndone\n", 1)]),
+    ),
+    (
+        DEEP,
+        BRACKETS,
+        MOST,
+        Status::Done,
+        Output::End(&[("]]]]]]]]]]]]]]])\nret undefined\ndone\n", 1)]),
+    ),
+    (
+        UNIONS,
+        SHARED,
+        MOST,
+        Status::Done,
+        Output::End(&[("44, 44]]]]]]])\nret undefined\ndone\n", 1)]),
+    ),
 ];
 
-const WITH_DICTIONARY: [&str; 4] = ["sequence<long>", "D", "DOMString", "long"];
-
-/// As many overloads as a name may have, four of each length.
-fn container_overloads(rt: &impl Abort, alloc: Global) -> Vec<u8> {
-    let mut text = bytes_of(
-        rt,
-        alloc,
-        "dictionary D { required long x; };\nnamespace N {\n",
-    );
-    for more in 0..16usize {
-        let types = if more % 2 == 0 {
-            &WITH_RECORD
-        } else {
-            &WITH_DICTIONARY
-        };
-        for first in types {
-            add_overload(rt, alloc, &mut text, first, more);
-        }
-    }
-    add(rt, &mut text, "};");
-    text
+#[test]
+fn long_and_deep_values_are_converted(rt: HostRuntime) {
+    expect_runs(&rt, rt.alloc(), &LONG);
 }
+
+/// As many overloads as a name may have, four of each length: these are told apart by a sequence, a record or a dictionary, a text
+/// and a number.
+const OVERLOADS: Parts = &[
+    ("dictionary D { required long x; };\nnamespace N {\n", 1),
+    (
+        "undefined f(sequence<long> a`any 0+2`);
+undefined f(record<DOMString, long> a`any 0+2`);
+undefined f(DOMString a`any 0+2`);
+undefined f(long a`any 0+2`);
+undefined f(sequence<long> a`any 1+2`);
+undefined f(D a`any 1+2`);
+undefined f(DOMString a`any 1+2`);
+undefined f(long a`any 1+2`);
+",
+        8,
+    ),
+    ("};", 1),
+];
 
 /// Calls of each of the overloads of 15 and of 16 arguments.
 const OVERLOAD_CALLS: Parts = &[
@@ -273,12 +295,18 @@ const OVERLOAD_CALLS: Parts = &[
     ("do g(a)\ndo g(o)\ndo g(\"a\")\ndo g(7)\n", 200),
 ];
 
+const CALLED_OFTEN: [Run; 1] = [(
+    OVERLOADS,
+    OVERLOAD_CALLS,
+    MOST,
+    Status::Done,
+    Output::End(&[(
+        "op N.f#63 (7, 1, 1, 1, 1, 1, 1, 1, 1, 1, 1, 1, 1, 1, 1, 1)\nret undefined\nret undefined\ndone\n",
+        1,
+    )]),
+)];
+
 #[test]
 fn overloads_of_containers_are_called_often(rt: HostRuntime) {
-    let alloc = rt.alloc();
-    let fragment = container_overloads(&rt, alloc);
-    let script = made(&rt, alloc, OVERLOAD_CALLS);
-    let end =
-        b"op N.f#63 (7, 1, 1, 1, 1, 1, 1, 1, 1, 1, 1, 1, 1, 1, 1, 1)\nret undefined\nret undefined\ndone\n";
-    expect_end(&rt, alloc, fragment, script, MOST, Status::Done, end);
+    expect_runs(&rt, rt.alloc(), &CALLED_OFTEN);
 }

@@ -1,10 +1,7 @@
 //! Runs of hostile scripts: long ones, deep ones, and such that make much of little.
 
-use crate::ends::{EndRow, MOST, expect_end, expect_ends};
-use crate::made::{Parts, add, add_name, add_overload, add_parts, made};
-use crate::shared::bytes_of;
-use std::alloc::Global;
-use std::process::Abort;
+use crate::made::Parts;
+use crate::shared::{MOST, Output, Run, expect_runs};
 use widl_top::Status;
 
 /// One operation, which takes and gives any value.
@@ -51,22 +48,47 @@ const PROTOTYPES: Parts = &[
     ("show h.o.z\n", 1),
 ];
 
-const RUNS: [(Parts, &str, Status, &str); 5] = [
-    (MEMBERS, MOST, Status::Done, "done\n"),
-    (ITEMS, MOST, Status::Done, "show 500000\ndone\n"),
-    (TEXTS, MOST, Status::Stopped, "stop budget\n"),
+const RUNS: [Run; 5] = [
     (
+        ANY,
+        MEMBERS,
+        MOST,
+        Status::Done,
+        Output::End(&[("done\n", 1)]),
+    ),
+    (
+        ANY,
+        ITEMS,
+        MOST,
+        Status::Done,
+        Output::End(&[("show 500000\ndone\n", 1)]),
+    ),
+    (
+        ANY,
+        TEXTS,
+        MOST,
+        Status::Stopped,
+        Output::End(&[("stop budget\n", 1)]),
+    ),
+    (
+        ANY,
         BRACKETS,
         MOST,
         Status::Stopped,
-        "call #20 this #21 ()\nstop depth\n",
+        Output::End(&[("call #20 this #21 ()\nstop depth\n", 1)]),
     ),
-    (PROTOTYPES, MOST, Status::Done, "show undefined\ndone\n"),
+    (
+        ANY,
+        PROTOTYPES,
+        MOST,
+        Status::Done,
+        Output::End(&[("show undefined\ndone\n", 1)]),
+    ),
 ];
 
 #[test]
 fn hostile_scripts_are_run(rt: HostRuntime) {
-    expect_ends(&rt, rt.alloc(), ANY, &RUNS);
+    expect_runs(&rt, rt.alloc(), &RUNS);
 }
 
 /// One call of many arguments.
@@ -74,17 +96,10 @@ const ARGUMENTS: Parts = &[("do N.f(-1", 1), (",1", 299_999), (")\n", 1)];
 
 const VARIADIC: Parts = &[("namespace N { undefined f([Clamp] octet... a); };", 1)];
 
-const MANY_ARGUMENTS: [EndRow; 1] = [(
-    ARGUMENTS,
-    MOST,
-    Status::Done,
-    "1, 1, 1)\nret undefined\ndone\n",
-)];
-
 /// An enumeration of many values.
 const VALUES: Parts = &[
     ("enum E { \"a\"", 1),
-    (", \"v#\"", 49_999),
+    (", \"v`n`\"", 49_999),
     (" }; namespace N { undefined f(E a); };", 1),
 ];
 
@@ -97,29 +112,12 @@ const VALUE_CALLS: Parts = &[
     ("do N.f(\"v49999\")\n", 1),
 ];
 
-const MANY_VALUES: [EndRow; 1] = [(
-    VALUE_CALLS,
-    MOST,
-    Status::Uncaught,
-    "call #19 this #18 (\"v49999\")\nerror #21 enum\nthr #21\nuncaught #21\n",
-)];
-
-#[test]
-fn many_arguments_and_values_are_converted(rt: HostRuntime) {
-    let alloc = rt.alloc();
-    expect_ends(&rt, alloc, VARIADIC, &MANY_ARGUMENTS);
-    expect_ends(&rt, alloc, VALUES, &MANY_VALUES);
-}
-
 /// Overloads of 1 to 64 arguments, all that a name may have.
-fn many_overloads(rt: &impl Abort, alloc: Global) -> Vec<u8> {
-    let mut text = bytes_of(rt, alloc, "namespace N {\n");
-    for more in 0..64usize {
-        add_overload(rt, alloc, &mut text, "any", more);
-    }
-    add(rt, &mut text, "};");
-    text
-}
+const OVERLOADS: Parts = &[
+    ("namespace N {\n", 1),
+    ("undefined f(any a`any 0+1`);\n", 64),
+    ("};", 1),
+];
 
 /// Ten thousand calls of the longest overload.
 const OVERLOAD_CALLS: Parts = &[
@@ -131,13 +129,39 @@ const OVERLOAD_CALLS: Parts = &[
     ("do h()\n", 100),
 ];
 
+const MANY: [Run; 3] = [
+    (
+        VARIADIC,
+        ARGUMENTS,
+        MOST,
+        Status::Done,
+        Output::End(&[("1, 1, 1)\nret undefined\ndone\n", 1)]),
+    ),
+    (
+        VALUES,
+        VALUE_CALLS,
+        MOST,
+        Status::Uncaught,
+        Output::End(&[(
+            "call #19 this #18 (\"v49999\")\nerror #21 enum\nthr #21\nuncaught #21\n",
+            1,
+        )]),
+    ),
+    (
+        OVERLOADS,
+        OVERLOAD_CALLS,
+        MOST,
+        Status::Done,
+        Output::End(&[(
+            "7, 7, 7)\nret undefined\nret undefined\nret undefined\ndone\n",
+            1,
+        )]),
+    ),
+];
+
 #[test]
-fn many_overloads_are_called_often(rt: HostRuntime) {
-    let alloc = rt.alloc();
-    let fragment = many_overloads(&rt, alloc);
-    let script = made(&rt, alloc, OVERLOAD_CALLS);
-    let end = b"7, 7, 7)\nret undefined\nret undefined\nret undefined\ndone\n";
-    expect_end(&rt, alloc, fragment, script, MOST, Status::Done, end);
+fn many_arguments_values_and_overloads_are_converted(rt: HostRuntime) {
+    expect_runs(&rt, rt.alloc(), &MANY);
 }
 
 /// A script of 1 MiB: after 5 units each turn takes 11. They are for the statements `try` and `do`, the lines of the call and of
@@ -151,39 +175,46 @@ const TURNS: Parts = &[
     (" ", 11),
 ];
 
+const ENFORCED: Parts = &[("namespace N { undefined f([EnforceRange] octet a); };", 1)];
+
 /// Budgets that end after a read of a conversion, after the object of an error, before the last line, and after it.
-const TURN_ENDS: [(Parts, &str, Status, &str); 4] = [
+const TURN_ENDS: [Run; 4] = [
     (
+        ENFORCED,
         TURNS,
         "119",
         Status::Stopped,
-        "call #19 this #18 (#21)\nget #21 @toPrimitive\nstop budget\n",
+        Output::End(&[(
+            "call #19 this #18 (#21)\nget #21 @toPrimitive\nstop budget\n",
+            1,
+        )]),
     ),
     (
+        ENFORCED,
         TURNS,
         "124",
         Status::Stopped,
-        "call #20 this #21 ()\nret 256\nstop budget\n",
+        Output::End(&[("call #20 this #21 ()\nret 256\nstop budget\n", 1)]),
     ),
     (
+        ENFORCED,
         TURNS,
         "443602",
         Status::Stopped,
-        "error #40348 range\nthr #40348\nstop budget\n",
+        Output::End(&[("error #40348 range\nthr #40348\nstop budget\n", 1)]),
     ),
     (
+        ENFORCED,
         TURNS,
         "443603",
         Status::Done,
-        "error #40348 range\nthr #40348\ndone\n",
+        Output::End(&[("error #40348 range\nthr #40348\ndone\n", 1)]),
     ),
 ];
 
-const ENFORCED: Parts = &[("namespace N { undefined f([EnforceRange] octet a); };", 1)];
-
 #[test]
 fn budgets_end_a_long_script_anywhere(rt: HostRuntime) {
-    expect_ends(&rt, rt.alloc(), ENFORCED, &TURN_ENDS);
+    expect_runs(&rt, rt.alloc(), &TURN_ENDS);
 }
 
 /// An iterator that gives itself in every turn.
@@ -193,11 +224,6 @@ const ENDLESS: Parts = &[
         1,
     ),
     ("let r = object()\ndefine r.value = o\ndo N.f(o)\n", 1),
-];
-
-const ENDLESS_RUNS: [(Parts, &str, Status, &str); 2] = [
-    (ENDLESS, "1000", Status::Stopped, "stop budget\n"),
-    (ENDLESS, MOST, Status::Stopped, "stop budget\n"),
 ];
 
 const FLAT: Parts = &[("namespace N { undefined f(sequence<any> q); };", 1)];
@@ -211,11 +237,40 @@ const DEEP: Parts = &[
     (" q); };", 1),
 ];
 
+const ENDLESS_RUNS: [Run; 4] = [
+    (
+        FLAT,
+        ENDLESS,
+        "1000",
+        Status::Stopped,
+        Output::End(&[("stop budget\n", 1)]),
+    ),
+    (
+        FLAT,
+        ENDLESS,
+        MOST,
+        Status::Stopped,
+        Output::End(&[("stop budget\n", 1)]),
+    ),
+    (
+        DEEP,
+        ENDLESS,
+        "1000",
+        Status::Stopped,
+        Output::End(&[("stop budget\n", 1)]),
+    ),
+    (
+        DEEP,
+        ENDLESS,
+        MOST,
+        Status::Stopped,
+        Output::End(&[("stop budget\n", 1)]),
+    ),
+];
+
 #[test]
 fn iterators_that_never_end_are_stopped(rt: HostRuntime) {
-    let alloc = rt.alloc();
-    expect_ends(&rt, alloc, FLAT, &ENDLESS_RUNS);
-    expect_ends(&rt, alloc, DEEP, &ENDLESS_RUNS);
+    expect_runs(&rt, rt.alloc(), &ENDLESS_RUNS);
 }
 
 /// A text or a sequence.
@@ -236,8 +291,6 @@ const CALLS_FROM_METHOD: Parts = &[(
     1,
 )];
 
-const FROM_METHOD: [EndRow; 1] = [(CALLS_FROM_METHOD, MOST, Status::Stopped, "stop depth\n")];
-
 const CALLS_FROM_PROPERTY: Parts = &[(
     "function g()\ndo N.f(o)\nend\nlet o = object()\ndefine o.a get g\ndo N.f(o)\n",
     1,
@@ -250,68 +303,58 @@ const HIDDEN: Parts = &[
     ("do N.f(o)\n", 1),
 ];
 
-const OF_RECORDS: [EndRow; 2] = [
-    (CALLS_FROM_PROPERTY, MOST, Status::Stopped, "stop depth\n"),
+/// An object of 65,536 properties, the first of which deletes the second, hides the third and adds one more.
+const KEYS: Parts = &[
     (
+        "function g()\ndelete o.a01\ndefine hidden o.a02=1\ndefine o.late=1\nreturn 1\nend\nlet o=object()\n",
+        1,
+    ),
+    ("define o.`a`=1\n", 65_536),
+    ("define o.a00 get g\ndo N.f(o)\n", 1),
+];
+
+const CONTAINERS: [Run; 4] = [
+    (
+        CHOICE,
+        CALLS_FROM_METHOD,
+        MOST,
+        Status::Stopped,
+        Output::End(&[("stop depth\n", 1)]),
+    ),
+    (
+        RECORD,
+        CALLS_FROM_PROPERTY,
+        MOST,
+        Status::Stopped,
+        Output::End(&[("stop depth\n", 1)]),
+    ),
+    (
+        RECORD,
         HIDDEN,
         MOST,
         Status::Done,
-        "op N.f#0 ({})\nret undefined\ndone\n",
+        Output::End(&[("op N.f#0 ({})\nret undefined\ndone\n", 1)]),
+    ),
+    (
+        RECORD,
+        KEYS,
+        MOST,
+        Status::Done,
+        Output::End(&[("\"sD1\": 1})\nret undefined\ndone\n", 1)]),
     ),
 ];
 
 #[test]
 fn conversions_of_containers_are_deep_and_long(rt: HostRuntime) {
-    let alloc = rt.alloc();
-    expect_ends(&rt, alloc, CHOICE, &FROM_METHOD);
-    expect_ends(&rt, alloc, RECORD, &OF_RECORDS);
-}
-
-/// An object of 65,536 properties, the first of which deletes the second, hides the third and adds one more.
-fn many_keys(rt: &impl Abort, alloc: Global) -> Vec<u8> {
-    let mut script = bytes_of(
-        rt,
-        alloc,
-        "function g()\ndelete o.a01\ndefine hidden o.a02=1\ndefine o.late=1\nreturn 1\nend\nlet o=object()\ndefine o.a00 get g\n",
-    );
-    for number in 1..65_536usize {
-        add(rt, &mut script, "define o.");
-        add_name(rt, &mut script, b'a', number);
-        add(rt, &mut script, "=1\n");
-    }
-    add(rt, &mut script, "do N.f(o)\n");
-    script
-}
-
-#[test]
-fn a_record_has_many_keys(rt: HostRuntime) {
-    let alloc = rt.alloc();
-    let fragment = made(&rt, alloc, RECORD);
-    let script = many_keys(&rt, alloc);
-    let end = b"\"sD1\": 1})\nret undefined\ndone\n";
-    expect_end(&rt, alloc, fragment, script, MOST, Status::Done, end);
+    expect_runs(&rt, rt.alloc(), &CONTAINERS);
 }
 
 /// A function of 70,000 parameters and of as many local names behind its `return` is called 100,000 times.
-fn many_names(rt: &impl Abort, alloc: Global) -> Vec<u8> {
-    let mut script = bytes_of(rt, alloc, "function f(");
-    for number in 0..70_000usize {
-        if number > 0 {
-            add(rt, &mut script, ",");
-        }
-        add_name(rt, &mut script, b'A', number);
-    }
-    add(rt, &mut script, ")\nreturn 1\n");
-    for number in 0..70_000usize {
-        add(rt, &mut script, "let ");
-        add_name(rt, &mut script, b'a', number);
-        add(rt, &mut script, "=1\n");
-    }
-    add_parts(rt, alloc, &mut script, CALLS);
-    script
-}
-
-const CALLS: Parts = &[
+const NAMES: Parts = &[
+    ("function f(", 1),
+    ("`A`,", 69_999),
+    ("Tm1)\nreturn 1\n", 1),
+    ("let `a`=1\n", 70_000),
     ("end\nfunction g()\n", 1),
     ("do f()\n", 100),
     ("end\nfunction h()\n", 1),
@@ -320,11 +363,18 @@ const CALLS: Parts = &[
     ("do h()\n", 10),
 ];
 
+const OF_NAMES: [Run; 1] = [(
+    ANY,
+    NAMES,
+    MOST,
+    Status::Done,
+    Output::End(&[(
+        "call #20 this undefined ()\nret 1\nret undefined\nret undefined\ndone\n",
+        1,
+    )]),
+)];
+
 #[test]
 fn a_call_costs_what_it_gives_and_binds(rt: HostRuntime) {
-    let alloc = rt.alloc();
-    let fragment = made(&rt, alloc, ANY);
-    let script = many_names(&rt, alloc);
-    let end = b"call #20 this undefined ()\nret 1\nret undefined\nret undefined\ndone\n";
-    expect_end(&rt, alloc, fragment, script, MOST, Status::Done, end);
+    expect_runs(&rt, rt.alloc(), &OF_NAMES);
 }

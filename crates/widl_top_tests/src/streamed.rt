@@ -1,18 +1,22 @@
 //! What runs write where the sink takes little a call, and where a call of the sink fails.
 
-use crate::shared::{add_bytes, answer, bytes_of, numbers_of, words_of};
+use crate::made::{Parts, made};
+use crate::shared::{answer, files_of, sink_of, words_of};
 use std::alloc::Global;
 use std::process::Abort;
-use widl_sink::MemorySink;
-use widl_top::{Files, Status, SureFolder};
+use widl_top::{Status, SureFolder};
 
-const FRAGMENT: &str = "namespace N { undefined f(octet a); };";
+const FRAGMENT: Parts = &[("namespace N { undefined f(octet a); };", 1)];
 
-const DICTIONARIES: &str = "dictionary B { long b = 1; }; dictionary D : B { long c = 9; long a; };
-namespace N { undefined f(optional D d = {}); };";
+const DICTIONARIES: Parts = &[(
+    "dictionary B { long b = 1; }; dictionary D : B { long c = 9; long a; };
+namespace N { undefined f(optional D d = {}); };",
+    1,
+)];
 
 /// The getter of `b`, which is read first, takes `a` away and changes `c`.
-const CHANGES: &str = "function g()
+const CHANGES: Parts = &[(
+    "function g()
   delete this.a
   define this.c = 5
   return 2
@@ -22,9 +26,12 @@ define o.a = 1
 define o.c = 3
 define o.b get g
 do N.f(o)
-";
+",
+    1,
+)];
 
-const CHANGED: &str = "call #19 this #18 (#21)
+const CHANGED: Parts = &[(
+    "call #19 this #18 (#21)
 get #21 \"b\"
 call #20 this #21 ()
 ret 2
@@ -32,144 +39,104 @@ get #21 \"a\"
 get #21 \"c\"
 op N.f#0 (D{b: 2, c: 5})
 ret undefined
-";
+done
+",
+    1,
+)];
 
-/// A run of some lines over and over, and the calls of a sink that take its trace.
-struct Run {
-    fragment: &'static str,
-    budget: &'static str,
-    /// The lines of the script, what they trace, and how often they come.
-    script: &'static str,
-    traced: &'static str,
-    times: usize,
-    /// The last line, and the status where no call of the sink fails.
-    last: &'static str,
-    status: Status,
-    /// How many bytes the sink takes a call; each call but the last takes as many.
-    most: u32,
-    /// How many calls take the trace.
-    calls: u32,
+/// A run, and the calls of sinks that take its trace.
+pub struct Torn {
+    pub fragment: Parts,
+    pub budget: &'static str,
+    pub script: Parts,
+    /// The status where no call of the sink fails.
+    pub status: Status,
+    pub trace: Parts,
+    /// How many bytes a sink takes a call, and how many calls take the trace: each but the last takes as many.
+    pub sinks: &'static [(u32, u32)],
 }
 
-const RUNS: [Run; 5] = [
-    Run {
+const CALLS: Parts = &[("do N.f(300)\n", 12_000)];
+
+const CALL: &str = "call #19 this #18 (300)\nop N.f#0 (44)\nret undefined\n";
+
+const DONE: Parts = &[(CALL, 12_000), ("done\n", 1)];
+
+const STOPPED: Parts = &[(CALL, 12_000), ("stop budget\n", 1)];
+
+const RUNS: [Torn; 4] = [
+    Torn {
         fragment: DICTIONARIES,
         budget: "100000",
         script: CHANGES,
-        traced: CHANGED,
-        times: 1,
-        last: "done\n",
         status: Status::Done,
-        most: 1,
-        calls: 131,
+        trace: CHANGED,
+        sinks: &[(1, 131), (65_536, 1)],
     },
-    Run {
-        fragment: DICTIONARIES,
-        budget: "100000",
-        script: CHANGES,
-        traced: CHANGED,
-        times: 1,
-        last: "done\n",
-        status: Status::Done,
-        most: 65_536,
-        calls: 1,
-    },
-    Run {
+    Torn {
         fragment: FRAGMENT,
         budget: "60000",
-        script: "do N.f(300)\n",
-        traced: "call #19 this #18 (300)\nop N.f#0 (44)\nret undefined\n",
-        times: 12_000,
-        last: "done\n",
+        script: CALLS,
         status: Status::Done,
-        most: 65_536,
-        calls: 10,
+        trace: DONE,
+        sinks: &[(65_536, 10)],
     },
     // 12,000 statements and 36,000 lines before the last one
-    Run {
+    Torn {
         fragment: FRAGMENT,
         budget: "48001",
-        script: "do N.f(300)\n",
-        traced: "call #19 this #18 (300)\nop N.f#0 (44)\nret undefined\n",
-        times: 12_000,
-        last: "done\n",
+        script: CALLS,
         status: Status::Done,
-        most: 65_536,
-        calls: 10,
+        trace: DONE,
+        sinks: &[(65_536, 10)],
     },
-    Run {
+    Torn {
         fragment: FRAGMENT,
         budget: "48000",
-        script: "do N.f(300)\n",
-        traced: "call #19 this #18 (300)\nop N.f#0 (44)\nret undefined\n",
-        times: 12_000,
-        last: "stop budget\n",
+        script: CALLS,
         status: Status::Stopped,
-        most: 65_536,
-        calls: 10,
+        trace: STOPPED,
+        sinks: &[(65_536, 10)],
     },
 ];
 
-/// A text over and over, and then another.
-fn repeated(rt: &impl Abort, alloc: Global, text: &str, times: usize, last: &str) -> Vec<u8> {
-    let mut bytes = Vec::new(alloc);
-    for _ in 0..times {
-        let added = bytes.extend_from_slice(text.as_bytes());
-        added.expect(rt, "memory for a text");
-    }
-    let added = bytes.extend_from_slice(last.as_bytes());
-    added.expect(rt, "memory for a last text");
-    bytes
-}
-
-/// The script and the fragment of a run.
-fn folder_of(rt: &impl Abort, alloc: Global, run: &Run) -> SureFolder {
-    let script = repeated(rt, alloc, run.script, run.times, "");
-    let mut files = Files::new(alloc);
-    add_bytes(rt, alloc, &mut files, "s", script);
-    add_bytes(
-        rt,
-        alloc,
-        &mut files,
-        "n.idl",
-        bytes_of(rt, alloc, run.fragment),
-    );
-    SureFolder::new(files)
-}
-
-/// A sink that takes so many bytes a call and fails in one call.
-fn sink_of(rt: &impl Abort, alloc: Global, most: u32, call: u64) -> MemorySink {
-    assert!(rt; 0 < most);
-    let fails = numbers_of(rt, alloc, call);
-    MemorySink::new(alloc, 1_000_000, most, fails).expect(rt, "memory for a sink")
-}
-
-/// The status of a run, and what the sink holds, where the call after so many fails.
-fn expect_torn(rt: &impl Abort, alloc: Global, run: &Run, trace: &[u8], calls: u32) {
+/// The status of a run, and what the sink holds, where it takes so many bytes a call and the call after so many fails. The trace
+/// takes this number of calls.
+fn expect_torn(
+    rt: &impl Abort,
+    alloc: Global,
+    run: &Torn,
+    trace: &[u8],
+    (most, all): (u32, u32),
+    calls: u32,
+) {
     let words = words_of(rt, alloc, &["run", run.budget, "s", "n.idl"]);
-    let mut folder = folder_of(rt, alloc, run);
-    let mut out = sink_of(rt, alloc, run.most, calls as u64 + 1);
+    let files = files_of(rt, alloc, run.script, run.fragment);
+    let mut out = sink_of(rt, alloc, most, calls as u64 + 1);
+    let mut folder = SureFolder::new(files);
     let status = answer(alloc, &words, &mut folder, &mut out);
-    let torn = calls < run.calls;
+    let torn = calls < all;
     assert!(rt; torn == (status == Status::WriteFault), "{calls} calls");
     assert!(rt; torn || status == run.status, "{calls} calls");
     let taken = trace
         .len()
-        .min((calls as usize).saturating_mul(run.most as usize));
+        .min((calls as usize).saturating_mul(most as usize));
     assert!(rt; out.held() == &trace[..taken], "{calls} calls");
 }
 
-/// Lets each call of the sink fail in turn, and then one more than there are.
-fn expect_runs(rt: &impl Abort, alloc: Global, runs: &[Run]) {
+/// Lets each call of the sinks fail in turn, and then one more than there are.
+pub fn expect_torn_runs(rt: &impl Abort, alloc: Global, runs: &[Torn]) {
     for run in runs {
-        let trace = repeated(rt, alloc, run.traced, run.times, run.last);
-        for calls in 0..=run.calls {
-            expect_torn(rt, alloc, run, &trace, calls);
+        let trace = made(rt, alloc, run.trace);
+        for (most, all) in run.sinks {
+            for calls in 0..=*all {
+                expect_torn(rt, alloc, run, &trace, (*most, *all), calls);
+            }
         }
     }
 }
 
 #[test]
 fn each_call_of_the_sink_takes_a_full_buffer(rt: HostRuntime) {
-    expect_runs(&rt, rt.alloc(), &RUNS);
+    expect_torn_runs(&rt, rt.alloc(), &RUNS);
 }

@@ -2,7 +2,28 @@
 
 use super::Form;
 
-pub const EXPRESSIONS: [Form; 4] = [
+pub const EXPRESSIONS: [Form; 5] = [
+    (
+        r#"
+        do N.f(o.a[1], "x")
+        "#,
+        "
+        e0 name N
+        e1 member e0.f
+        e2 name o
+        e3 member e2.a
+        e4 1
+        e5 member e3[e4]
+        e6 text 120
+        e7 item e5
+        e8 item e6
+        e9 call e1 (e7..e9)
+        s0 do e9
+        s1 item s0
+        top (s1..s2)
+        names N f o a
+        ",
+    ),
     (
         r#"
         show undefined

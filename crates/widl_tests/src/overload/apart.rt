@@ -1,8 +1,6 @@
 //! Which types are distinguishable.
 
-use crate::shared::{
-    expect, list_of, long, many_interfaces, nullable, of_kind, text, three_interfaces, union,
-};
+use crate::shared::{THREE, expect, list_of, many_interfaces, of_kind, of_kinds, with_parents};
 use std::alloc::Global;
 use std::mem::ManuallyDrop;
 use std::process::Abort;
@@ -35,118 +33,71 @@ const TABLE: [(&str, &str); 17] = [
     ("long?", "11011111111011000"),
 ];
 
-/// A type of a kind of the table.
-fn of_row(rt: &impl Abort, alloc: Global, kind: &str) -> ManuallyDrop<IdlType> {
-    ManuallyDrop::new(match kind {
-        "long?" => nullable(rt, alloc, long()),
-        _ => of_kind(rt, alloc, kind),
+/// A type is told from each kind as marked.
+fn expect_marks(rt: &impl Abort, alloc: Global, defs: &Defs, a: &IdlType, marks: &str) {
+    for ((kind, _), mark) in TABLE.iter().zip(marks.as_bytes().iter()) {
+        let b = ManuallyDrop::new(of_kind(rt, alloc, kind));
+        let apart = distinguishable(defs, a, &b);
+        assert!(rt; apart == (*mark == b'1'), "{kind} in {marks}");
+    }
+}
+
+fn expect_table(rt: &impl Abort, alloc: Global, defs: &Defs, rows: &[(&str, &str)]) {
+    for (kind, marks) in rows {
+        let a = ManuallyDrop::new(of_kind(rt, alloc, kind));
+        expect_marks(rt, alloc, defs, &a, marks);
+    }
+}
+
+/// The kinds of a union, those of another one or one kind, and whether they are distinguishable.
+type Union = (&'static [&'static str], &'static [&'static str], bool);
+
+const UNIONS: [Union; 8] = [
+    (&["long", "DOMString"], &["boolean"], true),
+    (&["long", "DOMString"], &["DOMString"], false),
+    (&["long", "DOMString"], &["boolean", "DOMString"], false),
+    (&["derived", "long"], &["DOMString", "interface"], false),
+    (&["derived", "long"], &["DOMString", "unrelated"], true),
+    (&["long", "dictionary"], &["DOMString?"], false),
+    (&["long", "dictionary"], &["DOMString"], true),
+    (&["long?", "DOMString"], &["dictionary"], false),
+];
+
+/// The type of a kind, or the union of several.
+fn of_row(rt: &impl Abort, alloc: Global, kinds: &[&str]) -> ManuallyDrop<IdlType> {
+    ManuallyDrop::new(match kinds {
+        [kind] => of_kind(rt, alloc, kind),
+        _ => IdlType::Union(of_kinds(rt, alloc, kinds)),
     })
 }
 
-/// A type is told from each kind as marked.
-fn expect_marks(rt: &impl Abort, alloc: Global, defs: &Defs, kind: &str, marks: &str) {
-    let a = of_row(rt, alloc, kind);
-    for ((other, _), mark) in TABLE.iter().zip(marks.as_bytes().iter()) {
-        let apart = distinguishable(defs, &a, &of_row(rt, alloc, other));
-        assert!(rt; apart == (*mark == b'1'), "{kind} and {other}");
+/// Two types are distinguishable or not, in either order.
+fn expect_unions(rt: &impl Abort, alloc: Global, defs: &Defs, rows: &[Union]) {
+    for (first, second, apart) in rows {
+        let a = of_row(rt, alloc, first);
+        let b = of_row(rt, alloc, second);
+        assert!(rt; distinguishable(defs, &a, &b) == *apart, "{first:?}");
+        assert!(rt; distinguishable(defs, &b, &a) == *apart, "{first:?}");
     }
 }
 
 #[test]
-fn kinds_against_each_other(rt: HostRuntime) {
-    let defs = of_interfaces(rt.alloc(), three_interfaces(&rt, rt.alloc()));
-    for (kind, marks) in &TABLE {
-        expect_marks(&rt, rt.alloc(), &defs, kind, marks);
-    }
-}
-
-/// A union of two types and another type are distinguishable or not, in either order.
-fn expect_apart(
-    rt: &impl Abort,
-    alloc: Global,
-    defs: &Defs,
-    (first, second): (IdlType, IdlType),
-    other: IdlType,
-    apart: bool,
-) {
-    let other = ManuallyDrop::new(other);
-    let both = ManuallyDrop::new(union(rt, alloc, first, second));
-    expect(
-        rt,
-        distinguishable(defs, &both, &other) == apart,
-        "a union and a type",
-    );
-    expect(
-        rt,
-        distinguishable(defs, &other, &both) == apart,
-        "a type and a union",
-    );
-}
-
-fn expect_unions_of_plain_types(rt: &impl Abort, alloc: Global, defs: &Defs) {
-    expect_apart(rt, alloc, defs, (long(), text()), IdlType::Boolean, true);
-    expect_apart(rt, alloc, defs, (long(), text()), text(), false);
-    let other = union(rt, alloc, IdlType::Boolean, text());
-    expect_apart(rt, alloc, defs, (long(), text()), other, false);
-}
-
-fn expect_unions_of_interfaces(rt: &impl Abort, alloc: Global, defs: &Defs) {
-    let other = union(rt, alloc, text(), IdlType::Interface(0));
-    expect_apart(
-        rt,
-        alloc,
-        defs,
-        (IdlType::Interface(1), long()),
-        other,
-        false,
-    );
-    let other = union(rt, alloc, text(), IdlType::Interface(2));
-    expect_apart(
-        rt,
-        alloc,
-        defs,
-        (IdlType::Interface(1), long()),
-        other,
-        true,
-    );
-}
-
-fn expect_unions_of_dictionaries(rt: &impl Abort, alloc: Global, defs: &Defs) {
-    let maybe = nullable(rt, alloc, text());
-    expect_apart(rt, alloc, defs, (long(), IdlType::Dict(0)), maybe, false);
-    expect_apart(rt, alloc, defs, (long(), IdlType::Dict(0)), text(), true);
-    let maybe = nullable(rt, alloc, long());
-    expect_apart(rt, alloc, defs, (maybe, text()), IdlType::Dict(0), false);
-}
-
-#[test]
-fn unions_by_their_members(rt: HostRuntime) {
-    let defs = of_interfaces(rt.alloc(), three_interfaces(&rt, rt.alloc()));
-    expect_unions_of_plain_types(&rt, rt.alloc(), &defs);
-    expect_unions_of_interfaces(&rt, rt.alloc(), &defs);
-    expect_unions_of_dictionaries(&rt, rt.alloc(), &defs);
+fn kinds_and_unions_against_each_other(rt: HostRuntime) {
+    let alloc = rt.alloc();
+    let defs = of_interfaces(alloc, with_parents(&rt, alloc, &THREE));
+    expect_table(&rt, alloc, &defs, &TABLE);
+    expect_unions(&rt, alloc, &defs, &UNIONS);
 }
 
 /// One interface inherits from another one, so that nothing tells them apart.
 fn expect_heir(rt: &impl Abort, defs: &Defs, heir: u32, parent: u32) {
-    expect(
-        rt,
-        inherits(defs.ifaces.as_slice(), heir, parent),
-        "the heir",
-    );
-    expect(
-        rt,
-        !inherits(defs.ifaces.as_slice(), parent, heir),
-        "the parent",
-    );
-    let heir = ManuallyDrop::new(IdlType::Interface(heir));
-    let parent = ManuallyDrop::new(IdlType::Interface(parent));
-    expect(
-        rt,
-        !distinguishable(defs, &parent, &heir),
-        "the parent first",
-    );
-    expect(rt, !distinguishable(defs, &heir, &parent), "the heir first");
+    let ifaces = defs.ifaces.as_slice();
+    expect(rt, inherits(ifaces, heir, parent), "the heir");
+    expect(rt, !inherits(ifaces, parent, heir), "the parent");
+    let heir = IdlType::Interface(heir);
+    let parent = IdlType::Interface(parent);
+    let apart = distinguishable(defs, &parent, &heir) || distinguishable(defs, &heir, &parent);
+    expect(rt, !apart, "the heir and the parent");
 }
 
 #[test]

@@ -59,16 +59,13 @@ fn deletes_many_names_in_order(rt: HostRuntime) {
 }
 
 /// Puts a symbol, and puts and deletes index 0, many times; then finds the length that this leaves.
-#[test]
-fn puts_and_deletes_before_many_symbols(rt: HostRuntime) {
-    let alloc = rt.alloc();
-    let mut store = realm_over(&rt, alloc, &[]);
-    for id in 0..65_536 {
-        expect_done(&rt, &mut store, ARRAY, Key::Sym(id), 1);
-        expect_put(&rt, alloc, &mut store, ARRAY, "0", "done");
-        expect_delete(&rt, alloc, &mut store, ARRAY, "0", "done");
+fn delete_among_symbols(rt: &impl Abort, alloc: Global, store: &mut Objects, count: u32) {
+    for id in 0..count {
+        expect_done(rt, store, ARRAY, Key::Sym(id), 1);
+        expect_put(rt, alloc, store, ARRAY, "0", "done");
+        expect_delete(rt, alloc, store, ARRAY, "0", "done");
     }
-    expect_number(&rt, alloc, &store, ARRAY, "length", 1);
+    expect_number(rt, alloc, store, ARRAY, "length", 1);
 }
 
 /// The last of so many objects, each of which has the one before as its prototype.
@@ -80,14 +77,10 @@ fn chain(rt: &impl Abort, store: &mut Objects, count: u32) -> ObjRef {
     last
 }
 
-#[test]
-fn looks_along_a_long_chain(rt: HostRuntime) {
-    let alloc = rt.alloc();
-    let mut store = realm_over(&rt, alloc, &[]);
-    let last = chain(&rt, &mut store, 100_000);
-    expect_found(&rt, alloc, &store, last, "far", "nothing");
-    expect_put(&rt, alloc, &mut store, FIRST, "far", "done");
-    expect_number(&rt, alloc, &store, last, "far", 1);
+fn look_along(rt: &impl Abort, alloc: Global, store: &mut Objects, last: ObjRef) {
+    expect_found(rt, alloc, store, last, "far", "nothing");
+    expect_put(rt, alloc, store, FIRST, "far", "done");
+    expect_number(rt, alloc, store, last, "far", 1);
 }
 
 /// A name of 1,000 units, of which only the last tells it apart.
@@ -100,13 +93,21 @@ fn long_name(rt: &impl Abort, alloc: Global, last: u16) -> Key {
     Key::Name(units)
 }
 
-#[test]
-fn tells_long_names_apart(rt: HostRuntime) {
-    let mut store = realm_over(&rt, rt.alloc(), &[]);
-    let obj = heir(&rt, &mut store, FIRST);
+fn put_long_names(rt: &impl Abort, alloc: Global, store: &mut Objects) {
+    let obj = heir(rt, store, FIRST);
     for last in 0..1_000u16 {
-        let key = long_name(&rt, rt.alloc(), last);
-        expect_done(&rt, &mut store, obj, key, 1);
+        let key = long_name(rt, alloc, last);
+        expect_done(rt, store, obj, key, 1);
     }
-    expect_count(&rt, &store, obj, 1_000);
+    expect_count(rt, store, obj, 1_000);
+}
+
+#[test]
+fn many_keys_prototypes_and_long_names(rt: HostRuntime) {
+    let alloc = rt.alloc();
+    let mut store = realm_over(&rt, alloc, &[]);
+    delete_among_symbols(&rt, alloc, &mut store, 65_536);
+    put_long_names(&rt, alloc, &mut store);
+    let last = chain(&rt, &mut store, 100_000);
+    look_along(&rt, alloc, &mut store, last);
 }

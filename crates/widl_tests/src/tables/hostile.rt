@@ -2,47 +2,26 @@
 
 use super::kept_for;
 use crate::shared::accepted_sets::accepted;
-use crate::shared::{
-    add_argument, add_overload, expect, list_with, many_interfaces, of_kind, sure, units,
-};
+use crate::shared::{expect, list_of, many_interfaces, sixty_four_overloads, sure, units};
 use std::alloc::Global;
 use std::fmt::Write;
 use std::mem::ManuallyDrop;
 use std::process::Abort;
-use widl_idl::{Args, Defs, IdlType, IdlTypes, Optionality, Sigs};
+use widl_idl::{Defs, IdlType, IdlTypes, Optionality, Spaces};
 use widl_tables::{Pick, Tables, compile, pick_member, pick_overload};
 use widl_value::Class;
-
-/// Numbers, and at the end an interface of this number.
-fn sixty_four_arguments(rt: &impl Abort, alloc: Global, number: u32, opt: Optionality) -> Args {
-    let mut args = Args::new(alloc);
-    for _place in 0..63 {
-        add_argument(rt, alloc, &mut args, of_kind(rt, alloc, "long"), opt);
-    }
-    add_argument(rt, alloc, &mut args, IdlType::Interface(number), opt);
-    args
-}
-
-/// A list with 64 overloads of 64 arguments: the first 63 are of one type, and the last is of an interface of its own.
-fn many_overloads(rt: &impl Abort, alloc: Global, opt: Optionality) -> ManuallyDrop<Defs> {
-    let mut sigs = Sigs::new(alloc);
-    for number in 0..64u32 {
-        let args = sixty_four_arguments(rt, alloc, number, opt);
-        add_overload(rt, &mut sigs, args);
-    }
-    let ifaces = many_interfaces(rt, alloc, 64, false);
-    ManuallyDrop::new(list_with(rt, alloc, ifaces, sigs))
-}
 
 /// So many arguments keep so many overloads, which differ at this place, and a class picks this one.
 type Kept = (u32, (usize, Option<u32>), Class, Pick);
 
-fn expect_kept(rt: &impl Abort, alloc: Global, defs: &Defs, rows: &[Kept]) {
+/// What the 64 overloads of 64 arguments keep, where all are required or optional.
+fn expect_kept(rt: &impl Abort, alloc: Global, opt: Optionality, rows: &[Kept]) {
+    let defs = sixty_four_overloads(rt, alloc, opt);
     for (args, (count, place), class, wanted) in rows {
-        let kept = kept_for(rt, alloc, defs, *args);
+        let kept = kept_for(rt, alloc, &defs, *args);
         let differ_there = kept.overloads.len() == *count && kept.place == *place;
         assert!(rt; differ_there, "{args} arguments");
-        let pick = pick_overload(defs, &kept, *class, false);
+        let pick = pick_overload(&defs, &kept, *class, false);
         assert!(rt; pick == *wanted, "{args} arguments, {class:?}");
     }
 }
@@ -62,15 +41,7 @@ const OPTIONAL: [Kept; 5] = [
     (64, (64, Some(63)), Class::Sym, Pick::Refuse),
 ];
 
-#[test]
-fn many_overloads_apart_at_the_end(rt: HostRuntime) {
-    let defs = many_overloads(&rt, rt.alloc(), Optionality::Required);
-    expect_kept(&rt, rt.alloc(), &defs, &REQUIRED);
-    let defs = many_overloads(&rt, rt.alloc(), Optionality::Optional);
-    expect_kept(&rt, rt.alloc(), &defs, &OPTIONAL);
-}
-
-/// A list with so many interfaces and an operation without overloads.
+/// A list with so many interfaces.
 fn interfaces_alone(
     rt: &impl Abort,
     alloc: Global,
@@ -78,7 +49,7 @@ fn interfaces_alone(
     chained: bool,
 ) -> ManuallyDrop<Defs> {
     let ifaces = many_interfaces(rt, alloc, count, chained);
-    ManuallyDrop::new(list_with(rt, alloc, ifaces, Sigs::new(alloc)))
+    ManuallyDrop::new(list_of(alloc, ifaces, Spaces::new(alloc)))
 }
 
 /// A class picks this member of a union.
@@ -115,13 +86,6 @@ fn expect_chain(rt: &impl Abort, alloc: Global) {
     expect_member(rt, &defs, &members, Class::Platform(59_998), Pick::Entry(1));
 }
 
-#[test]
-fn large_unions(rt: HostRuntime) {
-    expect_large_union(&rt, rt.alloc(), 1_000);
-    expect_large_union(&rt, rt.alloc(), 100_000);
-    expect_chain(&rt, rt.alloc());
-}
-
 /// The tables over `enum E { "auto", "", "autos", "none" }; enum F { "value0", "value1", .. };`.
 fn two_enumerations(rt: &impl Abort, alloc: Global, count: u32) -> ManuallyDrop<Tables> {
     let few = "enum E { \"auto\", \"\", \"autos\", \"none\" }; enum F { ";
@@ -145,11 +109,21 @@ const PLACES: [(u32, &str, Option<u32>); 7] = [
     (2, "auto", None),
 ];
 
-#[test]
-fn values_of_enumerations(rt: HostRuntime) {
-    let tables = two_enumerations(&rt, rt.alloc(), 50_000);
-    for (choice, text, want) in &PLACES {
-        let found = tables.enum_at(*choice, &units(&rt, rt.alloc(), text));
-        expect(&rt, found == *want, text);
+fn expect_values(rt: &impl Abort, alloc: Global, rows: &[(u32, &str, Option<u32>)]) {
+    let tables = two_enumerations(rt, alloc, 50_000);
+    for (choice, text, want) in rows {
+        let found = tables.enum_at(*choice, &units(rt, alloc, text));
+        expect(rt, found == *want, text);
     }
+}
+
+#[test]
+fn large_lists_have_their_choices(rt: HostRuntime) {
+    let alloc = rt.alloc();
+    expect_kept(&rt, alloc, Optionality::Required, &REQUIRED);
+    expect_kept(&rt, alloc, Optionality::Optional, &OPTIONAL);
+    expect_large_union(&rt, alloc, 1_000);
+    expect_large_union(&rt, alloc, 100_000);
+    expect_chain(&rt, alloc);
+    expect_values(&rt, alloc, &PLACES);
 }

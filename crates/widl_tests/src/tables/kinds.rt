@@ -1,11 +1,13 @@
 //! Each class against each kind of type: the first test that it meets.
 
-use super::{CLASSES, beside_three_interfaces};
-use crate::shared::{THE_OPERATION, add_of_one, expect, nullable, of_kind, sure, union};
+use super::CLASSES;
+use crate::shared::{
+    THE_OPERATION, THREE, add_of_one, list_with, nullable, of_kind, sure, union, with_parents,
+};
 use std::alloc::Global;
 use std::mem::ManuallyDrop;
 use std::process::Abort;
-use widl_idl::{IdlType, Optionality, Sigs};
+use widl_idl::{Defs, IdlType, Optionality, Sigs};
 use widl_tables::{Kept, Pick, pick_overload};
 use widl_text::Items;
 use widl_value::Class;
@@ -67,15 +69,21 @@ fn test_of(class: Class, test: u8, ends: (u8, u8)) -> u8 {
     }
 }
 
-/// An entry of a type, and one of each kind after it.
-fn beside_each_kind(rt: &impl Abort, alloc: Global, ty: IdlType, opt: Optionality) -> Sigs {
+/// A list with three interfaces and an operation: its first overload takes a type, and those after it one of each kind.
+fn beside_each_kind(
+    rt: &impl Abort,
+    alloc: Global,
+    ty: IdlType,
+    opt: Optionality,
+) -> ManuallyDrop<Defs> {
     let mut sigs = Sigs::new(alloc);
     add_of_one(rt, alloc, &mut sigs, ty, opt);
     for (kind, _) in &FIRST_TESTS {
         let ty = of_kind(rt, alloc, kind);
         add_of_one(rt, alloc, &mut sigs, ty, Optionality::Required);
     }
-    sigs
+    let ifaces = with_parents(rt, alloc, &THREE);
+    ManuallyDrop::new(list_with(rt, alloc, ifaces, sigs))
 }
 
 /// The first tests of a type are those of a row, but for undefined and null: beside an entry of each kind each
@@ -87,8 +95,7 @@ fn expect_tests(
     row: &str,
     ends: (u8, u8),
 ) {
-    let sigs = beside_each_kind(rt, alloc, ty, opt);
-    let defs = beside_three_interfaces(rt, alloc, sigs);
+    let defs = beside_each_kind(rt, alloc, ty, opt);
     let mut number = 0u32;
     for (_, others) in &FIRST_TESTS {
         number = number.saturating_add(1);
@@ -113,7 +120,6 @@ fn nested_unions(rt: &impl Abort, alloc: Global, t: IdlType) -> IdlType {
 
 /// The types of a kind, as they stand, nullable and in unions.
 fn expect_kind(rt: &impl Abort, alloc: Global, kind: &str, row: &str) {
-    expect(rt, row.len() == CLASSES.len(), row);
     let ends = match row.as_bytes() {
         [first, second, ..] => (*first, *second),
         _ => (b'-', b'-'),
@@ -138,9 +144,13 @@ fn expect_kind(rt: &impl Abort, alloc: Global, kind: &str, row: &str) {
     expect_tests(rt, alloc, (deep, Optionality::Required), row, ends);
 }
 
+fn expect_kinds(rt: &impl Abort, alloc: Global, rows: &[(&str, &str)]) {
+    for (kind, row) in rows {
+        expect_kind(rt, alloc, kind, row);
+    }
+}
+
 #[test]
 fn first_tests_of_kinds(rt: HostRuntime) {
-    for (kind, row) in &FIRST_TESTS {
-        expect_kind(&rt, rt.alloc(), kind, row);
-    }
+    expect_kinds(&rt, rt.alloc(), &FIRST_TESTS);
 }

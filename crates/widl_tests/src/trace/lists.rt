@@ -1,12 +1,12 @@
 //! The IDL values that a callee begins with.
 
-use super::{definitions, expect_line};
-use crate::shared::{THE_OPERATION, number, object, sure, units};
+use super::expect_made;
+use crate::shared::{THE_OPERATION, sure, units};
 use std::alloc::Global;
 use std::process::Abort;
 use widl_overload::Accepted;
 use widl_trace::Event;
-use widl_value::{IdlEntries, IdlMembers, IdlValue, IdlValues};
+use widl_value::{IdlEntries, IdlMembers, IdlValue, IdlValues, Number, ObjRef, Shape, Value};
 
 /// The steps of `N.f` begin with one value.
 pub fn with_value(rt: &impl Abort, alloc: Global, value: IdlValue) -> Event {
@@ -20,7 +20,7 @@ pub fn with_value(rt: &impl Abort, alloc: Global, value: IdlValue) -> Event {
 }
 
 fn expect_value(rt: &impl Abort, alloc: Global, list: &Accepted, value: IdlValue, line: &str) {
-    expect_line(rt, alloc, list, with_value(rt, alloc, value), line);
+    expect_made(rt, alloc, list, with_value(rt, alloc, value), line);
 }
 
 /// A sequence of one value.
@@ -63,25 +63,39 @@ fn expect_two(
         overload: Some(overload),
         values,
     };
-    expect_line(rt, alloc, list, event, line);
+    expect_made(rt, alloc, list, event, line);
 }
 
-fn expect_plain(rt: &impl Abort, alloc: Global, list: &Accepted) {
-    let rows = [
-        (IdlValue::Undefined, "op N.f#0 (undefined)"),
-        (IdlValue::Null, "op N.f#0 (null)"),
-        (IdlValue::Bool(true), "op N.f#0 (true)"),
-        (IdlValue::Int(-128), "op N.f#0 (-128)"),
-        (
-            IdlValue::Choice { of: 0, index: 1 },
-            "op N.f#0 (\"two words\")",
-        ),
-        (IdlValue::Object(object(18)), "op N.f#0 (#18)"),
-        (IdlValue::Any(number(3)), "op N.f#0 (3)"),
-        (IdlValue::Promise(object(20)), "op N.f#0 (promise #20)"),
-    ];
+/// Values without parts, and the lines of steps that begin with them.
+const PLAIN: [(IdlValue, &str); 8] = [
+    (IdlValue::Undefined, "op N.f#0 (undefined)"),
+    (IdlValue::Null, "op N.f#0 (null)"),
+    (IdlValue::Bool(true), "op N.f#0 (true)"),
+    (IdlValue::Int(-128), "op N.f#0 (-128)"),
+    (
+        IdlValue::Choice { of: 0, index: 1 },
+        "op N.f#0 (\"two words\")",
+    ),
+    (
+        IdlValue::Object(ObjRef {
+            id: 18,
+            shape: Shape::Plain,
+        }),
+        "op N.f#0 (#18)",
+    ),
+    (IdlValue::Any(Value::Num(Number::Whole(3))), "op N.f#0 (3)"),
+    (
+        IdlValue::Promise(ObjRef {
+            id: 20,
+            shape: Shape::Plain,
+        }),
+        "op N.f#0 (promise #20)",
+    ),
+];
+
+fn expect_plain(rt: &impl Abort, alloc: Global, list: &Accepted, rows: &[(IdlValue, &str)]) {
     for (value, line) in rows {
-        expect_value(rt, alloc, list, value, line);
+        expect_value(rt, alloc, list, sure(rt, value.copy()), line);
     }
     let text = IdlValue::Text(units(rt, alloc, "x"));
     expect_two(
@@ -121,10 +135,8 @@ fn expect_dictionaries(rt: &impl Abort, alloc: Global, list: &Accepted) {
     expect_value(rt, alloc, list, value, "op N.f#0 (C{})");
 }
 
-#[test]
-fn values_of_callees(rt: HostRuntime) {
-    let list = definitions(&rt, rt.alloc());
-    expect_plain(&rt, rt.alloc(), &list);
-    expect_lists_and_records(&rt, rt.alloc(), &list);
-    expect_dictionaries(&rt, rt.alloc(), &list);
+pub fn expect_values(rt: &impl Abort, alloc: Global, list: &Accepted) {
+    expect_plain(rt, alloc, list, &PLAIN);
+    expect_lists_and_records(rt, alloc, list);
+    expect_dictionaries(rt, alloc, list);
 }

@@ -1,6 +1,5 @@
 //! Long lines, and values that nest deeply.
 
-use super::definitions;
 use super::lists::{sequence, with_value};
 use super::short::long_text;
 use crate::shared::{expect, object, sure};
@@ -53,10 +52,8 @@ fn expect_long_line(rt: &impl Abort, alloc: Global, list: &Accepted) {
     expect(rt, line.bytes().len() == 2_097_159, "two mebibytes");
 }
 
-#[test]
-fn long_lines(rt: HostRuntime) {
-    let list = definitions(&rt, rt.alloc());
-    expect_no_line(&rt, rt.alloc(), &list);
-    expect_nested(&rt, rt.alloc(), &list);
-    expect_long_line(&rt, rt.alloc(), &list);
+pub fn expect_long(rt: &impl Abort, alloc: Global, list: &Accepted) {
+    expect_no_line(rt, alloc, list);
+    expect_nested(rt, alloc, list);
+    expect_long_line(rt, alloc, list);
 }

@@ -1,6 +1,5 @@
 //! Lines that may have so many bytes at most, and what lines cost.
 
-use super::definitions;
 use crate::shared::{expect, object, sure};
 use std::alloc::Global;
 use std::mem::ManuallyDrop;
@@ -28,22 +27,20 @@ fn expect_cost(rt: &impl Abort, alloc: Global, list: &Accepted, row: (usize, usi
     expect(rt, cost(&line) == row.2, "the cost of a line");
 }
 
-#[test]
-fn a_unit_pays_for_64_bytes_with_the_line_feed(rt: HostRuntime) {
-    let list = definitions(&rt, rt.alloc());
-    expect_cost(&rt, rt.alloc(), &list, (56, 63, 1));
-    expect_cost(&rt, rt.alloc(), &list, (57, 64, 2));
-}
-
 /// How many bytes a line of 12 may have, and whether it is written.
 const MOST_BYTES: [(usize, bool); 4] = [(0, false), (11, false), (12, true), (13, true)];
 
-#[test]
-fn a_line_has_at_most_the_bytes_that_it_may_have(rt: HostRuntime) {
-    let list = definitions(&rt, rt.alloc());
+fn expect_most(rt: &impl Abort, alloc: Global, list: &Accepted, rows: &[(usize, bool)]) {
     let event = ManuallyDrop::new(Event::Uncaught(Value::Obj(object(20))));
-    for (most, there) in &MOST_BYTES {
-        let line = sure(&rt, line_within(rt.alloc(), &list, &event, *most));
+    for (most, there) in rows {
+        let line = sure(rt, line_within(alloc, list, &event, *most));
         assert!(rt; line.is_some() == *there, "{most} bytes");
     }
+}
+
+/// A unit pays for 64 bytes with the line feed.
+pub fn expect_short(rt: &impl Abort, alloc: Global, list: &Accepted) {
+    expect_cost(rt, alloc, list, (56, 63, 1));
+    expect_cost(rt, alloc, list, (57, 64, 2));
+    expect_most(rt, alloc, list, &MOST_BYTES);
 }

@@ -93,11 +93,6 @@ const LITERALS: [(&str, &str, bool); 71] = [
     ("nested", "literal \"b\"", false),
 ];
 
-#[test]
-fn literals_fit_where_they_would_do_as_default_values(rt: HostRuntime) {
-    expect_fits(&rt, rt.alloc(), KINDS, &LITERALS);
-}
-
 /// Operations with arguments of their results' types and of others.
 const TYPES: &str =
     "dictionary D { required long a; }; dictionary S : D { }; enum E { \"a\" }; callback C = any (); typedef [Clamp] long T; namespace N { any any_(any a, DOMString b, C c, object d); undefined undefined_(any a); long? maybe(long a, [Clamp] long b, [EnforceRange] long? c, T d, short e, DOMString f, unsigned long g); long number(long? a, [EnforceRange] long b, T c, unsigned long d, any e); DOMString text([LegacyNullToEmptyString] DOMString a, USVString b, E c, ByteString d, DOMString? e); E e(E a, DOMString b); sequence<long> list(sequence<[Clamp] long> a, sequence<T> b, sequence<long?> c, sequence<octet> d, sequence<long>? e); sequence<long>? maybe_list(sequence<[Clamp] long> a, sequence<long?> b); sequence<long?> nullables(sequence<long> a); record<DOMString, long> record_(record<DOMString, T> a, record<USVString, long> b); (long or DOMString) union_((long or DOMString) a, long b, (long or DOMString)? c, (long or boolean) d); (long or DOMString)? maybe_union((long or DOMString) a, DOMString b); object object_(object a, C b); C? c(C a, C? b); D d(D a, S b); Promise<long> promise(Promise<long> a, Promise<any> b, long c); };";
@@ -155,6 +150,7 @@ const SOURCES: [(&str, &str, bool); 49] = [
 ];
 
 #[test]
-fn sources_fit_their_own_types_and_nullable_ones(rt: HostRuntime) {
+fn what_would_do_as_a_default_value_or_is_of_the_type_fits(rt: HostRuntime) {
+    expect_fits(&rt, rt.alloc(), KINDS, &LITERALS);
     expect_fits(&rt, rt.alloc(), TYPES, &SOURCES);
 }

@@ -19,11 +19,6 @@ const NO_OWNERS: [(&str, &str); 8] = [
     ),
 ];
 
-#[test]
-fn other_definitions_have_no_names_in_scripts(rt: HostRuntime) {
-    expect_breaks(&rt, rt.alloc(), OTHER_DEFINITIONS, &NO_OWNERS);
-}
-
 const CALLBACKS: &str =
     "callback C = any (any a, optional any b); callback V = undefined (any a, any... b); callback interface L { long l(any a); }; namespace N { any f(C c, optional C? d, C... e); boolean a-b(C c, C... d); undefined v(V v, L l, long n); long? l(V v, L l); };";
 
@@ -118,6 +113,7 @@ const INVOKED: [(&str, &str); 33] = [
 ];
 
 #[test]
-fn callbacks_are_called_with_what_they_take(rt: HostRuntime) {
+fn callbacks_are_called_with_what_they_take_and_have_no_names(rt: HostRuntime) {
+    expect_breaks(&rt, rt.alloc(), OTHER_DEFINITIONS, &NO_OWNERS);
     expect_breaks(&rt, rt.alloc(), CALLBACKS, &INVOKED);
 }
