@@ -107,7 +107,7 @@ fn expect_names(rt: &impl Abort, script: &Script) {
         script.name(3).as_slice() == [97].as_slice(),
         "the last name",
     );
-    expect(rt, script.name(4).is_empty(), "no name");
+    expect(rt, script.name(4).len() == 0, "no name");
     expect(rt, !script.is_local(0, 0), "no local name");
 }
 
